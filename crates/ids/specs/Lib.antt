@@ -1,0 +1,2 @@
+-- The ranges of rounds and members.
+pub mod Ranges

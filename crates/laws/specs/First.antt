@@ -1,0 +1,45 @@
+-- Refusals in order: a list of causes, each with its number; the answer is the first number whose cause holds, else 0.
+use mathlib.Core.Path.{_≡_, refl}
+use mathlib.Core.Bool.{Bool, true, false, cond, _&&_, not}
+use mathlib.Core.List.{List, [], _∷_}
+use Prim.Native.Nat.{ℕ}
+use native.Mathlib.Omega.{arith}
+use lib.Dec.{eqb}
+use borrow.Author.Tests.{eq-eqb}
+use Rattle.laws.specs.Tests.{by-test, clash, and-left, and-right}
+
+pub record Cause : Type 0 where
+  pub holds : Bool
+  pub number : ℕ
+
+infix 70 _gives_
+-- a cause and its number
+abbrev pub _gives_ : Bool → ℕ → Cause
+b gives n = record { holds = b; number = n }
+
+-- the first number whose cause holds, else 0
+abbrev pub first : List Cause → ℕ
+first [] = 0
+first (c ∷ cs) = cond (c .holds) (c .number) (first cs)
+
+-- no number is 0
+abbrev pub numbered : List Cause → Bool
+numbered [] = true
+numbered (c ∷ cs) = not (eqb (c .number) 0) && numbered cs
+
+-- no cause holds
+abbrev pub Passed : List Cause → Type 0
+Passed [] = Unit {0}
+Passed (c ∷ cs) = (c .holds ≡ false) × Passed cs
+
+-- the answer is 0 exactly if no cause holds
+pub passed : (cs : List Cause) → numbered cs ≡ true → first cs ≡ 0 → Passed cs
+passed [] n h = tt
+passed (c ∷ cs) n h =
+    by-test (c .holds)
+    (λ t. let z : c .number ≡ 0 = rw t at h in clash (rw (eq-eqb (c .number) 0 z) at (and-left (not (eqb (c .number) 0)) (numbered cs) n)) refl)
+    (λ t. (t, passed cs (and-right (not (eqb (c .number) 0)) (numbered cs) n) (rw t at h)))
+
+pub zero-of : (cs : List Cause) → Passed cs → first cs ≡ 0
+zero-of [] p = refl
+zero-of (c ∷ cs) p = rw (p .0) (zero-of cs (p .1))

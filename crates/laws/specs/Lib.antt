@@ -1,0 +1,4 @@
+-- Laws shared by the other crates: Booleans and tests, lists, memberships, refusals in order.
+pub mod Tests
+pub mod Lists
+pub mod First

@@ -1,0 +1,2 @@
+-- The meanings of 01, "Messages".
+pub mod Fields

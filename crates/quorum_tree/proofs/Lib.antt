@@ -1,0 +1,2 @@
+-- Theorems about the quorum tree.
+pub mod Rig

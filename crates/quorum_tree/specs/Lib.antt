@@ -1,0 +1,4 @@
+-- The meanings of document 01, "The tree", from its words.
+pub mod Machine
+pub mod Properties
+pub mod Table
