@@ -1,0 +1,66 @@
+-- `table::find_row` meets its contract: no row passed has the round. Assumes nothing.
+use mathlib.Core.Path.{_≡_, sym, _∙_}
+use mathlib.Core.Bool.{false}
+use Prim.Native.Nat.{_≤_, _<_, _-_}
+use native.Mathlib.Omega.{arith}
+use borrow.Author.Needs.{needs}
+use borrow.Author.Tests.{eq-eqb, ne-eqb}
+use denote.Ref.{now}
+use Rattle.quorum_tree.specs.Machine.{has-round, present}
+use Rattle.quorum_tree.specs.Table.{row, rows-of}
+use Rattle.table.specs.Rows.{Found}
+use Rattle.table.proofs.Rows.{any-none, any-more, any-hit, any-all, find-hit}
+use Rattle.table.proofs.find_row.Statement.{statement}
+use Rattle.table.proofs.find_row.Tie as tie
+
+abbrev Inv-loop : tie.InvT-loop
+Inv-loop t n r i₀ i = (i ≤ n) × (present r (rows-of t i) ≡ false)
+
+abbrev μ-loop : tie.MeasureT-loop
+μ-loop t n r i₀ i = n - i
+
+loop-holds : tie.Need-loop-holds Inv-loop μ-loop
+loop-holds c = let a = c .before .args in (search needs, any-none (has-round (a .r)) (now (a .t)))
+
+round-at-requires : tie.Need-round-at-requires Inv-loop μ-loop
+round-at-requires c κs = omega arith
+
+returns : tie.Need-returns Inv-loop μ-loop
+returns c =
+    let a = c .before .before .before .before .before .args in
+    let l = c .before .before .before .loop in
+    let e : row (now (a .t)) (l .i) .round ≡ a .r = omega arith in
+    record {
+      within = omega arith;
+      at = λ h. find-hit (a .r) (now (a .t)) (l .i) (a .n) h (l .inv .1) e;
+      there = λ h. any-hit (has-round (a .r)) (now (a .t)) (l .i) (a .n) h (eq-eqb _ _ e);
+      none = λ h. absurd (omega arith);
+    }
+
+add-i : tie.Need-add-i Inv-loop μ-loop
+add-i c = search needs
+
+loop-less : tie.Need-loop-less Inv-loop μ-loop
+loop-less c = search needs
+
+loop-again : tie.Need-loop-again Inv-loop μ-loop
+loop-again c =
+    let a = c .before .before .before .before .before .args in
+    let l = c .before .before .before .loop in
+    let e : row (now (a .t)) (l .i) .round ≡ a .r → ⊥ = λ q. c .if1 .left (omega arith) in
+    (search needs, any-more (has-round (a .r)) (now (a .t)) (l .i) (l .inv .1) (ne-eqb _ _ e))
+
+returns-2 : tie.Need-returns-2 Inv-loop μ-loop
+returns-2 c =
+    let a = c .before .before .before .args in
+    let l = c .before .loop in
+    record {
+      within = omega arith;
+      at = λ h. absurd (omega arith);
+      there = λ h. absurd (omega arith);
+      none = λ h. any-all (has-round (a .r)) (now (a .t)) (l .i) (a .n) (l .inv .0) (c .loop-test .left) (l .inv .1);
+    }
+
+pub find-row-spec : {M : Type 1} → statement M
+find-row-spec =
+    tie.close (tie.spec Inv-loop μ-loop loop-holds round-at-requires returns add-i loop-less loop-again returns-2)

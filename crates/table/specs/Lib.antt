@@ -1,0 +1,2 @@
+-- What the passes over the rows of a node table find and make.
+pub mod Rows
