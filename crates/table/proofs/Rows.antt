@@ -1,6 +1,6 @@
 -- Laws on the first rows of a table: what one row more adds, and what a pass that changes statuses leaves. Assumes nothing.
 use mathlib.Core.Path.{_≡_, refl, sym, ap, subst, _∙_}
-use mathlib.Core.Bool.{Bool, true, false, cond, or-true, and-false}
+use mathlib.Core.Bool.{Bool, true, false, cond, not, or-true, and-false}
 use mathlib.Core.List.{List, [], _∷_, _++_, map, append-assoc, append-nil}
 use Prim.Native.Nat.{ℕ, zero, suc, _+_, _-_, _*_, _/_, _≤_, _<_}
 use native.Mathlib.Omega.{arith}
@@ -9,13 +9,13 @@ use native.Mathlib.Nat.{add-suc, add-zero}
 use lib.ListN.{length, getD, set, take, drop, length-append, length-take, length-drop, length-map}
 use lib.Seq.{drop-cons, drop-append-add, getD-append-add, append-snoc, getD-drop}
 use lib.Dec.{ltb, leb, eqb}
-use borrow.Author.Tests.{eq-eqb, ne-eqb, lt-ltb, le-ltb, ltb-true}
+use borrow.Author.Tests.{eq-eqb, ne-eqb, lt-ltb, le-ltb, ltb-true, leb-true, leb-false}
 use Rattle.laws.specs.Tests.{by-test, clash, tests}
 use Rattle.laws.specs.Lists.{any, any-append, any-snoc, map-append}
-use Rattle.quorum_tree.specs.Machine.{Node, ADDED, GHOST, has-round, find, with-status}
+use Rattle.quorum_tree.specs.Machine.{Node, ADDED, GHOST, has-round, present, find, with-status}
 use Rattle.quorum_tree.specs.Table.{row, rows-of, used-from, words}
 use Rattle.quorum_tree.specs.Check.{zeros-to}
-use Rattle.table.specs.Rows.{crossed-with, strike-crossed}
+use Rattle.table.specs.Rows.{Found, crossed-with, strike-crossed}
 
 -- the d rows from row i on
 rows-from : List ℕ → ℕ → ℕ → List Node
@@ -64,6 +64,13 @@ find-behind r (n ∷ ns) ms m a e =
 pub find-hit : (r : ℕ) (ws : List ℕ) (i n : ℕ) → i < n → any (has-round r) (rows-of ws i) ≡ false → row ws i .round ≡ r → find r (rows-of ws n) ≡ row ws i
 find-hit r ws i n h a e =
     rw (rows-split ws i n h) (find-behind r (rows-of ws i) (rows-from ws (suc i) (n - suc i)) (row ws i) a (eq-eqb (row ws i .round) r e))
+
+-- what a search for a round says
+pub found-absent : {ws : List ℕ} {n r k : ℕ} → Found ws n r k → leb n k ≡ not (present r (rows-of ws n))
+found-absent {n = n} {k = k} F =
+    by-test (leb n k)
+    (λ y. rw (y, F .none (leb-true n k y)) refl)
+    (λ y. rw (y, F .there (leb-false n k y)) refl)
 
 -- counting used rows
 pub used-stop : (ws : List ℕ) (k i : ℕ) → row ws i .status ≡ 0 → used-from ws k i ≡ i

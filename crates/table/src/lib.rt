@@ -1,8 +1,9 @@
 // Passes over the rows of a node table, four 64-bit words a row: round, parent, value, status (01, "The tree").
 ghost use mathlib.Core.Path.{_≡_};
-ghost use mathlib.Core.Bool.{cond};
+ghost use mathlib.Core.Bool.{cond, _&&_, not};
 ghost use mathlib.Core.List.{_∷_, [], _++_, map};
 ghost use Prim.Native.Nat.{_+_, _*_, _≤_, _<_};
+ghost use lib.Dec.{eqb};
 ghost use lib.ListN.{length, set, take, drop, replicate};
 ghost use Rattle.laws.specs.Lists.{any};
 ghost use Rattle.quorum_tree.specs.Machine.{blocks, above};
@@ -90,6 +91,19 @@ pub fn find_row(t: &[u64], n: usize, r: u64) -> usize
         i += 1;
     }
     i
+}
+
+// Whether values are compared, the parent p isn't the root, and v is not the value in row k, the parent's.
+pub fn other_value(valued: bool, t: &[u64], k: usize, v: u64, p: u64) -> bool
+    requires { ⌜ 4 * k + 4 ≤ length (now t) ⌝ }
+    ensures { λ b. ⌜ b ≡ (valued && (not (eqb p 0) && not (eqb v (row (now (t .entry)) k .value)))) ⌝ }
+{
+    if valued {
+        if p != 0 {
+            return v != value_at(t, k);
+        }
+    }
+    false
 }
 
 // Whether one of the first n rows has a round above r.

@@ -1,0 +1,2 @@
+-- Laws for the table check.
+pub mod Fits

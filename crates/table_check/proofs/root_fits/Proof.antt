@@ -1,0 +1,68 @@
+-- `table_check::root_fits` meets its contract: each return goes by the tests that led there. Assumes nothing.
+use mathlib.Core.Path.{_≡_, refl, sym, _∙_}
+use borrow.Author.Needs.{needs}
+use borrow.Author.Tests.{eq-eqb, ne-eqb}
+use denote.Ref.{now}
+use Rattle.quorum_tree.specs.Table.{row}
+use Rattle.table_check.proofs.root_fits.Statement.{statement}
+use Rattle.table_check.proofs.root_fits.Tie as tie
+
+round-at-requires : tie.Need-round-at-requires
+round-at-requires c κs = search needs
+
+returns : tie.Need-returns
+returns c =
+    let t = now (c .before .before .before .args .t) in
+    let e : row t 0 .round ≡ 0 → ⊥ = λ q. c .if1 .taken (c .before .round-at .ensures ∙ q) in
+    rw (ne-eqb _ _ e) refl
+
+parent-at-requires : tie.Need-parent-at-requires
+parent-at-requires c κs = search needs
+
+returns-2 : tie.Need-returns-2
+returns-2 c =
+    let b = c .before .before in
+    let t = now (b .before .before .before .args .t) in
+    let r : row t 0 .round ≡ 0 = sym (b .before .round-at .ensures) ∙ b .if1 .left in
+    let e : row t 0 .parent ≡ 0 → ⊥ = λ q. c .if2 .taken (c .before .parent-at .ensures ∙ q) in
+    rw (eq-eqb _ _ r, ne-eqb _ _ e) refl
+
+value-at-requires : tie.Need-value-at-requires
+value-at-requires c κs = search needs
+
+returns-3 : tie.Need-returns-3
+returns-3 c =
+    let d = c .before .before in
+    let b = d .before .before in
+    let t = now (b .before .before .before .args .t) in
+    let r : row t 0 .round ≡ 0 = sym (b .before .round-at .ensures) ∙ b .if1 .left in
+    let p : row t 0 .parent ≡ 0 = sym (d .before .parent-at .ensures) ∙ d .if2 .left in
+    let e : row t 0 .value ≡ 0 → ⊥ = λ q. c .if3 .taken (c .before .value-at .ensures ∙ q) in
+    rw (eq-eqb _ _ r, eq-eqb _ _ p, ne-eqb _ _ e) refl
+
+status-at-requires : tie.Need-status-at-requires
+status-at-requires c κs = search needs
+
+returns-4 : tie.Need-returns-4
+returns-4 c =
+    let f = c .before in
+    let d = f .before .before in
+    let b = d .before .before in
+    let t = now (b .before .before .before .args .t) in
+    let r : row t 0 .round ≡ 0 = sym (b .before .round-at .ensures) ∙ b .if1 .left in
+    let p : row t 0 .parent ≡ 0 = sym (d .before .parent-at .ensures) ∙ d .if2 .left in
+    let v : row t 0 .value ≡ 0 = sym (f .before .value-at .ensures) ∙ f .if3 .left in
+    rw (eq-eqb _ _ r, eq-eqb _ _ p, eq-eqb _ _ v, c .status-at .ensures) refl
+
+pub root-fits-spec : {M : Type 1} → statement M
+root-fits-spec =
+    tie.close
+    (tie.spec
+    round-at-requires
+    returns
+    parent-at-requires
+    returns-2
+    value-at-requires
+    returns-3
+    status-at-requires
+    returns-4)
