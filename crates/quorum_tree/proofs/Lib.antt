@@ -1,2 +1,5 @@
 -- Theorems about the quorum tree.
 pub mod Rig
+pub mod Nodes
+pub mod Grown
+pub mod Paths
