@@ -3,3 +3,4 @@ pub mod Rig
 pub mod Nodes
 pub mod Grown
 pub mod Paths
+pub mod Calls
