@@ -41,6 +41,23 @@ edge-elim {C = C} c h t f = any-elim (edge-crosses c) h t pick
     pick (add r v p) m e = f r v p m e
     pick (commit r) m e = clash e refl
 
+pub adds-with-elim {κ} : {C : Type κ} (valued : Bool) (c w : ℕ) (h : List Call) → any (adds-with valued c w) h ≡ true →
+    ((v p : ℕ) → add c v p ∈ h → (valued ≡ true → v ≡ w) → C) → C
+adds-with-elim {C = C} valued c w h t f = any-elim (adds-with valued c w) h t pick
+  where
+    same : (v : ℕ) → (not valued || eqb v w) ≡ true → valued ≡ true → v ≡ w
+    same v e q = eqb-true v w (rw q at e)
+    pick : (a : Call) → a ∈ h → adds-with valued c w a ≡ true → C
+    pick (add r v p) m e =
+        f v p (subst (λ x. add x v p ∈ h) (eqb-true r c (and-left (eqb r c) (not valued || eqb v w) e)) m)
+        (same v (and-right (eqb r c) (not valued || eqb v w) e))
+    pick (commit r) m e = clash e refl
+
+pub adds-with-intro : (valued : Bool) {c v p : ℕ} (w : ℕ) (h : List Call) → add c v p ∈ h → (valued ≡ true → v ≡ w) → any (adds-with valued c w) h ≡ true
+adds-with-intro valued {c} {v} {p} w h m e =
+    any-intro (adds-with valued c w) h m
+    (by-test valued (λ t. rw (t, eq-eqb c c refl, eq-eqb v w (e t)) refl) (λ t. rw (t, eq-eqb c c refl) refl))
+
 pub adds-intro : {r v p : ℕ} (h : List Call) → add r v p ∈ h → any (adds r) h ≡ true
 adds-intro {r} h m = any-intro (adds r) h m (eq-eqb r r refl)
 

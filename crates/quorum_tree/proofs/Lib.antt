@@ -4,3 +4,4 @@ pub mod Nodes
 pub mod Grown
 pub mod Paths
 pub mod Calls
+pub mod Rebuilt
