@@ -4,14 +4,14 @@ use mathlib.Core.Path.{_≡_, refl, sym, ap, _∙_, subst}
 use mathlib.Core.Bool.{Bool, true, false, _&&_, _||_, not}
 use mathlib.Core.List.{List, [], _∷_, _++_, append-assoc, List·Memᴰ·head as here, List·Memᴰ·tail as there, List·Memᴰ·append-cases, Memᴰ·append-left, Memᴰ·append-right}
 use mathlib.Core.Logic.{⊎-elim}
-use Prim.Native.Nat.{ℕ, zero, suc, _<_}
+use Prim.Native.Nat.{ℕ, zero, suc, _+_, _<_}
 use native.Mathlib.Omega.{arith}
 use lib.Dec.{ltb, leb, eqb}
 use borrow.Author.Tests.{eqb-true, eq-eqb}
 use Rattle.laws.specs.Tests.{by-test, clash, tests, impossible, and-left, and-right}
 use Rattle.laws.specs.Lists.{_∈_, any, any-append, any-intro, any-elim, any-none, none-any, by-last, in-last, cut, in-cut, snoc-cut}
 use Rattle.quorum_tree.specs.Machine.{Call, add, commit, crosses}
-use Rattle.quorum_tree.specs.Properties.{Properties, adds, commits, adds-with, edge-crosses}
+use Rattle.quorum_tree.specs.Properties.{Properties, adds, commits, adds-with, edge-crosses, adds-in}
 
 pub add-inj : {r v p r′ v′ p′ : ℕ} → add r v p ≡ add r′ v′ p′ → (r ≡ r′) × (v ≡ v′) × (p ≡ p′)
 add-inj e = ((cc), (cc), (cc))
@@ -173,3 +173,14 @@ unique valued h P r v p v′ p′ m n =
         clash (adds-intro (pre ++ add r v p ∷ pre₂) (in-cut pre (add r v p) pre₂))
         (P .one-add (pre ++ add r v p ∷ pre₂) post₂ r v′ p′
             (e ∙ ap (λ l. pre ++ add r v p ∷ l) e₂ ∙ sym (append-assoc pre (add r v p ∷ pre₂) (add r v′ p′ ∷ post₂)))))
+
+-- a committed round is added
+pub committed-added : (valued : Bool) (h : List Call) → Properties valued h → (r : ℕ) → commit r ∈ h → any (adds r) h ≡ true
+committed-added valued h P r m =
+    cut m (λ pre post e. rw (e, any-append (adds r) pre (commit r ∷ post), P .follows pre post r e) refl)
+
+pub adds-in-append : (h k : List Call) → adds-in (h ++ k) ≡ adds-in h + adds-in k
+unfolding adds-in
+adds-in-append [] k = omega arith
+adds-in-append (add r v p ∷ h) k = omega (arith, adds-in-append h k)
+adds-in-append (commit r ∷ h) k = adds-in-append h k

@@ -5,3 +5,4 @@ pub mod Grown
 pub mod Paths
 pub mod Calls
 pub mod Rebuilt
+pub mod Accepted
