@@ -6,3 +6,5 @@ pub mod Paths
 pub mod Calls
 pub mod Rebuilt
 pub mod Accepted
+pub mod History
+pub mod FourProperties
