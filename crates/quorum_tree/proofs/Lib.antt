@@ -8,3 +8,4 @@ pub mod Rebuilt
 pub mod Accepted
 pub mod History
 pub mod FourProperties
+pub mod Agreement
