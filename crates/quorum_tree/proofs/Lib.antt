@@ -9,3 +9,4 @@ pub mod Accepted
 pub mod History
 pub mod FourProperties
 pub mod Agreement
+pub mod Words
