@@ -54,6 +54,14 @@ module _ (valued : Bool) (rows : ℕ) (ns : List Node) (G : Grown valued rows ns
       split (here e) = f e
       split (there k) = cut k (λ pre post e. g pre post (G .rooted ∙ ap (λ l. root ∷ l) e) (G .placed pre post n e))
 
+  -- a node with some node before it, beside those
+  pub placed-cut : (pre post : List Node) (n : Node) → ns ≡ pre ++ n ∷ post → 0 < length pre → Placed valued pre n
+  placed-cut [] post n e h = absurd (omega arith)
+  placed-cut (x ∷ pre) post n e h =
+      let both : root ∷ behind-root ns ≡ x ∷ (pre ++ n ∷ post) = sym (G .rooted) ∙ e in
+      let z : root ≡ x = cc in
+      subst (λ y. Placed valued (y ∷ pre) n) z (G .placed pre post n (ap behind-root e))
+
   pub root-in : root ∈ ns
   root-in = subst (λ l. root ∈ l) (sym (G .rooted)) (here refl)
 

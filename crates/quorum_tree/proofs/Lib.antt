@@ -9,4 +9,7 @@ pub mod Accepted
 pub mod History
 pub mod FourProperties
 pub mod Agreement
+pub mod ReadOff
+pub mod Regrown
 pub mod Words
+pub mod Fits
