@@ -28,21 +28,22 @@ module _ (valued : Bool) (earlier all : List Node) (n : Node) where
       let rng : out-of-range (n .round) ≡ false = not-true (out-of-range (n .round)) (and-left (not (out-of-range (n .round))) (not (present (n .round) earlier)) a) in
       let low : n .parent < n .round = ltb-true (n .parent) (n .round) (and-right (present (n .parent) earlier) (ltb (n .parent) (n .round)) b) in
       record {
-      positive = omega arith;
-      bounded = omega (tests, or-right (eqb (n .round) 0) (above-range (n .round)) rng);
-      new = not-true (present (n .round) earlier) (and-right (not (out-of-range (n .round))) (not (present (n .round) earlier)) a);
-      parent-there = and-left (present (n .parent) earlier) (ltb (n .parent) (n .round)) b;
-      lower = low;
-      same-value = λ q pos. eqb-true (n .value) (find (n .parent) earlier .value)
-          (not-false (eqb (n .value) (find (n .parent) earlier .value))
-              (rw (q, ne-eqb (n .parent) 0 (omega arith)) at (not-true (valued && other-value earlier (n .value) (n .parent)) c))) }
+        positive = omega arith;
+        bounded = omega (tests, or-right (eqb (n .round) 0) (above-range (n .round)) rng);
+        new = not-true (present (n .round) earlier) (and-right (not (out-of-range (n .round))) (not (present (n .round) earlier)) a);
+        parent-there = and-left (present (n .parent) earlier) (ltb (n .parent) (n .round)) b;
+        lower = low;
+        same-value = λ q pos. eqb-true (n .value) (find (n .parent) earlier .value)
+            (not-false (eqb (n .value) (find (n .parent) earlier .value))
+            (rw (q, ne-eqb (n .parent) 0 (omega arith)) at (not-true (valued && other-value earlier (n .value) (n .parent)) c)));
+      }
 
   of-placed-value : Placed valued earlier n → value-fits valued earlier n ≡ true
   of-placed-value P =
       by-test valued
       (λ q. by-test (eqb (n .parent) 0)
-          (λ t. rw (q, t) refl)
-          (λ t. rw (q, t, eq-eqb (n .value) (find (n .parent) earlier .value) (P .same-value q (omega tests))) refl))
+      (λ t. rw (q, t) refl)
+      (λ t. rw (q, t, eq-eqb (n .value) (find (n .parent) earlier .value) (P .same-value q (omega tests))) refl))
       (λ q. rw q refl)
 
   status-of : status-fits all n ≡ true → ((0 < n .status) × (n .status ≤ 3)) × (eqb (n .status) GHOST ≡ crossed (n .round) all)
@@ -50,18 +51,18 @@ module _ (valued : Bool) (earlier all : List Node) (n : Node) where
       by-test (crossed (n .round) all)
       (λ t. let s : eqb (n .status) GHOST ≡ true = rw t at h in (omega tests, s ∙ sym t))
       (λ t. let s : (eqb (n .status) ADDED || eqb (n .status) COMMITTED) ≡ true = rw t at h in
-          or-cases (eqb (n .status) ADDED) (eqb (n .status) COMMITTED) s
-          (λ u. (omega tests, ne-eqb (n .status) GHOST (omega tests) ∙ sym t))
-          (λ u. (omega tests, ne-eqb (n .status) GHOST (omega tests) ∙ sym t)))
+      or-cases (eqb (n .status) ADDED) (eqb (n .status) COMMITTED) s
+      (λ u. (omega tests, ne-eqb (n .status) GHOST (omega tests) ∙ sym t))
+      (λ u. (omega tests, ne-eqb (n .status) GHOST (omega tests) ∙ sym t)))
 
   of-status : (0 < n .status) × (n .status ≤ 3) → eqb (n .status) GHOST ≡ crossed (n .round) all → status-fits all n ≡ true
   of-status b g =
       by-test (crossed (n .round) all)
       (λ t. rw t (g ∙ t))
       (λ t. rw t
-          (by-test (eqb (n .status) ADDED)
-              (λ u. rw u refl)
-              (λ u. let v : eqb (n .status) GHOST ≡ false = g ∙ t in rw u (omega tests))))
+      (by-test (eqb (n .status) ADDED)
+      (λ u. rw u refl)
+      (λ u. let v : eqb (n .status) GHOST ≡ false = g ∙ t in rw u (omega tests))))
 
   pub fit-of : fits valued earlier all n ≡ true → Fit valued earlier all n
   unfolding fits
@@ -121,8 +122,8 @@ module _ (ws : List ℕ) (a : ℕ) where
   zeros-at (suc j) i h l b =
       by-test (eqb i j)
       (λ t. or-cases (ltb j a) (eqb (getD ws j 0) 0) (and-right (zeros-to ws a j) (ltb j a || eqb (getD ws j 0) 0) h)
-          (λ u. absurd (omega tests))
-          (λ u. rw (eqb-true i j t) (eqb-true (getD ws j 0) 0 u)))
+      (λ u. absurd (omega tests))
+      (λ u. rw (eqb-true i j t) (eqb-true (getD ws j 0) 0 u)))
       (λ t. zeros-at j i (and-left (zeros-to ws a j) (ltb j a || eqb (getD ws j 0) 0) h) (omega tests) b)
 
   pub zeros-all : (j : ℕ) → ((i : ℕ) → a ≤ i → getD ws i 0 ≡ 0) → zeros-to ws a j ≡ true
@@ -136,4 +137,4 @@ module _ (ws : List ℕ) (a : ℕ) where
   zeros-drop h =
       ext-getD 0 (drop a ws) (replicate (length ws - a) 0) (length-drop a ws ∙ sym (length-replicate (length ws - a) 0))
       (λ i l. let b : i < length ws - a = rw (length-drop a ws) at l in
-          getD-drop a ws i 0 ∙ zeros-at (length ws) (a + i) h (omega arith) (omega arith) ∙ sym (getD-replicate (length ws - a) i 0 0 b))
+      getD-drop a ws i 0 ∙ zeros-at (length ws) (a + i) h (omega arith) (omega arith) ∙ sym (getD-replicate (length ws - a) i 0 0 b))

@@ -128,13 +128,14 @@ module _ (valued : Bool) (rows : ℕ) (h : List Call) (S : Story valued rows h) 
   found-made {c} {v} {p} k l e m =
       rw (ne-eqb 0 c (omega (arith, round-positive (up m))))
       (of-added h k (find-in c (added h k) there-in) (λ r v₁ p₁ i q.
-          let z : r ≡ c = sym (ap (λ x. x .round) q) ∙ find-round c (added h k) there-in in
-          let j : add c v₁ p₁ ∈ h = subst (λ x. add x v₁ p₁ ∈ h) z (up i) in
-          let (a, b) = unique valued h (S .properties) c v₁ p₁ v p j (up m) in
-          q ∙ rw (z, a, b) refl))
+      let z : r ≡ c = sym (ap (λ x. x .round) q) ∙ find-round c (added h k) there-in in
+      let j : add c v₁ p₁ ∈ h = subst (λ x. add x v₁ p₁ ∈ h) z (up i) in
+      let (a, b) = unique valued h (S .properties) c v₁ p₁ v p j (up m) in
+      q ∙ rw (z, a, b) refl))
     where
       up : {r v₁ p₁ : ℕ} → add r v₁ p₁ ∈ k → add r v₁ p₁ ∈ h
       up {r} {v₁} {p₁} i = subst (λ x. add r v₁ p₁ ∈ x) (sym e) (Memᴰ·append-left l i)
+
       there-in : present c (added h k) ≡ true
       there-in = present-added h c k ∙ adds-intro k m
 
@@ -147,8 +148,8 @@ module _ (valued : Bool) (rows : ℕ) (h : List Call) (S : Story valued rows h) 
   ghost-made {r} m =
       rw (ne-eqb r 0 (omega (arith, round-positive m)))
       (by-test (any (commits r) h)
-          (λ t. rw t (sym (commits-elim r h t (λ i. none-any (edge-crosses r) h (λ a j. calm a j i)))))
-          (λ t. by-test (any (edge-crosses r) h) (λ s. rw (t, s) refl) (λ s. rw (t, s) refl)))
+      (λ t. rw t (sym (commits-elim r h t (λ i. none-any (edge-crosses r) h (λ a j. calm a j i)))))
+      (λ t. by-test (any (edge-crosses r) h) (λ s. rw (t, s) refl) (λ s. rw (t, s) refl)))
     where
       calm : (a : Call) → a ∈ h → commit r ∈ h → edge-crosses r a ≡ false
       calm (add s v p) j i = S .properties .uncrossed s v p r j i
@@ -169,28 +170,31 @@ module _ (valued : Bool) (rows : ℕ) (h : List Call) (S : Story valued rows h) 
   placed-made k l r v p e =
       let m : add r v p ∈ h = subst (λ x. add r v p ∈ x) (sym e) (in-cut k (add r v p) l) in
       record {
-      positive = round-positive m;
-      bounded = round-bounded m;
-      new = rw (ne-eqb 0 r (omega (arith, round-positive m)), present-added h r k) (S .properties .one-add k l r v p e);
-      parent-there = by-test (eqb 0 p)
-          (λ t. rw t refl)
-          (λ t. rw (t, present-added h p k)
-              (adds-with-elim valued p v k (S .properties .parent k l r v p e (omega tests)) (λ v₁ p₁ i w. adds-intro k i)));
-      lower = S .properties .lower r v p m;
-      same-value = λ q pos. adds-with-elim valued p v k (S .properties .parent k l r v p e pos)
-          (λ v₁ p₁ i w. rw (found-made k (add r v p ∷ l) e i) (sym (w q))) }
+        positive = round-positive m;
+        bounded = round-bounded m;
+        new = rw (ne-eqb 0 r (omega (arith, round-positive m)), present-added h r k) (S .properties .one-add k l r v p e);
+        parent-there = by-test (eqb 0 p)
+            (λ t. rw t refl)
+            (λ t. rw (t, present-added h p k)
+            (adds-with-elim valued p v k (S .properties .parent k l r v p e (omega tests)) (λ v₁ p₁ i w. adds-intro k i)));
+        lower = S .properties .lower r v p m;
+        same-value = λ q pos. adds-with-elim valued p v k (S .properties .parent k l r v p e pos)
+            (λ v₁ p₁ i w. rw (found-made k (add r v p ∷ l) e i) (sym (w q)));
+      }
 
   pub grown : Grown valued rows (rebuilt h)
   grown = record {
-      rooted = refl;
-      fit = λ pos. omega (arith, length-added h h, S .room pos);
-      placed = λ pre post n e. added-cut h h pre post n e (λ k l r v p a b c. rw (b, c) (placed-made k l r v p a));
-      stated = stated-rebuilt;
-      ghosts = ghosts-rebuilt }
+    rooted = refl;
+    fit = λ pos. omega (arith, length-added h h, S .room pos);
+    placed = λ pre post n e. added-cut h h pre post n e (λ k l r v p a b c. rw (b, c) (placed-made k l r v p a));
+    stated = stated-rebuilt;
+    ghosts = ghosts-rebuilt;
+  }
     where
       stated-rebuilt : (n : Node) → n ∈ rebuilt h → (0 < n .status) × (n .status ≤ 3)
       stated-rebuilt n (here e) = rw e (omega arith)
       stated-rebuilt n (there m) = of-added h h m (λ r v p i e. rw e (history-stated h r))
+
       ghosts-rebuilt : (n : Node) → n ∈ rebuilt h → eqb (n .status) GHOST ≡ crossed (n .round) (rebuilt h)
       ghosts-rebuilt n (here e) = rw e (sym (crossed-rebuilt 0 ∙ root-clear))
       ghosts-rebuilt n (there m) = of-added h h m (λ r v p i e. rw e (ghost-made i ∙ sym (crossed-rebuilt r)))

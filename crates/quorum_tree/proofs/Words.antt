@@ -79,8 +79,8 @@ getD-rows ws zero i h = absurd (omega arith)
 getD-rows ws (suc n) i h =
     rw (rows-suc ws n)
     (by-test (eqb i n)
-        (λ t. rw (eqb-true i n t) (getD-at (rows-of ws n) (row ws n) [] root n (length-rows ws n)))
-        (λ t. List·getD-append (rows-of ws n) (row ws n ∷ []) root i (omega (tests, length-rows ws n)) ∙ getD-rows ws n i (omega tests)))
+    (λ t. rw (eqb-true i n t) (getD-at (rows-of ws n) (row ws n) [] root n (length-rows ws n)))
+    (λ t. List·getD-append (rows-of ws n) (row ws n ∷ []) root i (omega (tests, length-rows ws n)) ∙ getD-rows ws n i (omega tests)))
 
 pub take-rows : (ws : List ℕ) (n i : ℕ) → i ≤ n → take i (rows-of ws n) ≡ rows-of ws i
 take-rows ws zero i h = let e : i ≡ 0 = omega arith in rw e (take-all 0 (rows-of ws 0) (omega (arith, length-rows ws 0)))
@@ -94,8 +94,8 @@ row-in ws zero i h = absurd (omega arith)
 row-in ws (suc n) i h =
     rw (rows-suc ws n)
     (by-test (eqb i n)
-        (λ t. rw (eqb-true i n t) (in-last (rows-of ws n) (row ws n)))
-        (λ t. Memᴰ·append-left (row ws n ∷ []) (row-in ws n i (omega tests))))
+    (λ t. rw (eqb-true i n t) (in-last (rows-of ws n) (row ws n)))
+    (λ t. Memᴰ·append-left (row ws n ∷ []) (row-in ws n i (omega tests))))
 
 -- a member is some row
 pub in-row {κ} : {C : Type κ} (ws : List ℕ) (n : ℕ) {x : Node} → x ∈ rows-of ws n → ((i : ℕ) → i < n → x ≡ row ws i → C) → C
@@ -132,6 +132,7 @@ words-rows ws (suc n) h =
   where
     link : (j k : ℕ) → j < length ws → suc j ≡ k → drop j ws ≡ getD ws j 0 ∷ drop k ws
     link j k l e = drop-cons ws j 0 l ∙ ap (λ x. getD ws j 0 ∷ drop x ws) e
+
     four : row ws n .round ∷ row ws n .parent ∷ row ws n .value ∷ row ws n .status ∷ drop (4 * suc n) ws ≡ drop (4 * n) ws
     four = sym (link (4 * n) (4 * n + 1) (omega arith) (omega arith) ∙ ap (λ l. getD ws (4 * n) 0 ∷ l)
         (link (4 * n + 1) (4 * n + 2) (omega arith) (omega arith) ∙ ap (λ l. getD ws (4 * n + 1) 0 ∷ l)
@@ -159,9 +160,9 @@ used-is ws m zero i a b f g = used-zero ws i ∙ omega arith
 used-is ws m (suc k) i a b f g =
     by-test (eqb i m)
     (λ t. let e : i ≡ m = eqb-true i m t in
-        used-stop ws k i (eq-eqb (row ws i .status) 0 (rw e (g (omega arith)))) ∙ e)
+    used-stop ws k i (eq-eqb (row ws i .status) 0 (rw e (g (omega arith)))) ∙ e)
     (λ t. used-go ws k i (ne-eqb (row ws i .status) 0 (f i (omega tests))) ∙
-        used-is ws m k (suc i) (omega tests) (omega arith) f (λ l. g (omega arith)))
+    used-is ws m k (suc i) (omega tests) (omega arith) f (λ l. g (omega arith)))
 
 used-bound : (ws : List ℕ) (k i : ℕ) → used-from ws k i ≤ i + k
 used-bound ws zero i = rw (used-zero ws i) (omega arith)

@@ -15,6 +15,7 @@ use Rattle.laws.specs.Lists.{any, any-append, any-snoc, map-append}
 use Rattle.quorum_tree.specs.Machine.{Node, ADDED, GHOST, has-round, present, find, with-status}
 use Rattle.quorum_tree.specs.Table.{row, rows-of, used-from, words}
 use Rattle.quorum_tree.specs.Check.{zeros-to}
+use Rattle.quorum_tree.proofs.Words.{length-words, words-append, length-rows}
 use Rattle.table.specs.Rows.{Found, crossed-with, strike-crossed}
 
 -- the d rows from row i on
@@ -87,22 +88,6 @@ used-go ws k i h e =
 pub used-end : (ws : List ℕ) (k i : ℕ) → k ≤ i → used-from ws (k - i) i ≡ i
 unfolding used-from
 used-end ws k i h = let e : k - i ≡ 0 = omega arith in rw e refl
-
--- words
-pub length-words : (ns : List Node) → length (words ns) ≡ 4 * length ns
-unfolding words
-length-words [] = refl
-length-words (n ∷ ns) = let h : length (words ns) ≡ 4 * length ns = length-words ns in omega arith
-
-pub words-append : (ns ms : List Node) → words (ns ++ ms) ≡ words ns ++ words ms
-unfolding words
-words-append [] ms = refl
-words-append (n ∷ ns) ms = rw (words-append ns ms) refl
-
-pub length-rows : (ws : List ℕ) (n : ℕ) → length (rows-of ws n) ≡ n
-unfolding rows-of
-length-rows ws zero = refl
-length-rows ws (suc n) = rw (length-append (rows-of ws n) (row ws n ∷ [])) (let h : length (rows-of ws n) ≡ n = length-rows ws n in omega arith)
 
 -- row i at the front of what is left from it on
 pub row-ahead : (ws : List ℕ) (i : ℕ) → 4 * i + 4 ≤ length ws → drop (4 * i) ws ≡ words (row ws i ∷ []) ++ drop (4 * suc i) ws

@@ -1,48 +1,56 @@
+-- `table_check::is_tree` meets its contract: its tests are `checks`, which is `is-tree`. Assumes nothing.
+use mathlib.Core.Path.{_≡_, refl, sym, ap, _∙_}
+use mathlib.Core.Bool.{Bool, true, false}
+use mathlib.Core.List.{List}
+use Prim.Native.Nat.{ℕ, _≤_, _*_}
+use native.Mathlib.Omega.{arith}
+use lib.ListN.{length}
 use borrow.Author.Needs.{needs}
+use borrow.Author.Tests.{le-leb, lt-leb, not-true, not-false}
+use denote.Ref.{now}
+use Rattle.quorum_tree.specs.Table.{used, is-tree}
+use Rattle.quorum_tree.specs.Check.{checks, fits-to, zeros-to}
+use Rattle.quorum_tree.proofs.Words.{used-rows}
+use Rattle.quorum_tree.proofs.Trees.{checks-exact}
 use Rattle.table_check.proofs.is_tree.Statement.{statement}
 use Rattle.table_check.proofs.is_tree.Tie as tie
-use Rattle.table_check.proofs.is_tree.Reads as reads
-use Rattle.table_check.proofs.is_tree.Lts as lts
-use Rattle.table.proofs.used_rows.Reads as used-rows-reads
-use Rattle.table.proofs.zeros_from.Reads as zeros-from-reads
-use Rattle.table_check.proofs.rows_fit.Reads as rows-fit-reads
 
--- src/lib.rt:116:9
 used-rows-requires : tie.Need-used-rows-requires
 used-rows-requires c κs = search needs
 
--- src/lib.rt:118:9
 returns : tie.Need-returns
-returns c = ?
+unfolding checks
+returns c =
+    let b = c .before in
+    let a = b .before .before .args in
+    let e : used (now (a .t)) ≡ 0 = sym (b .used-rows .ensures) ∙ c .if1 .taken in
+    rw (lt-leb 1 (used (now (a .t))) (omega arith)) at (checks-exact (a .valued) (now (a .t)) (b .before .before .pre))
 
--- src/lib.rt:120:9
 rows-fit-requires : tie.Need-rows-fit-requires
-rows-fit-requires c κs = ?
+rows-fit-requires c κs = omega (arith, used-rows (now (c .before .before .before .args .t)))
 
--- src/lib.rt:121:9
 returns-2 : tie.Need-returns-2
-returns-2 c = ?
+unfolding checks
+returns-2 c =
+    let d = c .before in
+    let b = d .before .before in
+    let a = b .before .before .args in
+    let t = now (a .t) in
+    let one : 1 ≤ used t = ?one in
+    let f : fits-to (a .valued) t (used t) (used t) ≡ false = ?f in
+    rw (le-leb 1 (used t) one, f) at (checks-exact (a .valued) t (b .before .before .pre))
 
--- src/lib.rt:123:26
 mul-zeros-from : tie.Need-mul-zeros-from
-mul-zeros-from c = ?
+mul-zeros-from c = omega (arith, used-rows (now (c .before .before .before .before .before .args .t)))
 
--- src/lib.rt:123:5
 zeros-from-requires : tie.Need-zeros-from-requires
-zeros-from-requires c κs = ?
+zeros-from-requires c κs = omega (arith, used-rows (now (c .before .before .before .before .before .args .t)))
 
--- src/lib.rt:112:1
 returns-3 : tie.Need-returns-3
-returns-3 c = ?
+unfolding checks
+returns-3 c = ?r3
 
 pub is-tree-spec : {M : Type 1} → statement M
 is-tree-spec =
     tie.close
-    (tie.spec
-    used-rows-requires
-    returns
-    rows-fit-requires
-    returns-2
-    mul-zeros-from
-    zeros-from-requires
-    returns-3)
+    (tie.spec used-rows-requires returns rows-fit-requires returns-2 mul-zeros-from zeros-from-requires returns-3)

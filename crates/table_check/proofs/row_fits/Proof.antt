@@ -50,7 +50,7 @@ returns-3 c =
     let ws = now (a .t) in
     let r : round-fits (rows-of ws (a .i)) (row ws (a .i)) ≡ true = sym (b .round-fits .ensures) ∙ not-false _ (f .before .before .if2 .left) in
     let p : present (row ws (a .i) .parent) (rows-of ws (a .i)) ≡ false =
-        ap (λ q. present q (rows-of ws (a .i))) (sym (f .before .parent-at .ensures)) ∙ f .find-row .ensures .none (c .if3 .taken) in
+    ap (λ q. present q (rows-of ws (a .i))) (sym (f .before .parent-at .ensures)) ∙ f .find-row .ensures .none (c .if3 .taken) in
     sym (behind-root (a .valued) ws (a .n) (a .i) (b .before .if1 .left) ∙ rw (r, p) refl)
 
 round-at-requires : tie.Need-round-at-requires
@@ -66,7 +66,7 @@ returns-4 c =
     let r : round-fits (rows-of ws (a .i)) (row ws (a .i)) ≡ true = sym (b .round-fits .ensures) ∙ not-false _ (f .before .before .if2 .left) in
     let e = f .before .parent-at .ensures in
     let p : present (row ws (a .i) .parent) (rows-of ws (a .i)) ≡ true =
-        ap (λ q. present q (rows-of ws (a .i))) (sym e) ∙ f .find-row .ensures .there (g .if3 .left) in
+    ap (λ q. present q (rows-of ws (a .i))) (sym e) ∙ f .find-row .ensures .there (g .if3 .left) in
     let l : row ws (a .i) .round ≤ row ws (a .i) .parent = omega arith in
     sym (behind-root (a .valued) ws (a .n) (a .i) (b .before .if1 .left) ∙ rw (r, p, le-ltb _ _ l) refl)
 
@@ -87,10 +87,10 @@ returns-5 c =
     let r : round-fits (rows-of ws (a .i)) (row ws (a .i)) ≡ true = sym (b .round-fits .ensures) ∙ not-false _ (f .before .before .if2 .left) in
     let e = f .before .parent-at .ensures in
     let p : present (row ws (a .i) .parent) (rows-of ws (a .i)) ≡ true =
-        ap (λ q. present q (rows-of ws (a .i))) (sym e) ∙ f .find-row .ensures .there (g .if3 .left) in
+    ap (λ q. present q (rows-of ws (a .i))) (sym e) ∙ f .find-row .ensures .there (g .if3 .left) in
     let l : row ws (a .i) .parent < row ws (a .i) .round = omega arith in
     let v : (a .valued && other-value (rows-of ws (a .i)) (row ws (a .i) .value) (row ws (a .i) .parent)) ≡ true =
-        rw (← e, ← (c .before .before .value-at .ensures), f .find-row .ensures .at (g .if3 .left)) (sym (c .before .other-value .ensures) ∙ c .if5 .taken) in
+    rw (← e, ← (c .before .before .value-at .ensures), f .find-row .ensures .at (g .if3 .left)) (sym (c .before .other-value .ensures) ∙ c .if5 .taken) in
     sym (behind-root (a .valued) ws (a .n) (a .i) (b .before .if1 .left) ∙ rw (r, p, lt-ltb _ _ l, v) refl)
 
 status-fits-requires : tie.Need-status-fits-requires
@@ -107,10 +107,10 @@ returns-6 c =
     let r : round-fits (rows-of ws (a .i)) (row ws (a .i)) ≡ true = sym (b .round-fits .ensures) ∙ not-false _ (f .before .before .if2 .left) in
     let e = f .before .parent-at .ensures in
     let p : present (row ws (a .i) .parent) (rows-of ws (a .i)) ≡ true =
-        ap (λ q. present q (rows-of ws (a .i))) (sym e) ∙ f .find-row .ensures .there (g .if3 .left) in
+    ap (λ q. present q (rows-of ws (a .i))) (sym e) ∙ f .find-row .ensures .there (g .if3 .left) in
     let l : row ws (a .i) .parent < row ws (a .i) .round = omega arith in
     let v : (a .valued && other-value (rows-of ws (a .i)) (row ws (a .i) .value) (row ws (a .i) .parent)) ≡ false =
-        rw (← e, ← (c .before .before .before .value-at .ensures), f .find-row .ensures .at (g .if3 .left)) (sym (c .before .before .other-value .ensures) ∙ c .before .if5 .left) in
+    rw (← e, ← (c .before .before .before .value-at .ensures), f .find-row .ensures .at (g .if3 .left)) (sym (c .before .before .other-value .ensures) ∙ c .before .if5 .left) in
     c .status-fits .ensures ∙ sym (behind-root (a .valued) ws (a .n) (a .i) (b .before .if1 .left) ∙ rw (r, p, lt-ltb _ _ l, v) refl)
 
 pub row-fits-spec : {M : Type 1} → statement M

@@ -23,7 +23,7 @@ returns c =
     let b = c .before in
     let a = b .before .before .before .before .args in
     let x : crossed (row (now (a .t)) (a .i) .round) (rows-of (now (a .t)) (a .n)) ≡ true =
-        ap (λ q. crossed q (rows-of (now (a .t)) (a .n))) (sym (b .before .round-at .ensures)) ∙ sym (b .any-edge-crosses .ensures) ∙ c .if1 .taken in
+    ap (λ q. crossed q (rows-of (now (a .t)) (a .n))) (sym (b .before .round-at .ensures)) ∙ sym (b .any-edge-crosses .ensures) ∙ c .if1 .taken in
     rw (x, b .before .before .status-at .ensures) refl
 
 returns-2 : tie.Need-returns-2
@@ -31,7 +31,7 @@ returns-2 c =
     let b = c .before .before in
     let a = b .before .before .before .before .args in
     let x : crossed (row (now (a .t)) (a .i) .round) (rows-of (now (a .t)) (a .n)) ≡ false =
-        ap (λ q. crossed q (rows-of (now (a .t)) (a .n))) (sym (b .before .round-at .ensures)) ∙ sym (b .any-edge-crosses .ensures) ∙ c .before .if1 .left in
+    ap (λ q. crossed q (rows-of (now (a .t)) (a .n))) (sym (b .before .round-at .ensures)) ∙ sym (b .any-edge-crosses .ensures) ∙ c .before .if1 .left in
     let e : row (now (a .t)) (a .i) .status ≡ 1 = sym (b .before .before .status-at .ensures) ∙ c .if2 .taken in
     rw (x, eq-eqb _ _ e) refl
 
@@ -40,7 +40,7 @@ returns-3 c =
     let b = c .before .before in
     let a = b .before .before .before .before .args in
     let x : crossed (row (now (a .t)) (a .i) .round) (rows-of (now (a .t)) (a .n)) ≡ false =
-        ap (λ q. crossed q (rows-of (now (a .t)) (a .n))) (sym (b .before .round-at .ensures)) ∙ sym (b .any-edge-crosses .ensures) ∙ c .before .if1 .left in
+    ap (λ q. crossed q (rows-of (now (a .t)) (a .n))) (sym (b .before .round-at .ensures)) ∙ sym (b .any-edge-crosses .ensures) ∙ c .before .if1 .left in
     let e : row (now (a .t)) (a .i) .status ≡ 1 → ⊥ = λ q. c .if2 .left (b .before .before .status-at .ensures ∙ q) in
     rw (x, ne-eqb _ _ e, b .before .before .status-at .ensures) refl
 

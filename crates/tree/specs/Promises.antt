@@ -1,0 +1,19 @@
+-- What the tree's calls promise: an equation for the number and for each lent slice.
+use mathlib.Core.Path.{_≡_}
+use mathlib.Core.Bool.{Bool}
+use mathlib.Core.List.{List}
+use Prim.Native.Nat.{ℕ}
+use lib.ListN.{length}
+use Rattle.quorum_tree.specs.Machine.{Call, answer, step}
+use Rattle.quorum_tree.specs.Table.{rows, nodes, table, Tree, call-number, call-table}
+
+-- add or commit of any table: 01's number, and the table left
+pub record Called (valued : Bool) (ws : List ℕ) (c : Call) (number : ℕ) (ws′ : List ℕ) : Type 0 where
+  pub number-is : number ≡ call-number valued ws c
+  pub table-is : ws′ ≡ call-table valued ws c
+
+-- add or commit of a tree: the machine's number and the machine's table; it is a tree again
+pub record Stepped (valued : Bool) (ws : List ℕ) (c : Call) (number : ℕ) (ws′ : List ℕ) : Type 0 where
+  pub number-is : number ≡ answer valued (rows ws) (nodes ws) c
+  pub table-is : ws′ ≡ table (length ws) (step valued (rows ws) (nodes ws) c)
+  pub tree : Tree valued ws′
