@@ -13,3 +13,4 @@ pub mod ReadOff
 pub mod Regrown
 pub mod Words
 pub mod Fits
+pub mod Trees
