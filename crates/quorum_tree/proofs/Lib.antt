@@ -14,3 +14,4 @@ pub mod Regrown
 pub mod Words
 pub mod Fits
 pub mod Trees
+pub mod Checks
