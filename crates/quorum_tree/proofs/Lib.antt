@@ -13,3 +13,5 @@ pub mod ReadOff
 pub mod Regrown
 pub mod Words
 pub mod Fits
+pub mod Trees
+pub mod Checks
