@@ -11,7 +11,7 @@ use denote.Ref.{now}
 use Rattle.quorum_tree.specs.Table.{used, is-tree}
 use Rattle.quorum_tree.specs.Check.{checks, fits-to, zeros-to}
 use Rattle.quorum_tree.proofs.Words.{used-rows}
-use Rattle.quorum_tree.proofs.Trees.{checks-exact}
+use Rattle.quorum_tree.proofs.Checks.{checks-exact}
 use Rattle.table_check.proofs.is_tree.Statement.{statement}
 use Rattle.table_check.proofs.is_tree.Tie as tie
 
@@ -36,8 +36,8 @@ returns-2 c =
     let b = d .before .before in
     let a = b .before .before .args in
     let t = now (a .t) in
-    let one : 1 ≤ used t = ?one in
-    let f : fits-to (a .valued) t (used t) (used t) ≡ false = ?f in
+    let one : 1 ≤ used t = omega (arith, b .used-rows .ensures) in
+    let f : fits-to (a .valued) t (used t) (used t) ≡ false = rw (← (b .used-rows .ensures)) (sym (d .rows-fit .ensures) ∙ not-true _ (c .if2 .taken)) in
     rw (le-leb 1 (used t) one, f) at (checks-exact (a .valued) t (b .before .before .pre))
 
 mul-zeros-from : tie.Need-mul-zeros-from
@@ -48,7 +48,15 @@ zeros-from-requires c κs = omega (arith, used-rows (now (c .before .before .bef
 
 returns-3 : tie.Need-returns-3
 unfolding checks
-returns-3 c = ?r3
+returns-3 c =
+    let d = c .before .before in
+    let b = d .before .before in
+    let a = b .before .before .args in
+    let t = now (a .t) in
+    let one : 1 ≤ used t = omega (arith, b .used-rows .ensures) in
+    let f : fits-to (a .valued) t (used t) (used t) ≡ true = rw (← (b .used-rows .ensures)) (sym (d .rows-fit .ensures) ∙ not-false _ (c .before .if2 .left)) in
+    let z : zeros-to t (4 * used t) (length t) ≡ c .zeros-from .result = rw (← (b .used-rows .ensures)) (sym (c .zeros-from .ensures)) in
+    sym z ∙ (rw (le-leb 1 (used t) one, f) at (checks-exact (a .valued) t (b .before .before .pre)))
 
 pub is-tree-spec : {M : Type 1} → statement M
 is-tree-spec =
