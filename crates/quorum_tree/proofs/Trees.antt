@@ -47,8 +47,9 @@ pub held-of : (valued : Bool) (ws : List ℕ) (ns : List Node) → sized ws ≡ 
 held-of valued ws ns h G e =
     let z : nodes ws ≡ ns = rw e at (nodes-table (length ws) ns (grown-fit valued ws ns h G) (grown-stated valued (rows ws) ns G)) in
     record {
-    grown = subst (Grown valued (rows ws)) (sym z) G;
-    whole = sym e ∙ ap (table (length ws)) (sym z) }
+      grown = subst (Grown valued (rows ws)) (sym z) G;
+      whole = sym e ∙ ap (table (length ws)) (sym z);
+    }
 
 pub tree-held : (valued : Bool) (ws : List ℕ) → sized ws ≡ true → Tree valued ws → Held valued ws
 tree-held valued ws h T =
@@ -77,8 +78,9 @@ is-tree-says valued ws = refl
 
 pub tree-of : (valued : Bool) (ws : List ℕ) → is-tree valued ws ≡ true → Tree valued ws
 tree-of valued ws h = record {
-    calls = calls-of (nodes ws);
-    left = same-of (table (length ws) (after valued (rows ws) fresh (calls-of (nodes ws)))) ws (sym (is-tree-says valued ws) ∙ h) }
+  calls = calls-of (nodes ws);
+  left = same-of (table (length ws) (after valued (rows ws) fresh (calls-of (nodes ws)))) ws (sym (is-tree-says valued ws) ∙ h);
+}
 
 pub held-is-tree : (valued : Bool) (ws : List ℕ) → sized ws ≡ true → Held valued ws → is-tree valued ws ≡ true
 held-is-tree valued ws h H =

@@ -118,15 +118,14 @@ pub fn add(t: &mut [u64], r: Round, v: u64, p: Round) -> AddAnswer
     add_step(true, t, r, v, p)
 }
 
-// One commit on a tree.
-fn commit_step(valued: bool, t: &mut [u64], r: Round) -> CommitAnswer
-    requires { ⌜ (sized (now t) ≡ true) × Tree valued (now t) ⌝ }
-    ensures { λ a. ⌜ Stepped valued (now (t .entry)) (commit (r .0)) (number-of-commit a) (now (t .exit)) ⌝ }
+// Why commit(r) is refused among the first n rows, or Committed. It writes nothing.
+fn commit_answer(t: &[u64], n: usize, r: Round) -> CommitAnswer
+    requires { ⌜ 4 * n ≤ length (now t) ⌝ }
+    ensures { λ a. ⌜ number-of-commit a ≡ answer true (rows (now (t .entry))) (rows-of (now (t .entry)) n) (commit (r .0)) ⌝ }
 {
     if !ids::in_range(r) {
         return CommitAnswer::OutOfRange;
     }
-    let n = table::used_rows(t);
     let k = table::find_row(t, n, r.0 as u64);
     if n <= k {
         return CommitAnswer::Absent;
@@ -138,6 +137,40 @@ fn commit_step(valued: bool, t: &mut [u64], r: Round) -> CommitAnswer
     if s == table::GHOST {
         return CommitAnswer::Ghost;
     }
-    table::set_status(t, k, table::COMMITTED);
     CommitAnswer::Committed
+}
+
+// One commit on a tree.
+fn commit_step(valued: bool, t: &mut [u64], r: Round) -> CommitAnswer
+    requires { ⌜ (sized (now t) ≡ true) × Tree valued (now t) ⌝ }
+    ensures { λ a. ⌜ Stepped valued (now (t .entry)) (commit (r .0)) (number-of-commit a) (now (t .exit)) ⌝ }
+{
+    let n = table::used_rows(t);
+    let a = commit_answer(t, n, r);
+    if a.number() == 0 {
+        let k = table::find_row(t, n, r.0 as u64);
+        table::set_status(t, k, table::COMMITTED);
+    }
+    a
+}
+
+// commit on a table that is a tree already: the same step without the check of the table.
+pub fn commit_in_tree(t: &mut [u64], r: Round) -> CommitAnswer
+    requires { ⌜ (sized (now t) ≡ true) × Tree true (now t) ⌝ }
+    ensures { λ a. ⌜ Stepped true (now (t .entry)) (commit (r .0)) (number-of-commit a) (now (t .exit)) ⌝ }
+{
+    commit_step(true, t, r)
+}
+
+// commit(r).
+pub fn commit(t: &mut [u64], r: Round) -> CommitAnswer
+    ensures { λ a. ⌜ Called true (now (t .entry)) (commit (r .0)) (number-of-commit a) (now (t .exit)) ⌝ }
+{
+    if !table_check::has_table_length(t) {
+        return CommitAnswer::WrongLength;
+    }
+    if !table_check::is_tree(true, t) {
+        return CommitAnswer::NotTree;
+    }
+    commit_step(true, t, r)
 }
