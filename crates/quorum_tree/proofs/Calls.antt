@@ -1,23 +1,20 @@
 -- The four properties call by call: a list has them exactly if each call has, beside the calls before it, what `Next` says.
 -- Assumes nothing.
 use mathlib.Core.Path.{_≡_, refl, sym, ap, _∙_, subst}
-use mathlib.Core.Bool.{Bool, true, false, _&&_, _||_, not}
-use mathlib.Core.List.{List, [], _∷_, _++_, append-assoc, List·Memᴰ·head as here, List·Memᴰ·tail as there, List·Memᴰ·append-cases, Memᴰ·append-left, Memᴰ·append-right}
+use mathlib.Core.Bool.{Bool, true, false, _||_, not}
+use mathlib.Core.List.{List, [], _∷_, _++_, append-assoc, List·Memᴰ·head as here, List·Memᴰ·tail as there, List·Memᴰ·append-cases, Memᴰ·append-left}
 use mathlib.Core.Logic.{⊎-elim}
-use Prim.Native.Nat.{ℕ, zero, suc, _+_, _<_}
+use Prim.Native.Nat.{ℕ, _+_, _<_}
 use native.Mathlib.Omega.{arith}
-use lib.Dec.{ltb, leb, eqb}
+use lib.Dec.{eqb}
 use borrow.Author.Tests.{eqb-true, eq-eqb}
-use Rattle.laws.specs.Tests.{by-test, clash, tests, impossible, and-left, and-right}
-use Rattle.laws.specs.Lists.{_∈_, any, any-append, any-intro, any-elim, any-none, none-any, by-last, in-last, cut, in-cut, snoc-cut}
+use Rattle.laws.specs.Tests.{by-test, clash, impossible, or-left, and-left, and-right}
+use Rattle.laws.specs.Lists.{_∈_, any, any-append, any-intro, any-elim, any-none, none-any, by-last, cut, in-cut, snoc-cut}
 use Rattle.quorum_tree.specs.Machine.{Call, add, commit, crosses}
 use Rattle.quorum_tree.specs.Properties.{Properties, adds, commits, adds-with, edge-crosses, adds-in}
 
 pub add-inj : {r v p r′ v′ p′ : ℕ} → add r v p ≡ add r′ v′ p′ → (r ≡ r′) × (v ≡ v′) × (p ≡ p′)
 add-inj e = ((cc), (cc), (cc))
-
-pub commit-inj : {r r′ : ℕ} → commit r ≡ commit r′ → r ≡ r′
-commit-inj e = cc
 
 -- an add of round c among the calls, handed on; and a commit
 pub adds-elim {κ} : {C : Type κ} (c : ℕ) (h : List Call) → any (adds c) h ≡ true → ((v p : ℕ) → add c v p ∈ h → C) → C
@@ -47,6 +44,7 @@ adds-with-elim {C = C} valued c w h t f = any-elim (adds-with valued c w) h t pi
   where
     same : (v : ℕ) → (not valued || eqb v w) ≡ true → valued ≡ true → v ≡ w
     same v e q = eqb-true v w (rw q at e)
+
     pick : (a : Call) → a ∈ h → adds-with valued c w a ≡ true → C
     pick (add r v p) m e =
         f v p (subst (λ x. add x v p ∈ h) (eqb-true r c (and-left (eqb r c) (not valued || eqb v w) e)) m)
@@ -82,97 +80,108 @@ Next valued h (commit r) = CommitNext h r
 
 pub none : (valued : Bool) → Properties valued []
 none valued = record {
-    one-add = λ pre post r v p e. absurd (no-cut pre post (add r v p) e);
-    one-commit = λ pre post r e. absurd (no-cut pre post (commit r) e);
-    follows = λ pre post r e. absurd (no-cut pre post (commit r) e);
-    lower = λ r v p m. elim m [ ];
-    parent = λ pre post r v p e h. absurd (no-cut pre post (add r v p) e);
-    uncrossed = λ r v p c m k. elim m [ ] }
+  one-add = λ pre post r v p e. absurd (no-cut pre post (add r v p) e);
+  one-commit = λ pre post r e. absurd (no-cut pre post (commit r) e);
+  follows = λ pre post r e. absurd (no-cut pre post (commit r) e);
+  lower = λ r v p m. elim m [ ];
+  parent = λ pre post r v p e h. absurd (no-cut pre post (add r v p) e);
+  uncrossed = λ r v p c m k. elim m [ ];
+}
   where
     no-cut : (pre post : List Call) (c : Call) → [] ≡ pre ++ c ∷ post → ⊥
     no-cut [] post c e = impossible (cc)
     no-cut (x ∷ pre) post c e = impossible (cc)
 
+-- no edge crosses a committed round
+pub committed-uncrossed : (valued : Bool) (h : List Call) → Properties valued h → (r : ℕ) → commit r ∈ h → any (edge-crosses r) h ≡ false
+committed-uncrossed valued h P r m = none-any (edge-crosses r) h each
+  where
+    each : (a : Call) → a ∈ h → edge-crosses r a ≡ false
+    each (add s v p) i = P .uncrossed s v p r i m
+    each (commit s) i = refl
+
 -- the properties pass to what stands in front
 pub prefix : (valued : Bool) (h k : List Call) → Properties valued (h ++ k) → Properties valued h
 prefix valued h k P = record {
-    one-add = λ pre post r v p e. P .one-add pre (post ++ k) r v p (longer pre post (add r v p) e);
-    one-commit = λ pre post r e. P .one-commit pre (post ++ k) r (longer pre post (commit r) e);
-    follows = λ pre post r e. P .follows pre (post ++ k) r (longer pre post (commit r) e);
-    lower = λ r v p m. P .lower r v p (Memᴰ·append-left k m);
-    parent = λ pre post r v p e. P .parent pre (post ++ k) r v p (longer pre post (add r v p) e);
-    uncrossed = λ r v p c m n. P .uncrossed r v p c (Memᴰ·append-left k m) (Memᴰ·append-left k n) }
+  one-add = λ pre post r v p e. P .one-add pre (post ++ k) r v p (longer pre post (add r v p) e);
+  one-commit = λ pre post r e. P .one-commit pre (post ++ k) r (longer pre post (commit r) e);
+  follows = λ pre post r e. P .follows pre (post ++ k) r (longer pre post (commit r) e);
+  lower = λ r v p m. P .lower r v p (Memᴰ·append-left k m);
+  parent = λ pre post r v p e. P .parent pre (post ++ k) r v p (longer pre post (add r v p) e);
+  uncrossed = λ r v p c m n. P .uncrossed r v p c (Memᴰ·append-left k m) (Memᴰ·append-left k n);
+}
   where
     longer : (pre post : List Call) (c : Call) → h ≡ pre ++ c ∷ post → h ++ k ≡ pre ++ c ∷ (post ++ k)
     longer pre post c e = ap (λ l. l ++ k) e ∙ append-assoc pre (c ∷ post) k
 
 pub next-of : (valued : Bool) (h : List Call) (c : Call) (k : List Call) → Properties valued (h ++ c ∷ k) → Next valued h c
 next-of valued h (add r v p) k P = record {
-    new = P .one-add h k r v p refl;
-    lower = P .lower r v p (in-cut h (add r v p) k);
-    parent = P .parent h k r v p refl;
-    clear = λ c m. P .uncrossed r v p c (in-cut h (add r v p) k) (Memᴰ·append-left (add r v p ∷ k) m) }
+  new = P .one-add h k r v p refl;
+  lower = P .lower r v p (in-cut h (add r v p) k);
+  parent = P .parent h k r v p refl;
+  clear = λ c m. P .uncrossed r v p c (in-cut h (add r v p) k) (Memᴰ·append-left (add r v p ∷ k) m);
+}
 next-of valued h (commit r) k P = record {
-    follows = P .follows h k r refl;
-    new = P .one-commit h k r refl;
-    clear = none-any (edge-crosses r) h each }
-  where
-    each : (a : Call) → a ∈ h → edge-crosses r a ≡ false
-    each (add s v p) m = P .uncrossed s v p r (Memᴰ·append-left (commit r ∷ k) m) (in-cut h (commit r) k)
-    each (commit s) m = refl
+  follows = P .follows h k r refl;
+  new = P .one-commit h k r refl;
+  clear = or-left (any (edge-crosses r) h) (any (edge-crosses r) (commit r ∷ k))
+      (sym (any-append (edge-crosses r) h (commit r ∷ k)) ∙ committed-uncrossed valued (h ++ commit r ∷ k) P r (in-cut h (commit r) k));
+}
 
 pub grow : (valued : Bool) (h : List Call) (c : Call) → Properties valued h → Next valued h c → Properties valued (h ++ c ∷ [])
 grow valued h (add r v p) P N = record {
-    one-add = λ pre post r₁ v₁ p₁ e. snoc-cut h pre post (add r v p) (add r₁ v₁ p₁) e
-        (λ rest q z. P .one-add pre rest r₁ v₁ p₁ q)
-        (λ q z w. let s : r ≡ r₁ = cc in rw (← q, ← s) (N .new));
-    one-commit = λ pre post r₁ e. snoc-cut h pre post (add r v p) (commit r₁) e
-        (λ rest q z. P .one-commit pre rest r₁ q)
-        (λ q z w. impossible (cc));
-    follows = λ pre post r₁ e. snoc-cut h pre post (add r v p) (commit r₁) e
-        (λ rest q z. P .follows pre rest r₁ q)
-        (λ q z w. impossible (cc));
-    lower = λ r₁ v₁ p₁ m. by-last h m (P .lower r₁ v₁ p₁) (λ e. omega (arith, N .lower, add-inj e));
-    parent = λ pre post r₁ v₁ p₁ e g. snoc-cut h pre post (add r v p) (add r₁ v₁ p₁) e
-        (λ rest q z. P .parent pre rest r₁ v₁ p₁ q g)
-        (λ q z w. let s : p ≡ p₁ = cc in let u : v ≡ v₁ = cc in rw (← q, ← s, ← u) (N .parent (omega arith)));
-    uncrossed = λ r₁ v₁ p₁ c m k. by-last h k
-        (λ i. by-last h m (λ j. P .uncrossed r₁ v₁ p₁ c j i)
-            (λ e. let s : r₁ ≡ r = cc in let u : p₁ ≡ p = cc in rw (s, u) (N .clear c i)))
-        (λ e. impossible (cc)) }
+  one-add = λ pre post r₁ v₁ p₁ e. snoc-cut h pre post (add r v p) (add r₁ v₁ p₁) e
+      (λ rest q z. P .one-add pre rest r₁ v₁ p₁ q)
+      (λ q z w. let s : r ≡ r₁ = cc in rw (← q, ← s) (N .new));
+  one-commit = λ pre post r₁ e. snoc-cut h pre post (add r v p) (commit r₁) e
+      (λ rest q z. P .one-commit pre rest r₁ q)
+      (λ q z w. impossible (cc));
+  follows = λ pre post r₁ e. snoc-cut h pre post (add r v p) (commit r₁) e
+      (λ rest q z. P .follows pre rest r₁ q)
+      (λ q z w. impossible (cc));
+  lower = λ r₁ v₁ p₁ m. by-last h m (P .lower r₁ v₁ p₁) (λ e. omega (arith, N .lower, add-inj e));
+  parent = λ pre post r₁ v₁ p₁ e g. snoc-cut h pre post (add r v p) (add r₁ v₁ p₁) e
+      (λ rest q z. P .parent pre rest r₁ v₁ p₁ q g)
+      (λ q z w. let s : p ≡ p₁ = cc in let u : v ≡ v₁ = cc in rw (← q, ← s, ← u) (N .parent (omega arith)));
+  uncrossed = λ r₁ v₁ p₁ c m k. by-last h k
+      (λ i. by-last h m (λ j. P .uncrossed r₁ v₁ p₁ c j i)
+      (λ e. let s : r₁ ≡ r = cc in let u : p₁ ≡ p = cc in rw (s, u) (N .clear c i)))
+      (λ e. impossible (cc));
+}
 grow valued h (commit r) P N = record {
-    one-add = λ pre post r₁ v₁ p₁ e. snoc-cut h pre post (commit r) (add r₁ v₁ p₁) e
-        (λ rest q z. P .one-add pre rest r₁ v₁ p₁ q)
-        (λ q z w. impossible (cc));
-    one-commit = λ pre post r₁ e. snoc-cut h pre post (commit r) (commit r₁) e
-        (λ rest q z. P .one-commit pre rest r₁ q)
-        (λ q z w. let s : r ≡ r₁ = cc in rw (← q, ← s) (N .new));
-    follows = λ pre post r₁ e. snoc-cut h pre post (commit r) (commit r₁) e
-        (λ rest q z. P .follows pre rest r₁ q)
-        (λ q z w. let s : r ≡ r₁ = cc in rw (← q, ← s) (N .follows));
-    lower = λ r₁ v₁ p₁ m. by-last h m (P .lower r₁ v₁ p₁) (λ e. impossible (cc));
-    parent = λ pre post r₁ v₁ p₁ e g. snoc-cut h pre post (commit r) (add r₁ v₁ p₁) e
-        (λ rest q z. P .parent pre rest r₁ v₁ p₁ q g)
-        (λ q z w. impossible (cc));
-    uncrossed = λ r₁ v₁ p₁ c m k. by-last h m
-        (λ j. by-last h k (λ i. P .uncrossed r₁ v₁ p₁ c j i)
-            (λ e. let s : c ≡ r = cc in rw s (any-none (edge-crosses r) h (N .clear) (add r₁ v₁ p₁) j)))
-        (λ e. impossible (cc)) }
+  one-add = λ pre post r₁ v₁ p₁ e. snoc-cut h pre post (commit r) (add r₁ v₁ p₁) e
+      (λ rest q z. P .one-add pre rest r₁ v₁ p₁ q)
+      (λ q z w. impossible (cc));
+  one-commit = λ pre post r₁ e. snoc-cut h pre post (commit r) (commit r₁) e
+      (λ rest q z. P .one-commit pre rest r₁ q)
+      (λ q z w. let s : r ≡ r₁ = cc in rw (← q, ← s) (N .new));
+  follows = λ pre post r₁ e. snoc-cut h pre post (commit r) (commit r₁) e
+      (λ rest q z. P .follows pre rest r₁ q)
+      (λ q z w. let s : r ≡ r₁ = cc in rw (← q, ← s) (N .follows));
+  lower = λ r₁ v₁ p₁ m. by-last h m (P .lower r₁ v₁ p₁) (λ e. impossible (cc));
+  parent = λ pre post r₁ v₁ p₁ e g. snoc-cut h pre post (commit r) (add r₁ v₁ p₁) e
+      (λ rest q z. P .parent pre rest r₁ v₁ p₁ q g)
+      (λ q z w. impossible (cc));
+  uncrossed = λ r₁ v₁ p₁ c m k. by-last h m
+      (λ j. by-last h k (λ i. P .uncrossed r₁ v₁ p₁ c j i)
+      (λ e. let s : c ≡ r = cc in rw s (any-none (edge-crosses r) h (N .clear) (add r₁ v₁ p₁) j)))
+      (λ e. impossible (cc));
+}
 
 -- a round is added with one value and one parent
 pub unique : (valued : Bool) (h : List Call) → Properties valued h → (r v p v′ p′ : ℕ) → add r v p ∈ h → add r v′ p′ ∈ h → (v ≡ v′) × (p ≡ p′)
 unique valued h P r v p v′ p′ m n =
     cut m (λ pre post e. ⊎-elim
-        (λ i. clash (adds-intro pre i) (P .one-add pre post r v p e))
-        (λ i. later pre post e i)
-        (List·Memᴰ·append-cases pre (subst (λ l. add r v′ p′ ∈ l) e n)))
+    (λ i. clash (adds-intro pre i) (P .one-add pre post r v p e))
+    (λ i. later pre post e i)
+    (List·Memᴰ·append-cases pre (subst (λ l. add r v′ p′ ∈ l) e n)))
   where
     later : (pre post : List Call) → h ≡ pre ++ add r v p ∷ post → add r v′ p′ ∈ add r v p ∷ post → (v ≡ v′) × (p ≡ p′)
     later pre post e (here q) = ((cc), (cc))
     later pre post e (there i) = cut i (λ pre₂ post₂ e₂.
         clash (adds-intro (pre ++ add r v p ∷ pre₂) (in-cut pre (add r v p) pre₂))
         (P .one-add (pre ++ add r v p ∷ pre₂) post₂ r v′ p′
-            (e ∙ ap (λ l. pre ++ add r v p ∷ l) e₂ ∙ sym (append-assoc pre (add r v p ∷ pre₂) (add r v′ p′ ∷ post₂)))))
+        (e ∙ ap (λ l. pre ++ add r v p ∷ l) e₂ ∙ sym (append-assoc pre (add r v p ∷ pre₂) (add r v′ p′ ∷ post₂)))))
 
 -- a committed round is added
 pub committed-added : (valued : Bool) (h : List Call) → Properties valued h → (r : ℕ) → commit r ∈ h → any (adds r) h ≡ true

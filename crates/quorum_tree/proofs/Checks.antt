@@ -3,17 +3,17 @@
 use mathlib.Core.Path.{_≡_, refl, sym, ap, _∙_, subst}
 use mathlib.Core.Bool.{Bool, true, false, _&&_}
 use mathlib.Core.List.{List, [], _∷_, _++_}
-use Prim.Native.Nat.{ℕ, zero, suc, _-_, _*_, _<_, _≤_}
+use Prim.Native.Nat.{ℕ, suc, _*_, _<_, _≤_}
 use native.Mathlib.Omega.{arith}
-use lib.ListN.{length, getD, drop, replicate}
+use lib.ListN.{length, getD, drop}
 use lib.Seq.{split-at}
 use lib.Dec.{leb, eqb}
 use borrow.Author.Tests.{eqb-true, leb-true, le-leb, le-ltb}
 use Rattle.laws.specs.Tests.{by-test, tests, and-left, and-right, and-intro, same-test}
 use Rattle.laws.specs.Lists.{_∈_, none-any}
 use Rattle.quorum_tree.specs.Machine.{Node, root, GHOST}
-use Rattle.quorum_tree.specs.Table.{sized, rows, words, table, row, rows-of, used, nodes, behind-root, is-tree}
-use Rattle.quorum_tree.specs.Check.{edge-over, crossed, fits, is-root, row-fits, fits-to, zeros-to, checks}
+use Rattle.quorum_tree.specs.Table.{sized, rows, table, row, rows-of, used, nodes, behind-root, is-tree}
+use Rattle.quorum_tree.specs.Check.{edge-over, crossed, is-root, row-fits, fits-to, zeros-to, checks}
 use Rattle.quorum_tree.proofs.Grown.{Grown, Placed, placed-cut}
 use Rattle.quorum_tree.proofs.Words.{length-rows, getD-rows, take-rows, row-in, in-row, rows-cut, words-rows, used-rows, free-word}
 use Rattle.quorum_tree.proofs.Fits.{Fit, fit-of, of-fit, root-of, first-row, later-row, fits-at, fits-all, zeros-all, zeros-drop}
@@ -49,8 +49,8 @@ module _ (valued : Bool) (ws : List ℕ) (n : ℕ) (some : 0 < n) (bound : n ≤
   rows-placed : (pre post : List Node) (x : Node) → behind-root (rows-of ws n) ≡ pre ++ x ∷ post → Placed valued (root ∷ pre) x
   rows-placed pre post x e =
       rows-cut ws n (root ∷ pre) post x (rows-rooted ∙ ap (λ l. root ∷ l) e) (λ i l a b.
-          let w : length (root ∷ pre) ≡ length (rows-of ws i) = ap length a in
-          rw (a, b) (later-fit i (omega (arith, length-rows ws i)) l .placed))
+      let w : length (root ∷ pre) ≡ length (rows-of ws i) = ap length a in
+      rw (a, b) (later-fit i (omega (arith, length-rows ws i)) l .placed))
 
   rows-stated : (x : Node) → x ∈ rows-of ws n → (0 < x .status) × (x .status ≤ 3)
   rows-stated x m = in-row ws n m (λ i l e.
@@ -66,11 +66,12 @@ module _ (valued : Bool) (ws : List ℕ) (n : ℕ) (some : 0 < n) (bound : n ≤
 
   rows-grown : Grown valued (rows ws) (rows-of ws n)
   rows-grown = record {
-      rooted = rows-rooted;
-      fit = λ p. omega (arith, length-rows ws n);
-      placed = rows-placed;
-      stated = rows-stated;
-      ghosts = rows-ghosts }
+    rooted = rows-rooted;
+    fit = λ p. omega (arith, length-rows ws n);
+    placed = rows-placed;
+    stated = rows-stated;
+    ghosts = rows-ghosts;
+  }
 
 checks-held : (valued : Bool) (ws : List ℕ) → checks valued ws ≡ true → Held valued ws
 unfolding table
@@ -78,12 +79,13 @@ checks-held valued ws h =
     let q : (leb 1 (used ws) && (fits-to valued ws (used ws) (used ws) && zeros-to ws (4 * used ws) (length ws))) ≡ true = sym (checks-says valued ws) ∙ h in
     let a : 0 < used ws = leb-true 1 (used ws) (and-left (leb 1 (used ws)) (fits-to valued ws (used ws) (used ws) && zeros-to ws (4 * used ws) (length ws)) q) in
     let b : (fits-to valued ws (used ws) (used ws) && zeros-to ws (4 * used ws) (length ws)) ≡ true =
-        and-right (leb 1 (used ws)) (fits-to valued ws (used ws) (used ws) && zeros-to ws (4 * used ws) (length ws)) q in
+    and-right (leb 1 (used ws)) (fits-to valued ws (used ws) (used ws) && zeros-to ws (4 * used ws) (length ws)) q in
     let f : fits-to valued ws (used ws) (used ws) ≡ true = and-left (fits-to valued ws (used ws) (used ws)) (zeros-to ws (4 * used ws) (length ws)) b in
     let z : zeros-to ws (4 * used ws) (length ws) ≡ true = and-right (fits-to valued ws (used ws) (used ws)) (zeros-to ws (4 * used ws) (length ws)) b in
     record {
-    grown = rows-grown valued ws (used ws) a (used-rows ws) f;
-    whole = sym (rw (length-rows ws (used ws), ← zeros-drop ws (4 * used ws) z) (words-rows ws (used ws) (omega (arith, used-rows ws)))) }
+      grown = rows-grown valued ws (used ws) a (used-rows ws) f;
+      whole = sym (rw (length-rows ws (used ws), ← zeros-drop ws (4 * used ws) z) (words-rows ws (used ws) (omega (arith, used-rows ws))));
+    }
 
 -- ---- and back
 
@@ -98,7 +100,7 @@ module _ (valued : Bool) (ws : List ℕ) (n : ℕ) (G : Grown valued (rows ws) (
   row-placed i p l =
       placed-cut valued (rows ws) (rows-of ws n) G (rows-of ws i) (drop (suc i) (rows-of ws n)) (row ws i)
       (split-at (rows-of ws n) i root (omega (arith, length-rows ws n)) ∙
-          rw (take-rows ws n i (omega arith), getD-rows ws n i l) refl)
+      rw (take-rows ws n i (omega arith), getD-rows ws n i l) refl)
       (omega (arith, length-rows ws i))
 
   row-all : (i : ℕ) → i < n → row-fits valued ws n i ≡ true
@@ -106,10 +108,11 @@ module _ (valued : Bool) (ws : List ℕ) (n : ℕ) (G : Grown valued (rows ws) (
       by-test (eqb i 0)
       (λ t. rw (eqb-true i 0 t) (first-row valued ws n ∙ ap is-root row-is-root))
       (λ t. later-row valued ws n i (omega tests) ∙ of-fit valued (rows-of ws i) (rows-of ws n) (row ws i)
-          (record {
-          placed = row-placed i (omega tests) l;
-          stated = G .stated (row ws i) (row-in ws n i l);
-          ghost = G .ghosts (row ws i) (row-in ws n i l) }))
+      (record {
+        placed = row-placed i (omega tests) l;
+        stated = G .stated (row ws i) (row-in ws n i l);
+        ghost = G .ghosts (row ws i) (row-in ws n i l);
+      }))
 
 held-checks : (valued : Bool) (ws : List ℕ) → Held valued ws → checks valued ws ≡ true
 held-checks valued ws H =
@@ -117,7 +120,7 @@ held-checks valued ws H =
     and-intro (le-leb 1 (used ws) (rows-some valued ws (used ws) (H .grown)))
     (and-intro (fits-all valued ws (used ws) (used ws) (row-all valued ws (used ws) (H .grown)))
     (zeros-all ws (4 * used ws) (length ws) (λ i l.
-        ap (λ x. getD x i 0) (H .whole) ∙ free-word (length ws) (nodes ws) i (omega (arith, length-rows ws (used ws))))))
+    ap (λ x. getD x i 0) (H .whole) ∙ free-word (length ws) (nodes ws) i (omega (arith, length-rows ws (used ws))))))
 
 -- the local tests decide which tables are trees
 pub checks-exact : (valued : Bool) (ws : List ℕ) → sized ws ≡ true → checks valued ws ≡ is-tree valued ws

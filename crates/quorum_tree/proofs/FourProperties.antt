@@ -1,12 +1,11 @@
 -- With rounds in range and a row for each add, each call of a list from fresh gets OK exactly if the list has the four properties.
 -- Assumes nothing.
-use mathlib.Core.Path.{_≡_, refl, sym, ap, _∙_, subst}
-use mathlib.Core.Bool.{Bool, true, false}
+use mathlib.Core.Path.{_≡_, refl, ap, _∙_, subst}
+use mathlib.Core.Bool.{Bool}
 use mathlib.Core.List.{List, [], _∷_, _++_, List·Memᴰ·head as here, List·Memᴰ·tail as there}
 use mathlib.Core.Logic.{_↔_}
-use Prim.Native.Nat.{ℕ, zero, suc, _+_, _<_}
+use Prim.Native.Nat.{ℕ, _<_}
 use native.Mathlib.Omega.{arith}
-use lib.Dec.{eqb}
 use lib.Seq.{append-snoc}
 use borrow.Author.Tests.{eq-eqb}
 use Rattle.laws.specs.Lists.{_∈_, in-cut}
@@ -35,21 +34,25 @@ unfolding answers
 each-ok valued rows [] h ns T P I b n m = elim m [ ]
 each-ok valued rows (c ∷ k) h ns T P I b n m =
     pick (λ i. each-ok valued rows k (h ++ c ∷ []) (step valued rows ns c)
-        (told-next valued rows h ns c T (eq-eqb (answer valued rows ns c) 0 z))
-        (rw e P) (rw e I) (rw e b) n i) m
+    (told-next valued rows h ns c T (eq-eqb (answer valued rows ns c) 0 z))
+    (rw e P) (rw e I) (rw e b) n i) m
   where
     A : Allowed valued rows h c
     A = record { next = next-of valued h c k P; ranged = I c (in-cut h c k); room = room-for rows h c k b }
+
     z : answer valued rows ns c ≡ 0
     z = rw (T .nodes) (allowed-ok valued rows h (T .story) c A)
+
     e : (h ++ c ∷ []) ++ k ≡ h ++ c ∷ k
     e = append-snoc h c k
+
     pick : (n ∈ answers valued rows (step valued rows ns c) k → n ≡ 0) → n ∈ answer valued rows ns c ∷ answers valued rows (step valued rows ns c) k → n ≡ 0
     pick rest (here q) = q ∙ z
     pick rest (there i) = rest i
 
 -- OK to each call exactly if the four properties hold
 pub ok-exactly : (valued : Bool) (rows : ℕ) (cs : List Call) → InRange cs → adds-in cs < rows → AllOk valued rows cs ↔ Properties valued cs
-ok-exactly valued rows cs I b =
-    (λ f. subst (λ l. Properties valued l) (all-accepted valued rows fresh cs f) (told valued rows cs .story .properties),
-    λ P. each-ok valued rows cs [] fresh (told-fresh valued rows) P I b)
+ok-exactly valued rows cs I b = (
+  λ f. subst (λ l. Properties valued l) (all-accepted valued rows fresh cs f) (told valued rows cs .story .properties),
+  λ P. each-ok valued rows cs [] fresh (told-fresh valued rows) P I b,
+)

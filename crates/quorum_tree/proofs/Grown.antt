@@ -1,20 +1,20 @@
 -- What holds of the nodes that calls from fresh leave, and what follows from it by walking down the parents: a round that no edge
 -- crosses is an ancestor of every higher one, and an absent round below a present one is crossed. Assumes nothing.
 use mathlib.Core.Path.{_≡_, refl, sym, ap, _∙_, subst}
-use mathlib.Core.Bool.{Bool, true, false, _&&_, _||_, not}
+use mathlib.Core.Bool.{Bool, true, false}
 use mathlib.Core.Logic.{_≢_}
-use mathlib.Core.List.{List, [], _∷_, _++_, List·Memᴰ·head as here, List·Memᴰ·tail as there, Memᴰ·append-right}
+use mathlib.Core.List.{List, [], _∷_, _++_, List·Memᴰ·head as here, List·Memᴰ·tail as there}
 use Prim.Native.Nat.{ℕ, zero, suc, _<_, _≤_}
 use native.Mathlib.Omega.{arith}
 use lib.ListN.{length}
-use lib.Dec.{ltb, leb, eqb}
-use borrow.Author.Tests.{eqb-true, ltb-true, ltb-false, lt-ltb, le-ltb, eq-eqb, ne-eqb}
+use lib.Dec.{ltb, eqb}
+use borrow.Author.Tests.{eqb-true, lt-ltb, ne-eqb}
 use Rattle.laws.specs.Tests.{by-test, clash, tests, and-intro}
-use Rattle.laws.specs.Lists.{_∈_, any, any-intro, any-elim, any-none, cut}
-use Rattle.quorum_tree.specs.Machine.{Node, node, root, ADDED, GHOST, COMMITTED, crosses, has-round, present, find, path, path-in, ancestor, strikes}
+use Rattle.laws.specs.Lists.{_∈_, any-intro, any-none, cut}
+use Rattle.quorum_tree.specs.Machine.{Node, root, GHOST, present, find}
 use Rattle.quorum_tree.specs.Table.{behind-root}
 use Rattle.quorum_tree.specs.Check.{edge-over, crossed}
-use Rattle.quorum_tree.proofs.Nodes.{find-in, find-round, in-present, present-in, present-left, find-left, find-new}
+use Rattle.quorum_tree.proofs.Nodes.{in-present, present-in, present-left, find-left, find-new}
 
 -- a node behind the root, beside the nodes before it
 pub record Placed (valued : Bool) (earlier : List Node) (n : Node) : Type 0 where
@@ -92,7 +92,7 @@ module _ (valued : Bool) (rows : ℕ) (ns : List Node) (G : Grown valued rows ns
       by-place m
       (λ e. absurd (omega (arith, ap (λ x. x .parent) e)))
       (λ pre post e P. subst (λ l. n .value ≡ find (n .parent) l .value) (sym e)
-          (rw (find-left (n .parent) (root ∷ pre) (n ∷ post) (P .parent-there)) (P .same-value v h)))
+      (rw (find-left (n .parent) (root ∷ pre) (n ∷ post) (P .parent-there)) (P .same-value v h)))
 
   -- an ADDED or COMMITTED round is crossed by no edge
   pub uncrossed-in : (n : Node) → n ∈ ns → n .status ≢ GHOST → crossed (n .round) ns ≡ false
@@ -108,9 +108,9 @@ module _ (valued : Bool) (rows : ℕ) (ns : List Node) (G : Grown valued rows ns
           by-test (ltb (x .parent) c)
           (λ t. any-intro (edge-over c) ns i (and-intro t (lt-ltb c (x .round) h)))
           (λ t. present-in (x .parent) ns (parent-in x i) (λ y j e.
-              by-test (eqb (x .parent) c)
-              (λ s. clash (subst (λ z. present z ns ≡ true) (eqb-true (x .parent) c s) (parent-in x i)) a)
-              (λ s. walk k y j (omega (tests, lower-in x i (omega arith))) (omega tests))))
+          by-test (eqb (x .parent) c)
+          (λ s. clash (subst (λ z. present z ns ≡ true) (eqb-true (x .parent) c s) (parent-in x i)) a)
+          (λ s. walk k y j (omega (tests, lower-in x i (omega arith))) (omega tests))))
 
   -- a value goes down from an uncrossed round to every node at or above it
   pub value-above : valued ≡ true → (c : Node) → c ∈ ns → 0 < c .round → crossed (c .round) ns ≡ false →
@@ -123,6 +123,6 @@ module _ (valued : Bool) (rows : ℕ) (ns : List Node) (G : Grown valued rows ns
           by-test (eqb (x .round) (c .round))
           (λ s. ap (λ y. y .value) (sym (found x j) ∙ ap (λ z. find z ns) (eqb-true (x .round) (c .round) s) ∙ found c i))
           (λ s. let low : x .parent < x .round = lower-in x j (omega arith) in
-              let up : c .round ≤ x .parent = parent-above (c .round) ns u x j (omega tests) in
-              present-in (x .parent) ns (parent-in x j) (λ y q e.
-                  value-in v x j (omega arith) ∙ ap (λ z. z .value) (sym (ap (λ z. find z ns) e) ∙ found y q) ∙ walk k y q (omega arith) (omega arith)))
+          let up : c .round ≤ x .parent = parent-above (c .round) ns u x j (omega tests) in
+          present-in (x .parent) ns (parent-in x j) (λ y q e.
+          value-in v x j (omega arith) ∙ ap (λ z. z .value) (sym (ap (λ z. find z ns) e) ∙ found y q) ∙ walk k y q (omega arith) (omega arith)))

@@ -1,20 +1,18 @@
 -- A step keeps a tree, and on a tree the calls on words are the steps on nodes. Assumes nothing.
 use mathlib.Core.Path.{_≡_, refl, sym, ap, _∙_, subst}
-use mathlib.Core.Bool.{Bool, true, false, cond, not}
+use mathlib.Core.Bool.{Bool, true, false}
 use mathlib.Core.List.{List, [], _∷_, _++_}
-use Prim.Native.Nat.{ℕ, zero, suc, _*_, _/_, _<_, _≤_}
-use native.Mathlib.Omega.{arith}
+use Prim.Native.Nat.{ℕ, _/_, _<_}
 use lib.ListN.{length}
 use lib.Dec.{eqb}
 use Rattle.laws.specs.Tests.{by-test}
-use Rattle.laws.specs.First.{first, zero-of}
-use Rattle.quorum_tree.specs.Machine.{Call, Node, root, fresh, causes, answer, change, step, after}
-use Rattle.quorum_tree.specs.Table.{sized, rows, table, Tree, nodes, calls-of, is-tree, table-causes, call-number, call-table, fresh-number, fresh-table}
+use Rattle.quorum_tree.specs.Machine.{Call, Node, fresh, answer, change, step, after}
+use Rattle.quorum_tree.specs.Table.{sized, rows, table, Tree, nodes, calls-of, call-number, call-table, fresh-table}
 use Rattle.quorum_tree.proofs.Grown.{Grown}
 use Rattle.quorum_tree.proofs.History.{all-grown, step-ok, step-refused}
 use Rattle.quorum_tree.proofs.Regrown.{regrown}
 use Rattle.quorum_tree.proofs.Words.{length-table}
-use Rattle.quorum_tree.proofs.Trees.{Held, held-of, tree-held, held-is-tree, sized-rows, grown-fit}
+use Rattle.quorum_tree.proofs.Trees.{Held, tree-held, held-is-tree, sized-rows, grown-fit}
 
 pub after-append : (valued : Bool) (k : ℕ) (ns : List Node) (cs ds : List Call) → after valued k ns (cs ++ ds) ≡ after valued k (after valued k ns cs) ds
 unfolding after
@@ -37,7 +35,7 @@ step-grown valued k ns c G pos =
 pub written-tree : (valued : Bool) (ws : List ℕ) (cs : List Call) → sized ws ≡ true → Tree valued (table (length ws) (after valued (rows ws) fresh cs))
 written-tree valued ws cs h =
     let e : length (table (length ws) (after valued (rows ws) fresh cs)) ≡ length ws =
-        length-table (length ws) (after valued (rows ws) fresh cs) (grown-fit valued ws (after valued (rows ws) fresh cs) h (all-grown valued (rows ws) cs)) in
+    length-table (length ws) (after valued (rows ws) fresh cs) (grown-fit valued ws (after valued (rows ws) fresh cs) h (all-grown valued (rows ws) cs)) in
     record { calls = cs; left = ap (λ l. table l (after valued (l / 4) fresh cs)) e }
 
 pub table-ok : (valued : Bool) (ws : List ℕ) (c : Call) → eqb (call-number valued ws c) 0 ≡ true → call-table valued ws c ≡ table (length ws) (change (nodes ws) c)

@@ -1,17 +1,17 @@
 -- Rows and words: what is written for nodes reads back as these nodes, and the rows of a table are its words. Assumes nothing.
-use mathlib.Core.Path.{_≡_, refl, sym, ap, _∙_, subst}
+use mathlib.Core.Path.{_≡_, refl, sym, ap, _∙_}
 use mathlib.Core.Bool.{Bool, true, false, _||_}
-use mathlib.Core.List.{List, [], _∷_, _++_, append-assoc, append-nil, List·Memᴰ·head as here, List·Memᴰ·tail as there, Memᴰ·append-left}
+use mathlib.Core.List.{List, [], _∷_, _++_, append-assoc, List·Memᴰ·head as here, List·Memᴰ·tail as there, Memᴰ·append-left}
 use mathlib.Core.Logic.{_≢_}
-use Prim.Native.Nat.{ℕ, zero, suc, _+_, _-_, _*_, _/_, _%_, _<_, _≤_}
+use Prim.Native.Nat.{ℕ, zero, suc, _+_, _-_, _*_, _<_, _≤_}
 use native.Mathlib.Omega.{arith}
-use lib.ListN.{length, getD, take, drop, replicate, length-append, length-replicate, getD-replicate, List·getD-append, List·getD-eq-default}
+use lib.ListN.{length, getD, take, drop, replicate, length-append, length-replicate, List·getD-append}
 use lib.Seq.{take-suc, take-length, take-all, take-append-le, take-append-seam, drop-cons, getD-append-add, getD-append-seam, getD-at}
-use lib.Dec.{eqb, leb, ltb}
+use lib.Dec.{eqb}
 use borrow.Author.Tests.{ne-eqb, eq-eqb, eqb-true}
-use Rattle.laws.specs.Tests.{by-test, clash, tests}
+use Rattle.laws.specs.Tests.{by-test, tests}
 use Rattle.laws.specs.Lists.{_∈_, any, any-snoc, by-last, in-last}
-use Rattle.quorum_tree.specs.Machine.{Node, node, root}
+use Rattle.quorum_tree.specs.Machine.{Node, root}
 use Rattle.quorum_tree.specs.Table.{words, table, row, rows, rows-of, used, used-from, nodes}
 
 pub length-words : (ns : List Node) → length (words ns) ≡ 4 * length ns
@@ -79,8 +79,8 @@ getD-rows ws zero i h = absurd (omega arith)
 getD-rows ws (suc n) i h =
     rw (rows-suc ws n)
     (by-test (eqb i n)
-        (λ t. rw (eqb-true i n t) (getD-at (rows-of ws n) (row ws n) [] root n (length-rows ws n)))
-        (λ t. List·getD-append (rows-of ws n) (row ws n ∷ []) root i (omega (tests, length-rows ws n)) ∙ getD-rows ws n i (omega tests)))
+    (λ t. rw (eqb-true i n t) (getD-at (rows-of ws n) (row ws n) [] root n (length-rows ws n)))
+    (λ t. List·getD-append (rows-of ws n) (row ws n ∷ []) root i (omega (tests, length-rows ws n)) ∙ getD-rows ws n i (omega tests)))
 
 pub take-rows : (ws : List ℕ) (n i : ℕ) → i ≤ n → take i (rows-of ws n) ≡ rows-of ws i
 take-rows ws zero i h = let e : i ≡ 0 = omega arith in rw e (take-all 0 (rows-of ws 0) (omega (arith, length-rows ws 0)))
@@ -94,8 +94,8 @@ row-in ws zero i h = absurd (omega arith)
 row-in ws (suc n) i h =
     rw (rows-suc ws n)
     (by-test (eqb i n)
-        (λ t. rw (eqb-true i n t) (in-last (rows-of ws n) (row ws n)))
-        (λ t. Memᴰ·append-left (row ws n ∷ []) (row-in ws n i (omega tests))))
+    (λ t. rw (eqb-true i n t) (in-last (rows-of ws n) (row ws n)))
+    (λ t. Memᴰ·append-left (row ws n ∷ []) (row-in ws n i (omega tests))))
 
 -- a member is some row
 pub in-row {κ} : {C : Type κ} (ws : List ℕ) (n : ℕ) {x : Node} → x ∈ rows-of ws n → ((i : ℕ) → i < n → x ≡ row ws i → C) → C
@@ -132,6 +132,7 @@ words-rows ws (suc n) h =
   where
     link : (j k : ℕ) → j < length ws → suc j ≡ k → drop j ws ≡ getD ws j 0 ∷ drop k ws
     link j k l e = drop-cons ws j 0 l ∙ ap (λ x. getD ws j 0 ∷ drop x ws) e
+
     four : row ws n .round ∷ row ws n .parent ∷ row ws n .value ∷ row ws n .status ∷ drop (4 * suc n) ws ≡ drop (4 * n) ws
     four = sym (link (4 * n) (4 * n + 1) (omega arith) (omega arith) ∙ ap (λ l. getD ws (4 * n) 0 ∷ l)
         (link (4 * n + 1) (4 * n + 2) (omega arith) (omega arith) ∙ ap (λ l. getD ws (4 * n + 1) 0 ∷ l)
@@ -159,9 +160,9 @@ used-is ws m zero i a b f g = used-zero ws i ∙ omega arith
 used-is ws m (suc k) i a b f g =
     by-test (eqb i m)
     (λ t. let e : i ≡ m = eqb-true i m t in
-        used-stop ws k i (eq-eqb (row ws i .status) 0 (rw e (g (omega arith)))) ∙ e)
+    used-stop ws k i (eq-eqb (row ws i .status) 0 (rw e (g (omega arith)))) ∙ e)
     (λ t. used-go ws k i (ne-eqb (row ws i .status) 0 (f i (omega tests))) ∙
-        used-is ws m k (suc i) (omega tests) (omega arith) f (λ l. g (omega arith)))
+    used-is ws m k (suc i) (omega tests) (omega arith) f (λ l. g (omega arith)))
 
 used-bound : (ws : List ℕ) (k i : ℕ) → used-from ws k i ≤ i + k
 used-bound ws zero i = rw (used-zero ws i) (omega arith)
