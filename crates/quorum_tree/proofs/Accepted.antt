@@ -1,23 +1,23 @@
 -- One call on rebuilt nodes: it gets OK exactly if the four properties allow it after the accepted calls (and there is a row), and
 -- then the nodes are those rebuilt with it. Assumes nothing.
-use mathlib.Core.Path.{_≡_, refl, sym, ap, _∙_, subst}
-use mathlib.Core.Bool.{Bool, true, false, cond, _&&_, _||_, not, and-false, or-false, or-true}
-use mathlib.Core.List.{List, [], _∷_, _++_, map, append-nil, List·Memᴰ·head as here, List·Memᴰ·tail as there, Memᴰ·append-left}
-use Prim.Native.Nat.{ℕ, zero, suc, _+_, _<_, _≤_}
+use mathlib.Core.Path.{_≡_, refl, sym, _∙_}
+use mathlib.Core.Bool.{Bool, true, false, cond, _&&_, _||_, and-false, or-false}
+use mathlib.Core.List.{List, [], _∷_, _++_, append-nil, List·Memᴰ·head as here, List·Memᴰ·tail as there}
+use Prim.Native.Nat.{ℕ, suc, _+_, _<_}
 use native.Mathlib.Omega.{arith}
 use lib.ListN.{length}
-use lib.Dec.{ltb, leb, eqb}
+use lib.Dec.{ltb, eqb}
 use borrow.Author.Tests.{eqb-true, eq-eqb, ne-eqb, le-ltb, not-false, leb-false, lt-leb, ltb-true}
-use Rattle.laws.specs.Tests.{by-test, clash, tests, and-left, and-right, and-intro, and-cases, or-left, or-right, or-cases, same-test}
+use Rattle.laws.specs.Tests.{by-test, clash, tests, and-right, or-left, same-test}
 use Rattle.laws.specs.Lists.{_∈_, any, any-snoc, any-intro, any-elim, any-none, none-any, every-snoc}
 use Rattle.laws.specs.First.{passed, zero-of}
 use Rattle.ids.specs.Ranges.{out-of-range, above-range}
-use Rattle.quorum_tree.specs.Machine.{Call, add, commit, Node, node, root, ADDED, GHOST, COMMITTED, crosses, has-round, present, find, above, blocks, other-value, strikes, struck, new-node, committed, causes, answer, change}
-use Rattle.quorum_tree.specs.Properties.{Properties, InRange, history, round-of, adds-in, adds, commits, adds-with, edge-crosses}
-use Rattle.quorum_tree.proofs.Grown.{Grown, absent-crossed}
+use Rattle.quorum_tree.specs.Machine.{Call, add, commit, Node, ADDED, GHOST, COMMITTED, crosses, present, find, above, blocks, other-value, struck, new-node, committed, causes, answer, change}
+use Rattle.quorum_tree.specs.Properties.{history, round-of, adds-in, adds, commits, adds-with, edge-crosses}
+use Rattle.quorum_tree.proofs.Grown.{absent-crossed}
 use Rattle.quorum_tree.proofs.Paths.{crossing-alone}
 use Rattle.quorum_tree.proofs.Calls.{Next, AddNext, CommitNext, grow, adds-elim, commits-elim, edge-elim, adds-intro, commits-intro, adds-with-elim, adds-with-intro, committed-added, adds-in-append}
-use Rattle.quorum_tree.proofs.Rebuilt.{made, added, rebuilt, Story, grown, added-append, length-added, in-added, of-added, map-added, crossed-rebuilt, present-rebuilt, find-rebuilt, round-positive}
+use Rattle.quorum_tree.proofs.Rebuilt.{cons-same, history-committed, history-ghost, made, added, rebuilt, Story, grown, added-append, length-added, in-added, of-added, map-added, crossed-rebuilt, present-rebuilt, find-rebuilt, round-positive}
 
 -- an add needs a row beside those used
 abbrev pub Room : ℕ → List Call → Call → Type 0
@@ -28,21 +28,6 @@ pub record Allowed (valued : Bool) (rows : ℕ) (h : List Call) (c : Call) : Typ
   pub next : Next valued h c
   pub ranged : out-of-range (round-of c) ≡ false
   pub room : Room rows h c
-
--- the history status of an added round says whether it is committed
-history-committed : (h : List Call) (r : ℕ) → 0 < r → eqb (history h r) COMMITTED ≡ any (commits r) h
-unfolding history
-history-committed h r pos =
-    rw (ne-eqb r 0 (omega arith))
-    (by-test (any (commits r) h)
-    (λ t. rw t refl)
-    (λ t. by-test (any (edge-crosses r) h) (λ s. rw (t, s) refl) (λ s. rw (t, s) refl)))
-
-history-ghost : (h : List Call) (r : ℕ) → 0 < r → any (commits r) h ≡ false → eqb (history h r) GHOST ≡ any (edge-crosses r) h
-unfolding history
-history-ghost h r pos t =
-    rw (ne-eqb r 0 (omega arith), t)
-    (by-test (any (edge-crosses r) h) (λ s. rw s refl) (λ s. rw s refl))
 
 in-range-positive : (r : ℕ) → out-of-range r ≡ false → 0 < r
 in-range-positive r h = omega (tests, or-left (eqb r 0) (above-range r) h)
@@ -78,9 +63,6 @@ history-commit h r s =
     law false true false y = refl
     law false false true y = refl
     law false false false y = refl
-
-cons-same : {x y : Node} {l k : List Node} → x ≡ y → l ≡ k → x ∷ l ≡ y ∷ k
-cons-same a b = cc
 
 module _ (valued : Bool) (rows : ℕ) (h : List Call) (S : Story valued rows h) where
   -- no COMMITTED node is crossed exactly if no committed round is

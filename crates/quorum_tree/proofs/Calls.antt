@@ -1,23 +1,20 @@
 -- The four properties call by call: a list has them exactly if each call has, beside the calls before it, what `Next` says.
 -- Assumes nothing.
 use mathlib.Core.Path.{_≡_, refl, sym, ap, _∙_, subst}
-use mathlib.Core.Bool.{Bool, true, false, _&&_, _||_, not}
-use mathlib.Core.List.{List, [], _∷_, _++_, append-assoc, List·Memᴰ·head as here, List·Memᴰ·tail as there, List·Memᴰ·append-cases, Memᴰ·append-left, Memᴰ·append-right}
+use mathlib.Core.Bool.{Bool, true, false, _||_, not}
+use mathlib.Core.List.{List, [], _∷_, _++_, append-assoc, List·Memᴰ·head as here, List·Memᴰ·tail as there, List·Memᴰ·append-cases, Memᴰ·append-left}
 use mathlib.Core.Logic.{⊎-elim}
-use Prim.Native.Nat.{ℕ, zero, suc, _+_, _<_}
+use Prim.Native.Nat.{ℕ, _+_, _<_}
 use native.Mathlib.Omega.{arith}
-use lib.Dec.{ltb, leb, eqb}
+use lib.Dec.{eqb}
 use borrow.Author.Tests.{eqb-true, eq-eqb}
-use Rattle.laws.specs.Tests.{by-test, clash, tests, impossible, and-left, and-right}
-use Rattle.laws.specs.Lists.{_∈_, any, any-append, any-intro, any-elim, any-none, none-any, by-last, in-last, cut, in-cut, snoc-cut}
+use Rattle.laws.specs.Tests.{by-test, clash, impossible, or-left, and-left, and-right}
+use Rattle.laws.specs.Lists.{_∈_, any, any-append, any-intro, any-elim, any-none, none-any, by-last, cut, in-cut, snoc-cut}
 use Rattle.quorum_tree.specs.Machine.{Call, add, commit, crosses}
 use Rattle.quorum_tree.specs.Properties.{Properties, adds, commits, adds-with, edge-crosses, adds-in}
 
 pub add-inj : {r v p r′ v′ p′ : ℕ} → add r v p ≡ add r′ v′ p′ → (r ≡ r′) × (v ≡ v′) × (p ≡ p′)
 add-inj e = ((cc), (cc), (cc))
-
-pub commit-inj : {r r′ : ℕ} → commit r ≡ commit r′ → r ≡ r′
-commit-inj e = cc
 
 -- an add of round c among the calls, handed on; and a commit
 pub adds-elim {κ} : {C : Type κ} (c : ℕ) (h : List Call) → any (adds c) h ≡ true → ((v p : ℕ) → add c v p ∈ h → C) → C
@@ -95,6 +92,14 @@ none valued = record {
     no-cut [] post c e = impossible (cc)
     no-cut (x ∷ pre) post c e = impossible (cc)
 
+-- no edge crosses a committed round
+pub committed-uncrossed : (valued : Bool) (h : List Call) → Properties valued h → (r : ℕ) → commit r ∈ h → any (edge-crosses r) h ≡ false
+committed-uncrossed valued h P r m = none-any (edge-crosses r) h each
+  where
+    each : (a : Call) → a ∈ h → edge-crosses r a ≡ false
+    each (add s v p) i = P .uncrossed s v p r i m
+    each (commit s) i = refl
+
 -- the properties pass to what stands in front
 pub prefix : (valued : Bool) (h k : List Call) → Properties valued (h ++ k) → Properties valued h
 prefix valued h k P = record {
@@ -119,12 +124,9 @@ next-of valued h (add r v p) k P = record {
 next-of valued h (commit r) k P = record {
   follows = P .follows h k r refl;
   new = P .one-commit h k r refl;
-  clear = none-any (edge-crosses r) h each;
+  clear = or-left (any (edge-crosses r) h) (any (edge-crosses r) (commit r ∷ k))
+      (sym (any-append (edge-crosses r) h (commit r ∷ k)) ∙ committed-uncrossed valued (h ++ commit r ∷ k) P r (in-cut h (commit r) k));
 }
-  where
-    each : (a : Call) → a ∈ h → edge-crosses r a ≡ false
-    each (add s v p) m = P .uncrossed s v p r (Memᴰ·append-left (commit r ∷ k) m) (in-cut h (commit r) k)
-    each (commit s) m = refl
 
 pub grow : (valued : Bool) (h : List Call) (c : Call) → Properties valued h → Next valued h c → Properties valued (h ++ c ∷ [])
 grow valued h (add r v p) P N = record {

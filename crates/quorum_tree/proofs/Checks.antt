@@ -3,17 +3,17 @@
 use mathlib.Core.Path.{_≡_, refl, sym, ap, _∙_, subst}
 use mathlib.Core.Bool.{Bool, true, false, _&&_}
 use mathlib.Core.List.{List, [], _∷_, _++_}
-use Prim.Native.Nat.{ℕ, zero, suc, _-_, _*_, _<_, _≤_}
+use Prim.Native.Nat.{ℕ, suc, _*_, _<_, _≤_}
 use native.Mathlib.Omega.{arith}
-use lib.ListN.{length, getD, drop, replicate}
+use lib.ListN.{length, getD, drop}
 use lib.Seq.{split-at}
 use lib.Dec.{leb, eqb}
 use borrow.Author.Tests.{eqb-true, leb-true, le-leb, le-ltb}
 use Rattle.laws.specs.Tests.{by-test, tests, and-left, and-right, and-intro, same-test}
 use Rattle.laws.specs.Lists.{_∈_, none-any}
 use Rattle.quorum_tree.specs.Machine.{Node, root, GHOST}
-use Rattle.quorum_tree.specs.Table.{sized, rows, words, table, row, rows-of, used, nodes, behind-root, is-tree}
-use Rattle.quorum_tree.specs.Check.{edge-over, crossed, fits, is-root, row-fits, fits-to, zeros-to, checks}
+use Rattle.quorum_tree.specs.Table.{sized, rows, table, row, rows-of, used, nodes, behind-root, is-tree}
+use Rattle.quorum_tree.specs.Check.{edge-over, crossed, is-root, row-fits, fits-to, zeros-to, checks}
 use Rattle.quorum_tree.proofs.Grown.{Grown, Placed, placed-cut}
 use Rattle.quorum_tree.proofs.Words.{length-rows, getD-rows, take-rows, row-in, in-row, rows-cut, words-rows, used-rows, free-word}
 use Rattle.quorum_tree.proofs.Fits.{Fit, fit-of, of-fit, root-of, first-row, later-row, fits-at, fits-all, zeros-all, zeros-drop}

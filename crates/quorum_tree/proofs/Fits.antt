@@ -1,20 +1,19 @@
 -- The local tests of a table, read as facts and back. Assumes nothing.
-use mathlib.Core.Path.{_≡_, refl, sym, ap, _∙_, subst}
-use mathlib.Core.Bool.{Bool, true, false, cond, _&&_, _||_, not, and-false, or-true}
-use mathlib.Core.List.{List, [], _∷_, _++_}
-use Prim.Native.Nat.{ℕ, zero, suc, _+_, _-_, _*_, _<_, _≤_}
+use mathlib.Core.Path.{_≡_, refl, sym, _∙_}
+use mathlib.Core.Bool.{Bool, true, false, _&&_, _||_, not}
+use mathlib.Core.List.{List}
+use Prim.Native.Nat.{ℕ, zero, suc, _+_, _-_, _<_, _≤_}
 use native.Mathlib.Omega.{arith}
 use lib.ListN.{length, getD, drop, replicate, length-drop, length-replicate, getD-replicate}
 use lib.Seq.{ext-getD, getD-drop}
-use lib.Dec.{ltb, leb, eqb}
+use lib.Dec.{ltb, eqb}
 use borrow.Author.Tests.{eqb-true, eq-eqb, ne-eqb, lt-ltb, le-ltb, ltb-true, not-true, not-false}
-use Rattle.laws.specs.Tests.{by-test, clash, tests, and-left, and-right, and-intro, or-left, or-right, or-cases, or-none}
+use Rattle.laws.specs.Tests.{by-test, tests, and-left, and-right, and-intro, or-right, or-cases, or-none}
 use Rattle.laws.specs.Conjunction.{and-four}
-use Rattle.laws.specs.Lists.{_∈_, any}
 use Rattle.ids.specs.Ranges.{out-of-range, above-range}
-use Rattle.quorum_tree.specs.Machine.{Node, node, root, ADDED, GHOST, COMMITTED, crosses, present, find, other-value}
-use Rattle.quorum_tree.specs.Table.{row, rows-of, used}
-use Rattle.quorum_tree.specs.Check.{edge-over, crossed, round-fits, parent-fits, value-fits, status-fits, fits, is-root, row-fits, fits-to, zeros-to, checks}
+use Rattle.quorum_tree.specs.Machine.{Node, root, ADDED, GHOST, COMMITTED, present, find, other-value}
+use Rattle.quorum_tree.specs.Table.{row, rows-of}
+use Rattle.quorum_tree.specs.Check.{crossed, round-fits, parent-fits, value-fits, status-fits, fits, is-root, row-fits, fits-to, zeros-to}
 use Rattle.quorum_tree.proofs.Grown.{Placed}
 
 pub record Fit (valued : Bool) (earlier all : List Node) (n : Node) : Type 0 where

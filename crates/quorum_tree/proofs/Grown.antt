@@ -1,20 +1,20 @@
 -- What holds of the nodes that calls from fresh leave, and what follows from it by walking down the parents: a round that no edge
 -- crosses is an ancestor of every higher one, and an absent round below a present one is crossed. Assumes nothing.
 use mathlib.Core.Path.{_≡_, refl, sym, ap, _∙_, subst}
-use mathlib.Core.Bool.{Bool, true, false, _&&_, _||_, not}
+use mathlib.Core.Bool.{Bool, true, false}
 use mathlib.Core.Logic.{_≢_}
-use mathlib.Core.List.{List, [], _∷_, _++_, List·Memᴰ·head as here, List·Memᴰ·tail as there, Memᴰ·append-right}
+use mathlib.Core.List.{List, [], _∷_, _++_, List·Memᴰ·head as here, List·Memᴰ·tail as there}
 use Prim.Native.Nat.{ℕ, zero, suc, _<_, _≤_}
 use native.Mathlib.Omega.{arith}
 use lib.ListN.{length}
-use lib.Dec.{ltb, leb, eqb}
-use borrow.Author.Tests.{eqb-true, ltb-true, ltb-false, lt-ltb, le-ltb, eq-eqb, ne-eqb}
+use lib.Dec.{ltb, eqb}
+use borrow.Author.Tests.{eqb-true, lt-ltb, ne-eqb}
 use Rattle.laws.specs.Tests.{by-test, clash, tests, and-intro}
-use Rattle.laws.specs.Lists.{_∈_, any, any-intro, any-elim, any-none, cut}
-use Rattle.quorum_tree.specs.Machine.{Node, node, root, ADDED, GHOST, COMMITTED, crosses, has-round, present, find, path, path-in, ancestor, strikes}
+use Rattle.laws.specs.Lists.{_∈_, any-intro, any-none, cut}
+use Rattle.quorum_tree.specs.Machine.{Node, root, GHOST, present, find}
 use Rattle.quorum_tree.specs.Table.{behind-root}
 use Rattle.quorum_tree.specs.Check.{edge-over, crossed}
-use Rattle.quorum_tree.proofs.Nodes.{find-in, find-round, in-present, present-in, present-left, find-left, find-new}
+use Rattle.quorum_tree.proofs.Nodes.{in-present, present-in, present-left, find-left, find-new}
 
 -- a node behind the root, beside the nodes before it
 pub record Placed (valued : Bool) (earlier : List Node) (n : Node) : Type 0 where

@@ -1,16 +1,15 @@
 -- After any list of calls from fresh, refused ones included, the nodes are those rebuilt from the accepted calls: so each status is
 -- the history status of these. By induction on the list, with the calls accepted so far. Assumes nothing.
 use mathlib.Core.Path.{_≡_, refl, sym, ap, _∙_, subst}
-use mathlib.Core.Bool.{Bool, true, false, cond}
+use mathlib.Core.Bool.{Bool, true, false}
 use mathlib.Core.List.{List, [], _∷_, _++_, append-nil, List·Memᴰ·head as here, List·Memᴰ·tail as there}
-use Prim.Native.Nat.{ℕ, zero, suc, _<_}
-use native.Mathlib.Omega.{arith}
+use Prim.Native.Nat.{ℕ}
 use lib.Dec.{eqb}
 use lib.Seq.{append-snoc}
 use borrow.Author.Tests.{eqb-true}
 use Rattle.laws.specs.Tests.{by-test}
 use Rattle.laws.specs.Lists.{_∈_}
-use Rattle.quorum_tree.specs.Machine.{Call, add, commit, Node, fresh, answer, change, step, after, accepted}
+use Rattle.quorum_tree.specs.Machine.{Call, Node, fresh, answer, change, step, after, accepted}
 use Rattle.quorum_tree.specs.Properties.{history, adds-in}
 use Rattle.quorum_tree.proofs.Grown.{Grown}
 use Rattle.quorum_tree.proofs.Calls.{none}

@@ -15,3 +15,4 @@ pub mod Words
 pub mod Fits
 pub mod Trees
 pub mod Checks
+pub mod Steps

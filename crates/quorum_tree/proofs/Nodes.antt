@@ -1,12 +1,12 @@
 -- Nodes looked up by round: a present round is found, and it is found in the first part of a list that has it.
 -- Assumes nothing.
 use mathlib.Core.Path.{_≡_, refl}
-use mathlib.Core.Bool.{true, false, _||_}
+use mathlib.Core.Bool.{true, false}
 use mathlib.Core.List.{List, [], _∷_, _++_, List·Memᴰ·head as here, List·Memᴰ·tail as there}
 use Prim.Native.Nat.{ℕ}
 use borrow.Author.Tests.{eq-eqb, eqb-true}
 use Rattle.laws.specs.Tests.{by-test, clash}
-use Rattle.laws.specs.Lists.{_∈_, any-append, any-intro, any-elim, any-none}
+use Rattle.laws.specs.Lists.{_∈_, any-append, any-intro, any-elim}
 use Rattle.quorum_tree.specs.Machine.{Node, has-round, present, find}
 
 pub find-in : (c : ℕ) (ns : List Node) → present c ns ≡ true → find c ns ∈ ns

@@ -1,23 +1,24 @@
 -- Paths of grown nodes: the fuel of `path-in` doesn't matter, an uncrossed round stands on the path of every higher one, and so an
 -- add strikes exactly the ADDED nodes that its edge crosses. Assumes nothing.
 use mathlib.Core.Path.{_≡_, refl, sym, ap, _∙_, subst}
-use mathlib.Core.Bool.{Bool, true, false, cond, _&&_, _||_, not, and-false, or-false, or-true}
-use mathlib.Core.List.{List, [], _∷_, _++_, append-assoc, List·Memᴰ·head as here, List·Memᴰ·tail as there, Memᴰ·append-right}
+use mathlib.Core.Bool.{Bool, true, false, cond, _&&_, or-true}
+use mathlib.Core.List.{List, [], _∷_, _++_, map, append-assoc}
 use mathlib.Core.Logic.{_≢_}
 use Prim.Native.Nat.{ℕ, zero, suc, _+_, _<_, _≤_}
 use native.Mathlib.Omega.{arith}
 use lib.ListN.{length, length-append}
-use lib.Dec.{ltb, leb, eqb}
-use borrow.Author.Tests.{eqb-true, eqb-false, ltb-true, ltb-false, lt-ltb, le-ltb, eq-eqb, ne-eqb}
-use Rattle.laws.specs.Tests.{by-test, clash, tests, and-intro, and-left, and-right}
-use Rattle.laws.specs.Lists.{_∈_, any, any-snoc, any-intro, any-elim, any-none, cut, in-cut}
-use Rattle.quorum_tree.specs.Machine.{Node, node, root, ADDED, GHOST, COMMITTED, crosses, has-round, present, find, path, path-in, ancestor, strikes}
+use lib.Dec.{ltb, eqb}
+use borrow.Author.Tests.{eqb-true, ne-eqb, not-false, leb-false}
+use Rattle.laws.specs.Tests.{by-test, tests}
+use Rattle.laws.specs.First.{passed}
+use Rattle.laws.specs.Lists.{_∈_, any, any-snoc, cut, in-cut, map-same}
+use Rattle.quorum_tree.specs.Machine.{Node, root, ADDED, GHOST, crosses, present, find, path, path-in, ancestor, strikes, struck, with-status, add, causes, answer}
 use Rattle.quorum_tree.specs.Table.{behind-root}
-use Rattle.quorum_tree.specs.Check.{edge-over, crossed}
+use Rattle.quorum_tree.specs.Check.{crossed}
 use Rattle.quorum_tree.proofs.Nodes.{find-in, find-round, in-present, present-in}
-use Rattle.quorum_tree.proofs.Grown.{Grown, Placed, by-place, found, lower-in, parent-in, uncrossed-in, parent-above}
+use Rattle.quorum_tree.proofs.Grown.{Grown, Placed, found, lower-in, parent-in, uncrossed-in, parent-above}
 
-path-in-root : (k : ℕ) (ns : List Node) → path-in k ns 0 ≡ 0 ∷ []
+pub path-in-root : (k : ℕ) (ns : List Node) → path-in k ns 0 ≡ 0 ∷ []
 unfolding path-in
 path-in-root zero ns = refl
 path-in-root (suc k) ns = refl
@@ -115,3 +116,21 @@ module _ (valued : Bool) (rows : ℕ) (ns : List Node) (G : Grown valued rows ns
       rw (t, a, b, on-path (n .round) (uncrossed-in valued rows ns G n m s) p h (omega tests)) refl)
       (λ b. rw (t, a, b) refl)))
       (λ t. rw t refl)
+
+-- an ADDED node that the edge (r, p) crosses becomes GHOST
+unfoldable pub marked : ℕ → ℕ → Node → Node
+marked r p n = cond (eqb (n .status) ADDED && crosses r p (n .round)) (with-status n GHOST) n
+
+-- an accepted add changes the nodes by crossing alone
+pub struck-marked : (valued : Bool) (rows : ℕ) (ns : List Node) → Grown valued rows ns → (r p : ℕ) → present p ns ≡ true → p < r →
+    map (struck ns r p) ns ≡ map (marked r p) ns
+unfolding struck marked
+struck-marked valued rows ns G r p h l =
+    map-same (struck ns r p) (marked r p) ns (λ n m. rw (crossing-alone valued rows ns G r p h l n m) refl)
+
+-- what an accepted add was found to have
+pub accepted-parent : (valued : Bool) (rows : ℕ) (ns : List Node) (r v p : ℕ) → answer valued rows ns (add r v p) ≡ 0 → (present p ns ≡ true) × (p < r)
+unfolding answer
+accepted-parent valued rows ns r v p z =
+    let (a3, (a4, (a5, (a6, rest)))) = passed (causes valued rows ns (add r v p)) refl z in
+    (not-false (present p ns) a5, leb-false r p a6)

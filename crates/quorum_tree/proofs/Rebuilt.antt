@@ -1,22 +1,22 @@
 -- The nodes as a function of the accepted calls: an add makes a node, whose status is its history status. If the calls have the
 -- four properties, the nodes are grown ones. Assumes nothing.
 use mathlib.Core.Path.{_≡_, refl, sym, ap, _∙_, subst}
-use mathlib.Core.Bool.{Bool, true, false, cond, _&&_, _||_, not, and-false}
-use mathlib.Core.List.{List, [], _∷_, _++_, map, append-assoc, append-nil, List·Memᴰ·head as here, List·Memᴰ·tail as there, Memᴰ·append-left}
-use Prim.Native.Nat.{ℕ, zero, suc, _<_, _≤_}
+use mathlib.Core.Bool.{Bool, true, false, _||_, and-false}
+use mathlib.Core.List.{List, [], _∷_, _++_, map, append-nil, List·Memᴰ·head as here, List·Memᴰ·tail as there, Memᴰ·append-left}
+use Prim.Native.Nat.{ℕ, suc, _<_, _≤_}
 use native.Mathlib.Omega.{arith}
 use lib.ListN.{length}
-use lib.Dec.{ltb, leb, eqb}
-use borrow.Author.Tests.{eqb-true, eq-eqb, ne-eqb, le-ltb}
-use Rattle.laws.specs.Tests.{by-test, clash, tests, impossible, and-left, and-right, or-left, or-right, or-cases}
-use Rattle.laws.specs.Lists.{_∈_, any, any-intro, any-elim, none-any, in-cut}
-use Rattle.ids.specs.Ranges.{out-of-range, above-range}
-use Rattle.quorum_tree.specs.Machine.{Call, add, commit, Node, node, root, ADDED, GHOST, COMMITTED, crosses, has-round, present, find}
-use Rattle.quorum_tree.specs.Properties.{Properties, InRange, history, adds-in, adds, commits, adds-with, edge-crosses}
-use Rattle.quorum_tree.specs.Check.{edge-over, crossed}
+use lib.Dec.{eqb}
+use borrow.Author.Tests.{ne-eqb, le-ltb}
+use Rattle.laws.specs.Tests.{by-test, tests, impossible, or-right}
+use Rattle.laws.specs.Lists.{_∈_, any, none-any, in-cut}
+use Rattle.ids.specs.Ranges.{above-range}
+use Rattle.quorum_tree.specs.Machine.{Call, add, commit, Node, node, root, GHOST, COMMITTED, crosses, present, find}
+use Rattle.quorum_tree.specs.Properties.{Properties, InRange, history, adds-in, adds, commits, edge-crosses}
+use Rattle.quorum_tree.specs.Check.{crossed}
 use Rattle.quorum_tree.proofs.Nodes.{find-in, find-round}
 use Rattle.quorum_tree.proofs.Grown.{Grown, Placed}
-use Rattle.quorum_tree.proofs.Calls.{add-inj, adds-elim, edge-elim, adds-intro, adds-with-elim, commits-elim, unique}
+use Rattle.quorum_tree.proofs.Calls.{add-inj, adds-intro, adds-with-elim, commits-elim, committed-uncrossed, unique}
 
 -- the node that an add makes, after the history h
 abbrev pub made : List Call → ℕ → ℕ → ℕ → Node
@@ -30,6 +30,9 @@ added h (commit r ∷ cs) = added h cs
 
 abbrev pub rebuilt : List Call → List Node
 rebuilt h = root ∷ added h h
+
+pub cons-same : {x y : Node} {l k : List Node} → x ≡ y → l ≡ k → x ∷ l ≡ y ∷ k
+cons-same a b = cc
 
 module _ (h : List Call) where
   pub added-append : (k l : List Call) → added h (k ++ l) ≡ added h k ++ added h l
@@ -92,11 +95,23 @@ module _ (h : List Call) where
   unfolding added
   map-added h′ f [] g = refl
   map-added h′ f (add r v p ∷ cs) g =
-      ap₂ (g r v p (here refl)) (map-added h′ f cs (λ r₁ v₁ p₁ m. g r₁ v₁ p₁ (there m)))
-    where
-      ap₂ : {x y : Node} {l k : List Node} → x ≡ y → l ≡ k → x ∷ l ≡ y ∷ k
-      ap₂ a b = cc
+      cons-same (g r v p (here refl)) (map-added h′ f cs (λ r₁ v₁ p₁ m. g r₁ v₁ p₁ (there m)))
   map-added h′ f (commit r ∷ cs) g = map-added h′ f cs (λ r₁ v₁ p₁ m. g r₁ v₁ p₁ (there m))
+
+-- the history status of an added round says whether it is committed
+pub history-committed : (h : List Call) (r : ℕ) → 0 < r → eqb (history h r) COMMITTED ≡ any (commits r) h
+unfolding history
+history-committed h r pos =
+    rw (ne-eqb r 0 (omega arith))
+    (by-test (any (commits r) h)
+    (λ t. rw t refl)
+    (λ t. by-test (any (edge-crosses r) h) (λ s. rw (t, s) refl) (λ s. rw (t, s) refl)))
+
+pub history-ghost : (h : List Call) (r : ℕ) → 0 < r → any (commits r) h ≡ false → eqb (history h r) GHOST ≡ any (edge-crosses r) h
+unfolding history
+history-ghost h r pos t =
+    rw (ne-eqb r 0 (omega arith), t)
+    (by-test (any (edge-crosses r) h) (λ s. rw s refl) (λ s. rw s refl))
 
 -- a status is 1, 2 or 3
 pub history-stated : (h : List Call) (r : ℕ) → (0 < history h r) × (history h r ≤ 3)
@@ -146,14 +161,10 @@ module _ (valued : Bool) (rows : ℕ) (h : List Call) (S : Story valued rows h) 
   ghost-made : {r v p : ℕ} → add r v p ∈ h → eqb (history h r) GHOST ≡ any (edge-crosses r) h
   unfolding history
   ghost-made {r} m =
-      rw (ne-eqb r 0 (omega (arith, round-positive m)))
-      (by-test (any (commits r) h)
-      (λ t. rw t (sym (commits-elim r h t (λ i. none-any (edge-crosses r) h (λ a j. calm a j i)))))
-      (λ t. by-test (any (edge-crosses r) h) (λ s. rw (t, s) refl) (λ s. rw (t, s) refl)))
-    where
-      calm : (a : Call) → a ∈ h → commit r ∈ h → edge-crosses r a ≡ false
-      calm (add s v p) j i = S .properties .uncrossed s v p r j i
-      calm (commit s) j i = refl
+      let pos : 0 < r = round-positive m in
+      by-test (any (commits r) h)
+      (λ t. rw (ne-eqb r 0 (omega arith), t) (sym (commits-elim r h t (committed-uncrossed valued h (S .properties) r))))
+      (history-ghost h r pos)
 
   -- no edge crosses c = 0, nor does the root's edge cross anything
   pub crossed-rebuilt : (c : ℕ) → crossed c (rebuilt h) ≡ any (edge-crosses c) h

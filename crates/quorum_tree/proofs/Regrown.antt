@@ -1,26 +1,26 @@
 -- Grown nodes are left by the calls read off them: the adds in order, then a commit of each COMMITTED node. These calls have the four
 -- properties, so all are accepted, and the history statuses of them are the statuses. Assumes nothing.
 use mathlib.Core.Path.{_≡_, refl, sym, ap, _∙_, subst}
-use mathlib.Core.Bool.{Bool, true, false, cond, _&&_, _||_, not, or-false, and-false}
-use mathlib.Core.List.{List, [], _∷_, _++_, append-assoc, append-nil, List·Memᴰ·head as here, List·Memᴰ·tail as there, List·Memᴰ·append-cases, Memᴰ·append-left, Memᴰ·append-right}
-use mathlib.Core.Logic.{_≢_, ⊎-elim}
-use Prim.Native.Nat.{ℕ, zero, suc, _+_, _<_, _≤_}
+use mathlib.Core.Bool.{Bool, true, false, or-false, and-false}
+use mathlib.Core.List.{List, [], _∷_, _++_, append-assoc, append-nil, List·Memᴰ·tail as there, List·Memᴰ·append-cases}
+use mathlib.Core.Logic.{⊎-elim}
+use Prim.Native.Nat.{ℕ, _<_}
 use native.Mathlib.Omega.{arith}
 use lib.ListN.{length}
 use lib.Seq.{append-snoc}
-use lib.Dec.{ltb, leb, eqb}
-use borrow.Author.Tests.{eqb-true, eq-eqb, ne-eqb, le-ltb, lt-ltb}
+use lib.Dec.{ltb, eqb}
+use borrow.Author.Tests.{eqb-true, eq-eqb, ne-eqb, le-ltb}
 use Rattle.laws.specs.Tests.{by-test, clash, tests, impossible, or-right, or-none, same-test}
-use Rattle.laws.specs.Lists.{_∈_, any, any-append, any-intro, any-elim, any-none, none-any, in-cut, cut}
-use Rattle.ids.specs.Ranges.{out-of-range, above-range}
-use Rattle.quorum_tree.specs.Machine.{Call, add, commit, Node, node, root, fresh, ADDED, GHOST, COMMITTED, crosses, has-round, present, find, after}
-use Rattle.quorum_tree.specs.Properties.{Properties, InRange, AllOk, history, round-of, adds-in, adds, commits, adds-with, edge-crosses}
+use Rattle.laws.specs.Lists.{_∈_, any, any-append, in-cut, cut}
+use Rattle.ids.specs.Ranges.{out-of-range}
+use Rattle.quorum_tree.specs.Machine.{Call, add, commit, Node, root, fresh, GHOST, COMMITTED, has-round, present, find, after}
+use Rattle.quorum_tree.specs.Properties.{Properties, InRange, AllOk, history, adds-in, adds, commits, edge-crosses}
 use Rattle.quorum_tree.specs.Table.{adds-of, commits-of, calls-of, behind-root}
 use Rattle.quorum_tree.specs.Check.{edge-over, crossed}
-use Rattle.quorum_tree.proofs.Nodes.{find-in, find-round, in-present, present-in}
+use Rattle.quorum_tree.proofs.Nodes.{find-in, find-round, in-present}
 use Rattle.quorum_tree.proofs.Grown.{Grown, Placed, found, uncrossed-in}
-use Rattle.quorum_tree.proofs.Calls.{Next, AddNext, CommitNext, grow, none, adds-with-intro, adds-intro, commits-elim, commits-intro, adds-in-append}
-use Rattle.quorum_tree.proofs.Rebuilt.{made, added, rebuilt, added-append}
+use Rattle.quorum_tree.proofs.Calls.{AddNext, CommitNext, grow, none, adds-with-intro, commits-elim, commits-intro, adds-in-append}
+use Rattle.quorum_tree.proofs.Rebuilt.{added-append}
 use Rattle.quorum_tree.proofs.ReadOff.{add-of, adds-of-append, in-adds, of-adds, any-adds, any-edges, no-commits, adds-in-adds, commits-taken, commits-passed, in-commits, of-commits, none-in-commits, adds-in-commits, added-commits, added-read, commits-of-append}
 use Rattle.quorum_tree.proofs.History.{Told, told}
 use Rattle.quorum_tree.proofs.FourProperties.{ok-exactly, all-accepted}

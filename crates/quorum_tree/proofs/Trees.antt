@@ -1,33 +1,27 @@
 -- Which tables are trees: those that hold grown nodes and zeros behind them. Both the replay of the calls read off the rows and the
 -- local tests decide it. Assumes nothing.
 use mathlib.Core.Path.{_≡_, refl, sym, ap, _∙_, subst}
-use mathlib.Core.Bool.{Bool, true, false, _&&_, _||_, not, and-false, or-false}
-use mathlib.Core.List.{List, [], _∷_, _++_}
+use mathlib.Core.Bool.{Bool, true, _&&_}
+use mathlib.Core.List.{List, [], _∷_}
 use mathlib.Core.Logic.{_↔_, _≢_}
-use Prim.Native.Nat.{ℕ, zero, suc, _+_, _-_, _*_, _/_, _%_, _<_, _≤_}
+use Prim.Native.Nat.{ℕ, _*_, _%_, _<_, _≤_}
 use native.Mathlib.Omega.{arith}
-use lib.ListN.{length, getD, drop, replicate}
-use lib.Seq.{split-at}
-use lib.Dec.{ltb, leb, eqb}
-use borrow.Author.Tests.{eqb-true, eq-eqb, leb-true, le-leb, le-ltb}
-use Rattle.laws.specs.Tests.{by-test, clash, tests, impossible, and-left, and-right, and-intro, same-test}
-use Rattle.laws.specs.Lists.{_∈_, any, none-any}
-use Rattle.quorum_tree.specs.Machine.{Call, Node, node, root, fresh, GHOST, COMMITTED, after}
-use Rattle.quorum_tree.specs.Table.{sized, rows, words, table, Tree, row, rows-of, used, nodes, calls-of, behind-root, same-words, is-tree}
-use Rattle.quorum_tree.specs.Check.{edge-over, crossed, fits, is-root, row-fits, fits-to, zeros-to, checks}
-use Rattle.quorum_tree.proofs.Grown.{Grown, Placed, placed-cut}
+use lib.ListN.{length}
+use lib.Dec.{leb, eqb}
+use borrow.Author.Tests.{eqb-true, eq-eqb}
+use Rattle.laws.specs.Tests.{clash, tests, and-left, and-right, and-intro}
+use Rattle.laws.specs.Lists.{_∈_}
+use Rattle.quorum_tree.specs.Machine.{Node, fresh, after}
+use Rattle.quorum_tree.specs.Table.{sized, rows, table, Tree, nodes, calls-of, same-words, is-tree}
+use Rattle.quorum_tree.proofs.Grown.{Grown}
 use Rattle.quorum_tree.proofs.History.{all-grown}
 use Rattle.quorum_tree.proofs.Regrown.{regrown}
-use Rattle.quorum_tree.proofs.Words.{length-rows, getD-rows, take-rows, row-in, in-row, rows-cut, words-rows, used-rows, free-word, nodes-table}
-use Rattle.quorum_tree.proofs.Fits.{Fit, fit-of, of-fit, root-of, first-row, later-row, fits-at, fits-all, zeros-all, zeros-drop}
+use Rattle.quorum_tree.proofs.Words.{nodes-table}
 
 -- a table that holds grown nodes and zeros behind them
 pub record Held (valued : Bool) (ws : List ℕ) : Type 0 where
   pub grown : Grown valued (rows ws) (nodes ws)
   pub whole : ws ≡ table (length ws) (nodes ws)
-
-pub sized-whole : (ws : List ℕ) → sized ws ≡ true → length ws % 4 ≡ 0
-sized-whole ws h = eqb-true (length ws % 4) 0 (and-left (eqb (length ws % 4) 0) (leb 4 (length ws) && leb (length ws) 1024) h)
 
 pub sized-rows : (ws : List ℕ) → sized ws ≡ true → 0 < rows ws
 sized-rows ws h =

@@ -1,17 +1,17 @@
 -- Rows and words: what is written for nodes reads back as these nodes, and the rows of a table are its words. Assumes nothing.
-use mathlib.Core.Path.{_≡_, refl, sym, ap, _∙_, subst}
+use mathlib.Core.Path.{_≡_, refl, sym, ap, _∙_}
 use mathlib.Core.Bool.{Bool, true, false, _||_}
-use mathlib.Core.List.{List, [], _∷_, _++_, append-assoc, append-nil, List·Memᴰ·head as here, List·Memᴰ·tail as there, Memᴰ·append-left}
+use mathlib.Core.List.{List, [], _∷_, _++_, append-assoc, List·Memᴰ·head as here, List·Memᴰ·tail as there, Memᴰ·append-left}
 use mathlib.Core.Logic.{_≢_}
-use Prim.Native.Nat.{ℕ, zero, suc, _+_, _-_, _*_, _/_, _%_, _<_, _≤_}
+use Prim.Native.Nat.{ℕ, zero, suc, _+_, _-_, _*_, _<_, _≤_}
 use native.Mathlib.Omega.{arith}
-use lib.ListN.{length, getD, take, drop, replicate, length-append, length-replicate, getD-replicate, List·getD-append, List·getD-eq-default}
+use lib.ListN.{length, getD, take, drop, replicate, length-append, length-replicate, List·getD-append}
 use lib.Seq.{take-suc, take-length, take-all, take-append-le, take-append-seam, drop-cons, getD-append-add, getD-append-seam, getD-at}
-use lib.Dec.{eqb, leb, ltb}
+use lib.Dec.{eqb}
 use borrow.Author.Tests.{ne-eqb, eq-eqb, eqb-true}
-use Rattle.laws.specs.Tests.{by-test, clash, tests}
+use Rattle.laws.specs.Tests.{by-test, tests}
 use Rattle.laws.specs.Lists.{_∈_, any, any-snoc, by-last, in-last}
-use Rattle.quorum_tree.specs.Machine.{Node, node, root}
+use Rattle.quorum_tree.specs.Machine.{Node, root}
 use Rattle.quorum_tree.specs.Table.{words, table, row, rows, rows-of, used, used-from, nodes}
 
 pub length-words : (ns : List Node) → length (words ns) ≡ 4 * length ns
