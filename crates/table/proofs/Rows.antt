@@ -19,7 +19,7 @@ use Rattle.quorum_tree.proofs.Words.{length-words, words-append, length-rows}
 use Rattle.table.specs.Rows.{Found, crossed-with, strike-crossed}
 
 -- the d rows from row i on
-rows-from : List ℕ → ℕ → ℕ → List Node
+pub rows-from : List ℕ → ℕ → ℕ → List Node
 rows-from ws i zero = []
 rows-from ws i (suc d) = row ws i ∷ rows-from ws (suc i) d
 
@@ -31,7 +31,7 @@ rows-more ws (suc d) i =
     rw (e, rows-more ws d (suc i)) (append-snoc (rows-of ws i) (row ws i) (rows-from ws (suc i) d))
 
 -- the rows before row i, row i, and those behind it
-rows-split : (ws : List ℕ) (i n : ℕ) → i < n → rows-of ws n ≡ rows-of ws i ++ row ws i ∷ rows-from ws (suc i) (n - suc i)
+pub rows-split : (ws : List ℕ) (i n : ℕ) → i < n → rows-of ws n ≡ rows-of ws i ++ row ws i ∷ rows-from ws (suc i) (n - suc i)
 unfolding rows-from
 rows-split ws i n h =
     let e : i + suc (n - suc i) ≡ n = omega arith in
@@ -160,6 +160,13 @@ module _ (f : Node → Node) (t₀ : List ℕ) where
       pass-more i (set t (4 * i + 3) s)
       (ap (λ l. set l (4 * i + 3) s) (P .is ∙ ap (λ l. words (map f (rows-of t₀ i)) ++ l) (row-ahead t₀ i h)) ∙
       rw k (rw (length-front i) at (set-fourth (words (map f (rows-of t₀ i))) (row t₀ i .round) (row t₀ i .parent) (row t₀ i .value) (row t₀ i .status) s (drop (4 * suc i) t₀))))
+
+  -- rows that f leaves as they are
+  pub pass-on : (t : List ℕ) (d i : ℕ) → Passed f t₀ i t → 4 * (i + d) ≤ length t₀ → ((j : ℕ) → i ≤ j → j < i + d → f (row t₀ j) ≡ row t₀ j) → Passed f t₀ (i + d) t
+  pass-on t zero i P h k = rw (add-zero i) P
+  pass-on t (suc d) i P h k =
+      let e : i + suc d ≡ i + 1 + d = omega arith in
+      rw e (pass-on t d (i + 1) (pass-keep i t P (omega arith) (k i (omega arith) (omega arith))) (omega arith) (λ j a b. k j (omega arith) (omega arith)))
 
   pub pass-end : (i n : ℕ) (t : List ℕ) → i ≤ n → n ≤ i → Passed f t₀ i t → t ≡ words (map f (rows-of t₀ n)) ++ drop (4 * n) t₀
   pass-end i n t a b P = let e : i ≡ n = omega arith in rw e at (P .is)

@@ -1,48 +1,79 @@
+-- `tree::commit_answer` meets its contract: each test stands for one cause of the machine, in its order. Assumes nothing.
+use mathlib.Core.Path.{_≡_, refl, sym, ap, _∙_}
+use mathlib.Core.Bool.{true, false}
 use borrow.Author.Needs.{needs}
+use borrow.Author.Tests.{eq-eqb, ne-eqb, not-true, not-false}
+use denote.Ref.{now}
+use Rattle.ids.specs.Ranges.{out-of-range}
+use Rattle.quorum_tree.specs.Machine.{Node, find, causes, answer}
+use Rattle.quorum_tree.specs.Table.{rows-of}
 use Rattle.tree.proofs.commit_answer.Statement.{statement}
 use Rattle.tree.proofs.commit_answer.Tie as tie
-use Rattle.tree.proofs.commit_answer.Reads as reads
-use Rattle.tree.proofs.commit_answer.Lts as lts
-use Rattle.ids.proofs.in_range.Reads as in-range-reads
-use Rattle.table.proofs.find_row.Reads as find-row-reads
-use Rattle.table.proofs.status_at.Reads as status-at-reads
 
--- src/lib.rt:126:9
 in-range-requires : tie.Need-in-range-requires
 in-range-requires c κs = search needs
 
--- src/lib.rt:127:9
 returns : tie.Need-returns
-returns c = ?
+unfolding answer causes
+returns c =
+    let e : out-of-range (c .before .before .before .args .r .0) ≡ true = not-false _ (sym (c .before .in-range .ensures) ∙ not-true _ (c .if1 .taken)) in
+    rw e refl
 
--- src/lib.rt:129:35
+ranged : (c : tie.Else1) → out-of-range (c .before .before .before .args .r .0) ≡ false
+ranged c = not-true _ (sym (c .before .in-range .ensures) ∙ not-false _ (c .if1 .left))
+
 cast-find-row : tie.Need-cast-find-row
 cast-find-row c = search needs
 
--- src/lib.rt:129:9
 find-row-requires : tie.Need-find-row-requires
 find-row-requires c κs = search needs
 
--- src/lib.rt:131:9
 returns-2 : tie.Need-returns-2
-returns-2 c = ?
+unfolding answer causes
+returns-2 c = rw (ranged (c .before .before .before), c .before .find-row .ensures .none (c .if2 .taken)) refl
 
--- src/lib.rt:133:9
 status-at-requires : tie.Need-status-at-requires
 status-at-requires c κs = search needs
 
--- src/lib.rt:135:9
+-- the status read is the node's
+status-is : (c : tie.After-status-at) →
+    let a = c .before .before .before .before .before .before .before .args in
+    find (a .r .0) (rows-of (now (a .t)) (a .n)) .status ≡ c .status-at .result
+status-is c = ap (λ (n : Node). n .status) (c .before .before .find-row .ensures .at (c .before .if2 .left)) ∙ sym (c .status-at .ensures)
+
 returns-3 : tie.Need-returns-3
-returns-3 c = ?
+unfolding answer causes
+returns-3 c =
+    let d = c .before .before in
+    rw
+    ( ranged (d .before .before .before),
+      d .before .find-row .ensures .there (d .if2 .left),
+      eq-eqb _ _ (status-is (c .before) ∙ c .if3 .taken) )
+    refl
 
--- src/lib.rt:138:9
 returns-4 : tie.Need-returns-4
-returns-4 c = ?
+unfolding answer causes
+returns-4 c =
+    let f = c .before in
+    let d = f .before .before in
+    rw
+    ( ranged (d .before .before .before),
+      d .before .find-row .ensures .there (d .if2 .left),
+      ne-eqb _ _ (λ q. f .if3 .left (sym (status-is (f .before)) ∙ q)),
+      eq-eqb _ _ (status-is (f .before) ∙ c .if4 .taken) )
+    refl
 
--- src/lib.rt:122:1
 returns-5 : tie.Need-returns-5
-returns-5 c = ?
-
+unfolding answer causes
+returns-5 c =
+    let f = c .before in
+    let d = f .before .before in
+    rw
+    ( ranged (d .before .before .before),
+      d .before .find-row .ensures .there (d .if2 .left),
+      ne-eqb _ _ (λ q. f .if3 .left (sym (status-is (f .before)) ∙ q)),
+      ne-eqb _ _ (λ q. c .if4 .left (sym (status-is (f .before)) ∙ q)) )
+    refl
 pub commit-answer-spec : {M : Type 1} → statement M
 commit-answer-spec =
     tie.close

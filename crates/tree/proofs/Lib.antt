@@ -1,0 +1,2 @@
+-- Laws for the tree's calls.
+pub mod Stepping
