@@ -13,14 +13,13 @@ use Rattle.laws.specs.Tests.{by-test, tests, and-left, and-right, and-intro, sa
 use Rattle.laws.specs.Lists.{_∈_, none-any}
 use Rattle.quorum_tree.specs.Machine.{Node, root, GHOST}
 use Rattle.quorum_tree.specs.Table.{sized, rows, table, row, rows-of, used, nodes, behind-root, is-tree}
-use Rattle.quorum_tree.specs.Check.{edge-over, crossed, is-root, row-fits, fits-to, zeros-to, checks}
+use Rattle.quorum_tree.specs.Check.{edge-over, crossed, is-root, row-fits, fits-to, free-zero, checks}
 use Rattle.quorum_tree.proofs.Grown.{Grown, Placed, placed-cut}
 use Rattle.quorum_tree.proofs.Words.{length-rows, getD-rows, take-rows, row-in, in-row, rows-cut, words-rows, used-rows, free-word}
 use Rattle.quorum_tree.proofs.Fits.{Fit, fit-of, of-fit, root-of, first-row, later-row, fits-at, fits-all, zeros-all, zeros-drop}
 use Rattle.quorum_tree.proofs.Trees.{Held, tree-held, tree-of, held-is-tree}
 
-checks-says : (valued : Bool) (ws : List ℕ) →
-    checks valued ws ≡ (leb 1 (used ws) && (fits-to valued ws (used ws) (used ws) && zeros-to ws (4 * used ws) (length ws)))
+checks-says : (valued : Bool) (ws : List ℕ) → checks valued ws ≡ (leb 1 (used ws) && (fits-to valued ws (used ws) (used ws) && free-zero ws))
 unfolding checks
 checks-says valued ws = refl
 
@@ -76,12 +75,12 @@ module _ (valued : Bool) (ws : List ℕ) (n : ℕ) (some : 0 < n) (bound : n ≤
 checks-held : (valued : Bool) (ws : List ℕ) → checks valued ws ≡ true → Held valued ws
 unfolding table
 checks-held valued ws h =
-    let q : (leb 1 (used ws) && (fits-to valued ws (used ws) (used ws) && zeros-to ws (4 * used ws) (length ws))) ≡ true = sym (checks-says valued ws) ∙ h in
-    let a : 0 < used ws = leb-true 1 (used ws) (and-left (leb 1 (used ws)) (fits-to valued ws (used ws) (used ws) && zeros-to ws (4 * used ws) (length ws)) q) in
-    let b : (fits-to valued ws (used ws) (used ws) && zeros-to ws (4 * used ws) (length ws)) ≡ true =
-    and-right (leb 1 (used ws)) (fits-to valued ws (used ws) (used ws) && zeros-to ws (4 * used ws) (length ws)) q in
-    let f : fits-to valued ws (used ws) (used ws) ≡ true = and-left (fits-to valued ws (used ws) (used ws)) (zeros-to ws (4 * used ws) (length ws)) b in
-    let z : zeros-to ws (4 * used ws) (length ws) ≡ true = and-right (fits-to valued ws (used ws) (used ws)) (zeros-to ws (4 * used ws) (length ws)) b in
+    let tail : Bool = fits-to valued ws (used ws) (used ws) && free-zero ws in
+    let q : (leb 1 (used ws) && tail) ≡ true = sym (checks-says valued ws) ∙ h in
+    let a : 0 < used ws = leb-true 1 (used ws) (and-left (leb 1 (used ws)) tail q) in
+    let b : tail ≡ true = and-right (leb 1 (used ws)) tail q in
+    let f : fits-to valued ws (used ws) (used ws) ≡ true = and-left (fits-to valued ws (used ws) (used ws)) (free-zero ws) b in
+    let z : free-zero ws ≡ true = and-right (fits-to valued ws (used ws) (used ws)) (free-zero ws) b in
     record {
       grown = rows-grown valued ws (used ws) a (used-rows ws) f;
       whole = sym (rw (length-rows ws (used ws), ← zeros-drop ws (4 * used ws) z) (words-rows ws (used ws) (omega (arith, used-rows ws))));

@@ -2,21 +2,22 @@
 -- Assumes nothing.
 use mathlib.Core.Path.{_≡_, refl, ap, _∙_, subst}
 use mathlib.Core.Bool.{Bool}
-use mathlib.Core.List.{List, [], _∷_, _++_, List·Memᴰ·head as here, List·Memᴰ·tail as there}
+use mathlib.Core.List.{List, [], _∷_, _++_, List·Memᴰ·head as here, List·Memᴰ·tail as there, Memᴰ·append-left}
 use mathlib.Core.Logic.{_↔_}
 use Prim.Native.Nat.{ℕ, _<_}
 use native.Mathlib.Omega.{arith}
 use lib.Seq.{append-snoc}
 use borrow.Author.Tests.{eq-eqb}
 use Rattle.laws.specs.Lists.{_∈_, in-cut}
-use Rattle.quorum_tree.specs.Machine.{Call, add, commit, Node, fresh, answer, step, answers, accepted}
+use Rattle.quorum_tree.specs.Machine.{Call, add, commit, Node, fresh, answer, step, answers, accepted, after}
 use Rattle.quorum_tree.specs.Properties.{Properties, InRange, AllOk, adds-in}
-use Rattle.quorum_tree.proofs.Calls.{next-of, adds-in-append}
+use Rattle.quorum_tree.proofs.Calls.{prefix, next-of, adds-in-append}
 use Rattle.quorum_tree.proofs.Accepted.{Allowed, Room, allowed-ok}
 use Rattle.quorum_tree.proofs.History.{Told, told, told-fresh, told-next, accepted-ok}
 
 -- if each call gets OK, all are accepted
-pub all-accepted : (valued : Bool) (rows : ℕ) (ns : List Node) (cs : List Call) → ((n : ℕ) → n ∈ answers valued rows ns cs → n ≡ 0) → accepted valued rows ns cs ≡ cs
+pub all-accepted : (valued : Bool) (rows : ℕ) (ns : List Node) (cs : List Call) →
+    ((n : ℕ) → n ∈ answers valued rows ns cs → n ≡ 0) → accepted valued rows ns cs ≡ cs
 unfolding answers accepted
 all-accepted valued rows ns [] f = refl
 all-accepted valued rows ns (c ∷ cs) f =
@@ -50,9 +51,25 @@ each-ok valued rows (c ∷ k) h ns T P I b n m =
     pick rest (here q) = q ∙ z
     pick rest (there i) = rest i
 
+-- a list that gets OK throughout is the story of what it leaves
+pub told-ok : (valued : Bool) (rows : ℕ) (cs : List Call) → AllOk valued rows cs → Told valued rows cs (after valued rows fresh cs)
+told-ok valued rows cs f =
+    subst (λ h. Told valued rows h (after valued rows fresh cs)) (all-accepted valued rows fresh cs f) (told valued rows cs)
+
 -- OK to each call exactly if the four properties hold
 pub ok-exactly : (valued : Bool) (rows : ℕ) (cs : List Call) → InRange cs → adds-in cs < rows → AllOk valued rows cs ↔ Properties valued cs
 ok-exactly valued rows cs I b = (
-  λ f. subst (λ l. Properties valued l) (all-accepted valued rows fresh cs f) (told valued rows cs .story .properties),
+  λ f. told-ok valued rows cs f .story .properties,
   λ P. each-ok valued rows cs [] fresh (told-fresh valued rows) P I b,
 )
+
+-- one more call after a list that gets OK throughout
+pub next-ok : (valued : Bool) (rows : ℕ) (cs : List Call) (c : Call) → Properties valued (cs ++ c ∷ []) → InRange (cs ++ c ∷ []) →
+    adds-in (cs ++ c ∷ []) < rows → answer valued rows (after valued rows fresh cs) c ≡ 0
+next-ok valued rows cs c P I b =
+    let ok : AllOk valued rows cs =
+    each-ok valued rows cs [] fresh (told-fresh valued rows) (prefix valued cs (c ∷ []) P)
+    (λ a m. I a (Memᴰ·append-left (c ∷ []) m)) (omega (arith, adds-in-append cs (c ∷ []))) in
+    let T : Told valued rows cs (after valued rows fresh cs) = told-ok valued rows cs ok in
+    let A : Allowed valued rows cs c = record { next = next-of valued cs c [] P; ranged = I c (in-cut cs c []); room = room-for rows cs c [] b } in
+    rw (T .nodes) (allowed-ok valued rows cs (T .story) c A)

@@ -47,7 +47,8 @@ parent-above c ns u n m l =
 
 module _ (valued : Bool) (rows : ℕ) (ns : List Node) (G : Grown valued rows ns) where
   -- a node is the root or stands behind it
-  pub by-place {κ} : {C : Type κ} {n : Node} → n ∈ ns → (n ≡ root → C) → ((pre post : List Node) → ns ≡ (root ∷ pre) ++ n ∷ post → Placed valued (root ∷ pre) n → C) → C
+  pub by-place {κ} : {C : Type κ} {n : Node} → n ∈ ns → (n ≡ root → C) →
+      ((pre post : List Node) → ns ≡ (root ∷ pre) ++ n ∷ post → Placed valued (root ∷ pre) n → C) → C
   by-place {C = C} {n} m f g = split (subst (λ l. n ∈ l) (G .rooted) m)
     where
       split : n ∈ root ∷ behind-root ns → C

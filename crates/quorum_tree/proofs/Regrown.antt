@@ -22,8 +22,7 @@ use Rattle.quorum_tree.proofs.Grown.{Grown, Placed, found, uncrossed-in
 use Rattle.quorum_tree.proofs.Calls.{AddNext, CommitNext, grow, none, adds-with-intro, commits-elim, commits-intro, adds-in-append}
 use Rattle.quorum_tree.proofs.Rebuilt.{added-append}
 use Rattle.quorum_tree.proofs.ReadOff.{add-of, adds-of-append, in-adds, of-adds, any-adds, any-edges, no-commits, adds-in-adds, commits-taken, commits-passed, in-commits, of-commits, none-in-commits, adds-in-commits, added-commits, added-read, commits-of-append}
-use Rattle.quorum_tree.proofs.History.{Told, told}
-use Rattle.quorum_tree.proofs.FourProperties.{ok-exactly, all-accepted}
+use Rattle.quorum_tree.proofs.FourProperties.{ok-exactly, told-ok}
 
 -- the calls read off the nodes behind the root
 abbrev read-off : List Node → List Call
@@ -137,9 +136,7 @@ module _ (valued : Bool) (rows : ℕ) (B : List Node) (G : Grown valued rows (ro
   regrown-behind : 0 < rows → after valued rows fresh (read-off B) ≡ root ∷ B
   regrown-behind pos =
       let ok : AllOk valued rows (read-off B) = ok-exactly valued rows (read-off B) read-ranged (omega (arith, read-adds, G .fit pos)) .1 read-have in
-      let T : Told valued rows (read-off B) (after valued rows fresh (read-off B)) =
-      subst (λ h. Told valued rows h (after valued rows fresh (read-off B))) (all-accepted valued rows fresh (read-off B) ok) (told valued rows (read-off B)) in
-      T .nodes ∙ ap (λ l. root ∷ l)
+      told-ok valued rows (read-off B) ok .nodes ∙ ap (λ l. root ∷ l)
       (added-append (read-off B) (adds-of B) (commits-of B) ∙ rw (added-commits (read-off B) B, append-nil) (added-read (read-off B) B status-read))
 
 -- grown nodes are left by the calls read off them

@@ -64,7 +64,8 @@ module _ (valued : Bool) (ws : List ℕ) (h : sized ws ≡ true) (T : Tree value
   tree-table c =
       by-test (eqb (answer valued (rows ws) (nodes ws) c) 0)
       (λ t. table-ok valued ws c (ap (λ a. eqb a 0) (tree-number c) ∙ t) ∙ ap (table (length ws)) (sym (step-ok valued (rows ws) (nodes ws) c t)))
-      (λ t. table-refused valued ws c (ap (λ a. eqb a 0) (tree-number c) ∙ t) ∙ tree-held valued ws h T .whole ∙ ap (table (length ws)) (sym (step-refused valued (rows ws) (nodes ws) c t)))
+      (λ t. table-refused valued ws c (ap (λ a. eqb a 0) (tree-number c) ∙ t) ∙ tree-held valued ws h T .whole ∙
+      ap (table (length ws)) (sym (step-refused valued (rows ws) (nodes ws) c t)))
 
 pub fresh-written : (ws : List ℕ) → sized ws ≡ true → fresh-table ws ≡ table (length ws) fresh
 unfolding fresh-table

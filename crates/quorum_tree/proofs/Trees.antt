@@ -25,7 +25,8 @@ pub record Held (valued : Bool) (ws : List ℕ) : Type 0 where
 
 pub sized-rows : (ws : List ℕ) → sized ws ≡ true → 0 < rows ws
 sized-rows ws h =
-    let b : leb 4 (length ws) ≡ true = and-left (leb 4 (length ws)) (leb (length ws) 1024) (and-right (eqb (length ws % 4) 0) (leb 4 (length ws) && leb (length ws) 1024) h) in
+    let within : Bool = leb 4 (length ws) && leb (length ws) 1024 in
+    let b : leb 4 (length ws) ≡ true = and-left (leb 4 (length ws)) (leb (length ws) 1024) (and-right (eqb (length ws % 4) 0) within h) in
     omega tests
 
 -- ---- a tree holds grown nodes

@@ -58,7 +58,11 @@ unfoldable pub zeros-to : List ℕ → ℕ → ℕ → Bool
 zeros-to ws a zero = true
 zeros-to ws a (suc j) = zeros-to ws a j && (ltb j a || eqb (getD ws j 0) 0)
 
--- the root row, then used rows, then rows of zeros
+-- the free rows are all zeros
+abbrev pub free-zero : List ℕ → Bool
+free-zero ws = zeros-to ws (4 * used ws) (length ws)
+
+-- the root row, then used rows, then free rows
 unfoldable pub checks : Bool → List ℕ → Bool
 unfolding fits-to zeros-to
-checks valued ws = leb 1 (used ws) && (fits-to valued ws (used ws) (used ws) && zeros-to ws (4 * used ws) (length ws))
+checks valued ws = leb 1 (used ws) && (fits-to valued ws (used ws) (used ws) && free-zero ws)
