@@ -29,10 +29,10 @@ path-in-suc k ns r e = rw (e, path-in) refl
 
 module _ (valued : Bool) (rows : ℕ) (ns : List Node) (G : Grown valued rows ns) where
   -- the parent of a present round
-  next-lower : (r : ℕ) → present r ns ≡ true → 0 < r → find r ns .parent < r
+  pub next-lower : (r : ℕ) → present r ns ≡ true → 0 < r → find r ns .parent < r
   next-lower r h pos = omega (arith, lower-in valued rows ns G (find r ns) (find-in r ns h) (omega (arith, find-round r ns h)), find-round r ns h)
 
-  next-there : (r : ℕ) → present r ns ≡ true → present (find r ns .parent) ns ≡ true
+  pub next-there : (r : ℕ) → present r ns ≡ true → present (find r ns .parent) ns ≡ true
   next-there r h = parent-in valued rows ns G (find r ns) (find-in r ns h)
 
   fuel : (k j r : ℕ) → r ≤ k → r ≤ j → present r ns ≡ true → path-in k ns r ≡ path-in j ns r

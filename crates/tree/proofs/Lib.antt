@@ -1,2 +1,3 @@
 -- Laws for the tree's calls.
 pub mod Stepping
+pub mod Climbing

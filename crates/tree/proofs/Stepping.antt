@@ -2,17 +2,17 @@
 use mathlib.Core.Path.{_≡_, refl, sym, ap, subst, _∙_}
 use mathlib.Core.Bool.{Bool, true, false, cond, _&&_, not}
 use mathlib.Core.Logic.{_≢_}
-use mathlib.Core.List.{List, [], _∷_, _++_, map}
+use mathlib.Core.List.{List, [], _∷_, _++_, map, append-assoc}
 use Prim.Native.Nat.{ℕ, zero, suc, _+_, _-_, _*_, _%_, _≤_, _<_}
 use native.Mathlib.Omega.{arith}
-use lib.ListN.{length, set, drop, replicate, length-append, length-map}
-use lib.Seq.{drop-append-add}
+use lib.ListN.{length, set, take, drop, replicate, length-append, length-map}
+use lib.Seq.{drop-append-add, drop-drop, take-at}
 use lib.Dec.{ltb, leb, eqb}
 use borrow.Author.Tests.{eq-eqb, ne-eqb, ltb-true, leb-true, leb-false, not-false, eqb-true}
 use Rattle.laws.specs.Tests.{by-test, clash, tests, and-left, and-right}
-use Rattle.laws.specs.Lists.{_∈_, any-intro, map-same}
+use Rattle.laws.specs.Lists.{any, any-intro}
 use Rattle.laws.specs.First.{passed}
-use Rattle.quorum_tree.specs.Machine.{Node, Call, add, commit, ADDED, COMMITTED, GHOST, has-round, present, find, with-status, causes, answer, struck, committed, new-node, change, step}
+use Rattle.quorum_tree.specs.Machine.{Node, Call, add, commit, ADDED, COMMITTED, GHOST, has-round, present, find, above, with-status, causes, answer, struck, committed, new-node, change, step}
 use Rattle.quorum_tree.specs.Table.{row, rows, rows-of, used, nodes, words, sized, table, Tree, is-tree, call-number, call-table, fresh-table}
 use Rattle.quorum_tree.proofs.Words.{length-words, length-rows, words-append, used-rows, row-in}
 use Rattle.quorum_tree.proofs.Grown.{Grown, placed-cut}
@@ -35,7 +35,7 @@ module _ (valued : Bool) (ws : List ℕ) (h : sized ws ≡ true) (T : Tree value
   refused c number e z =
       let t : eqb (answer valued (rows ws) (nodes ws) c) 0 ≡ false = ne-eqb _ _ (λ q. z (e ∙ q)) in
       let w : ws ≡ table (length ws) (step valued (rows ws) (nodes ws) c) =
-          tree-held valued ws h T .whole ∙ ap (table (length ws)) (sym (step-refused valued (rows ws) (nodes ws) c t)) in
+      tree-held valued ws h T .whole ∙ ap (table (length ws)) (sym (step-refused valued (rows ws) (nodes ws) c t)) in
       record { number-is = e; table-is = w; tree = T }
 
   -- an accepted one leaves the changed nodes
@@ -90,7 +90,7 @@ module _ (valued : Bool) (ws : List ℕ) (h : sized ws ≡ true) (T : Tree value
   apart : (j k : ℕ) → j < k → k < used ws → row ws j .round ≡ row ws k .round → ⊥
   apart j k a b e =
       let P = placed-cut valued (rows ws) (nodes ws) (tree-held valued ws h T .grown) (rows-of ws k) (rows-from ws (suc k) (used ws - suc k)) (row ws k)
-          (rows-split ws k (used ws) b) (rw (length-rows ws k) (omega arith)) in
+      (rows-split ws k (used ws) b) (rw (length-rows ws k) (omega arith)) in
       clash (any-intro (has-round (row ws k .round)) (rows-of ws k) (row-in ws k j a) (eq-eqb _ _ e)) (P .new)
 
   -- the row of round r, the k-th, becomes COMMITTED
@@ -101,26 +101,32 @@ module _ (valued : Bool) (ws : List ℕ) (h : sized ws ≡ true) (T : Tree value
       let f = committed r in
       let room : 4 * n ≤ length ws = omega (arith, used-rows ws) in
       let other : (j : ℕ) → j < n → j ≢ k → row ws j .round ≢ r = λ j b d q.
-          by-test (ltb j k) (λ y. apart j k (ltb-true j k y) a (q ∙ sym e)) (λ y. apart k j (omega (tests, d)) b (e ∙ sym q)) in
+      by-test (ltb j k) (λ y. apart j k (ltb-true j k y) a (q ∙ sym e)) (λ y. apart k j (omega (tests, d)) b (e ∙ sym q)) in
       let keep : (j : ℕ) → j < n → j ≢ k → f (row ws j) ≡ row ws j = λ j b d. rw (ne-eqb (row ws j .round) r (other j b d)) refl in
       let before : Passed f ws (0 + k) ws = pass-on f ws ws k 0 (pass-none f ws) (omega arith) (λ j b c. keep j (omega arith) (omega arith)) in
       let z : 0 + k ≡ k = omega arith in
       let at : Passed f ws (k + 1) (set ws (4 * k + 3) COMMITTED) =
-          pass-set f ws k ws COMMITTED (subst (λ i. Passed f ws i ws) z before) (omega arith) (rw (eq-eqb (row ws k .round) r e) refl) in
+      pass-set f ws k ws COMMITTED (subst (λ i. Passed f ws i ws) z before) (omega arith) (rw (eq-eqb (row ws k .round) r e) refl) in
       let all : Passed f ws (k + 1 + (n - (k + 1))) (set ws (4 * k + 3) COMMITTED) =
-          pass-on f ws (set ws (4 * k + 3) COMMITTED) (n - (k + 1)) (k + 1) at (omega arith) (λ j b c. keep j (omega arith) (omega arith)) in
+      pass-on f ws (set ws (4 * k + 3) COMMITTED) (n - (k + 1)) (k + 1) at (omega arith) (λ j b c. keep j (omega arith) (omega arith)) in
       let l : length (map f (nodes ws)) ≡ n = length-map (nodes ws) f ∙ length-rows ws n in
       let m : length ws - 4 * n - 0 ≡ length ws - 4 * length (map f (nodes ws)) = omega (arith, l) in
       let z′ : 4 * n ≡ 4 * n + 0 = omega arith in
       pass-end f ws (k + 1 + (n - (k + 1))) n (set ws (4 * k + 3) COMMITTED) (omega arith) (omega arith) all ∙
       ap (λ l. words (map f (nodes ws)) ++ l) (ap (λ i. drop i ws) z′ ∙ free 0 ∙ ap (λ i. replicate i 0) m)
 
--- a node that is present has its round
-pub find-round : (r : ℕ) (ns : List Node) → present r ns ≡ true → find r ns .round ≡ r
-unfolding find
-find-round r [] h = clash h refl
-find-round r (n ∷ ns) h =
-    by-test (has-round r n) (λ t. rw t (eqb-true (n .round) r t)) (λ t. rw t (find-round r ns (rw t at h)))
+-- a row put behind rows that a pass has changed
+pub put-behind : (ws : List ℕ) (n r v p s : ℕ) (t u : List ℕ) → s ≡ cond (any (above r) (rows-of ws n)) GHOST ADDED →
+    t ≡ words (map (strike-crossed r p) (rows-of ws n)) ++ drop (4 * n) ws → u ≡ take (4 * n) t ++ r ∷ p ∷ v ∷ s ∷ drop (4 * n + 4) t →
+    u ≡ words (map (strike-crossed r p) (rows-of ws n) ++ new-node (rows-of ws n) r v p ∷ []) ++ drop (4 * n + 4) ws
+unfolding words new-node
+put-behind ws n r v p s t u e et eu =
+    let ms = map (strike-crossed r p) (rows-of ws n) in
+    let l : length (words ms) ≡ 4 * n = length-words ms ∙ ap (λ k. 4 * k) (length-map (rows-of ws n) (strike-crossed r p) ∙ length-rows ws n) in
+    let front : take (4 * n) t ≡ words ms = ap (take (4 * n)) et ∙ take-at (words ms) (drop (4 * n) ws) (4 * n) l in
+    let back : drop (4 * n + 4) t ≡ drop (4 * n + 4) ws =
+    ap (drop (4 * n + 4)) et ∙ ap (λ k. drop (k + 4) (words ms ++ drop (4 * n) ws)) (sym l) ∙ drop-append-add (words ms) (drop (4 * n) ws) 4 ∙ drop-drop 4 (4 * n) ws in
+    eu ∙ rw (front, back, e, words-append ms (new-node (rows-of ws n) r v p ∷ []), append-assoc) refl
 
 -- Calls on any words: 1, 2, or the step of a tree.
 module _ (valued : Bool) (ws : List ℕ) (c : Call) where

@@ -10,11 +10,11 @@ ghost use mathlib.Core.List.{_∷_, [], _++_, map};
 ghost use Prim.Native.Nat.{_+_, _*_, _≤_, _<_};
 ghost use lib.ListN.{length, drop};
 ghost use Rattle.laws.specs.Lists.{any};
-ghost use Rattle.quorum_tree.specs.Machine.{Call, add, commit, answer, above, present, new-node, path};
-ghost use Rattle.quorum_tree.specs.Table.{sized, rows, rows-of, nodes, words, Tree, fresh-number, fresh-table, path-number, path-count, path-slice};
+ghost use Rattle.quorum_tree.specs.Machine.{add, commit, answer, above, new-node};
+ghost use Rattle.quorum_tree.specs.Table.{sized, rows, rows-of, words, Tree, fresh-number, fresh-table};
 ghost use Rattle.table.specs.Rows.{strike-crossed};
 ghost use Rattle.tree.specs.Answers.{number-of-fresh, number-of-add, number-of-commit, number-of-path, count-of-path};
-ghost use Rattle.tree.specs.Promises.{Called, Stepped};
+ghost use Rattle.tree.specs.Promises.{Called, Stepped, PathOf, PathWritten, PathGiven};
 
 pub mod answers;
 
@@ -173,4 +173,50 @@ pub fn commit(t: &mut [u64], r: Round) -> CommitAnswer
         return CommitAnswer::NotTree;
     }
     commit_step(true, t, r)
+}
+
+// Writes the path of round r into `out` if that has room for it and for `behind` more rounds, and answers how many it wrote; else it
+// writes nothing and answers 0. The round falls at each call.
+fn path_into(t: &[u64], n: usize, r: u64, out: &mut [u64], behind: usize) -> usize
+    requires { ⌜ PathOf (now t) n r behind ⌝ }
+    ensures { λ k. ⌜ PathWritten (now (t .entry)) r behind (now (out .entry)) k (now (out .exit)) ⌝ }
+{
+    if r == 0 {
+        if out.len() <= behind {
+            return 0;
+        }
+        out[0] = 0;
+        return 1;
+    }
+    let parent = table::parent_at(t, table::find_row(t, n, r));
+    let k = path_into(t, n, parent, out, behind + 1);
+    if k == 0 {
+        return 0;
+    }
+    out[k] = r;
+    k + 1
+}
+
+// path(r): the rounds from the root to r, written from the first word.
+pub fn path(t: &[u64], r: Round, out: &mut [u64]) -> PathAnswer
+    ensures { λ a. ⌜ PathGiven true (now (t .entry)) (r .0) (now (out .entry)) (number-of-path a) (count-of-path a) (now (out .exit)) ⌝ }
+{
+    if !table_check::has_table_length(t) {
+        return PathAnswer::WrongLength;
+    }
+    if !table_check::is_tree(true, t) {
+        return PathAnswer::NotTree;
+    }
+    if ids::LAST_ROUND < r.0 {
+        return PathAnswer::OutOfRange;
+    }
+    let n = table::used_rows(t);
+    if n <= table::find_row(t, n, r.0 as u64) {
+        return PathAnswer::Absent;
+    }
+    let k = path_into(t, n, r.0 as u64, out, 0);
+    if k == 0 {
+        return PathAnswer::SliceTooShort;
+    }
+    PathAnswer::Written(k)
 }

@@ -49,10 +49,11 @@ returns-3 : tie.Need-returns-3
 unfolding answer causes
 returns-3 c =
     let d = c .before .before in
-    rw
-    ( ranged (d .before .before .before .before),
+    rw (
+      ranged (d .before .before .before .before),
       d .before .find-row .ensures .none (d .if2 .left),
-      c .before .find-row2 .ensures .none (c .if3 .taken) )
+      c .before .find-row2 .ensures .none (c .if3 .taken),
+    )
     refl
 
 returns-4 : tie.Need-returns-4
@@ -60,11 +61,12 @@ unfolding answer causes
 returns-4 c =
     let f = c .before in
     let d = f .before .before in
-    rw
-    ( ranged (d .before .before .before .before),
+    rw (
+      ranged (d .before .before .before .before),
       d .before .find-row .ensures .none (d .if2 .left),
       f .before .find-row2 .ensures .there (f .if3 .left),
-      le-leb _ _ (c .if4 .taken) )
+      le-leb _ _ (c .if4 .taken),
+    )
     refl
 
 other-value-requires : tie.Need-other-value-requires
@@ -80,11 +82,12 @@ unfolding answer causes
 lower c =
     let f = c .before in
     let d = f .before .before in
-    rw
-    ( ranged (d .before .before .before .before),
+    rw (
+      ranged (d .before .before .before .before),
       d .before .find-row .ensures .none (d .if2 .left),
       f .before .find-row2 .ensures .there (f .if3 .left),
-      lt-leb _ _ (c .if4 .left) )
+      lt-leb _ _ (c .if4 .left),
+    )
     refl
 
 valued-by : (c : tie.After-other-value) →

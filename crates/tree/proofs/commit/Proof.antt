@@ -1,47 +1,55 @@
+-- `tree::commit` meets its contract: 1, 2, or the step of a tree. Assumes nothing.
+use mathlib.Core.Path.{_≡_, sym, _∙_}
+use mathlib.Core.Bool.{true}
 use borrow.Author.Needs.{needs}
+use borrow.Author.Tests.{not-true, not-false}
+use denote.Ref.{now}
+use Rattle.quorum_tree.specs.Table.{sized, is-tree}
+use Rattle.quorum_tree.proofs.Trees.{is-tree-exact}
+use Rattle.tree.proofs.Stepping.{wrong-length, not-tree, of-tree}
 use Rattle.tree.proofs.commit.Statement.{statement}
 use Rattle.tree.proofs.commit.Tie as tie
-use Rattle.tree.proofs.commit.Reads as reads
-use Rattle.tree.proofs.commit.Lts as lts
-use Rattle.table_check.proofs.has_table_length.Reads as has-table-length-reads
-use Rattle.table_check.proofs.is_tree.Reads as is-tree-reads
-use Rattle.tree.proofs.commit_step.Reads as commit-step-reads
 
--- src/lib.rt:169:9
 has-table-length-requires : tie.Need-has-table-length-requires
 has-table-length-requires c κs = search needs
 
--- src/lib.rt:170:9
 same-length : tie.Need-same-length
 same-length c = search needs
 
--- src/lib.rt:170:9
 returns : tie.Need-returns
-returns c = ?
+returns c = wrong-length true _ _ (sym (c .before .has-table-length .ensures) ∙ not-true _ (c .if1 .taken))
 
--- src/lib.rt:172:9
+-- the length is that of a table
+long : (c : tie.Else1) → sized (now (c .before .before .before .before .args .t)) ≡ true
+long c = sym (c .before .has-table-length .ensures) ∙ not-false _ (c .if1 .left)
+
 is-tree-requires : tie.Need-is-tree-requires
-is-tree-requires c κs = ?
+is-tree-requires c κs = long (c .before)
 
--- src/lib.rt:173:9
 same-length-2 : tie.Need-same-length-2
 same-length-2 c = search needs
 
--- src/lib.rt:173:9
 returns-2 : tie.Need-returns-2
-returns-2 c = ?
+returns-2 c = not-tree true _ _ (long (c .before .before .before)) (sym (c .before .is-tree .ensures) ∙ not-true _ (c .if2 .taken))
 
--- src/lib.rt:175:5
+-- the table is a tree
+grown : (c : tie.Else2) → is-tree true (now (c .before .before .before .before .before .before .before .args .t)) ≡ true
+grown c = sym (c .before .is-tree .ensures) ∙ not-false _ (c .if2 .left)
+
 commit-step-requires : tie.Need-commit-step-requires
-commit-step-requires c κs = ?
+commit-step-requires c κs =
+    let b = c .before in
+    let l = long (b .before .before .before) in
+    (l, is-tree-exact true _ l .0 (grown b))
 
--- src/lib.rt:166:1
 same-length-3 : tie.Need-same-length-3
 same-length-3 c = search needs
 
--- src/lib.rt:166:1
 returns-3 : tie.Need-returns-3
-returns-3 c = ?
+returns-3 c =
+    let s = c .before .before in
+    let b = s .before .before in
+    of-tree true _ _ _ _ (long (b .before .before .before)) (grown b) (s .commit-step .ensures)
 
 pub commit-spec : {M : Type 1} → statement M
 commit-spec =

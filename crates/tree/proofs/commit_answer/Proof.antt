@@ -45,10 +45,11 @@ returns-3 : tie.Need-returns-3
 unfolding answer causes
 returns-3 c =
     let d = c .before .before in
-    rw
-    ( ranged (d .before .before .before),
+    rw (
+      ranged (d .before .before .before),
       d .before .find-row .ensures .there (d .if2 .left),
-      eq-eqb _ _ (status-is (c .before) ∙ c .if3 .taken) )
+      eq-eqb _ _ (status-is (c .before) ∙ c .if3 .taken),
+    )
     refl
 
 returns-4 : tie.Need-returns-4
@@ -56,11 +57,12 @@ unfolding answer causes
 returns-4 c =
     let f = c .before in
     let d = f .before .before in
-    rw
-    ( ranged (d .before .before .before),
+    rw (
+      ranged (d .before .before .before),
       d .before .find-row .ensures .there (d .if2 .left),
       ne-eqb _ _ (λ q. f .if3 .left (sym (status-is (f .before)) ∙ q)),
-      eq-eqb _ _ (status-is (f .before) ∙ c .if4 .taken) )
+      eq-eqb _ _ (status-is (f .before) ∙ c .if4 .taken),
+    )
     refl
 
 returns-5 : tie.Need-returns-5
@@ -68,12 +70,14 @@ unfolding answer causes
 returns-5 c =
     let f = c .before in
     let d = f .before .before in
-    rw
-    ( ranged (d .before .before .before),
+    rw (
+      ranged (d .before .before .before),
       d .before .find-row .ensures .there (d .if2 .left),
       ne-eqb _ _ (λ q. f .if3 .left (sym (status-is (f .before)) ∙ q)),
-      ne-eqb _ _ (λ q. c .if4 .left (sym (status-is (f .before)) ∙ q)) )
+      ne-eqb _ _ (λ q. c .if4 .left (sym (status-is (f .before)) ∙ q)),
+    )
     refl
+
 pub commit-answer-spec : {M : Type 1} → statement M
 commit-answer-spec =
     tie.close

@@ -1,48 +1,53 @@
+-- `tree::fresh` meets its contract: a cleared table with the root's status. Assumes nothing.
+use mathlib.Core.Path.{_≡_, refl, sym, ap, _∙_}
+use mathlib.Core.Bool.{true, false}
+use native.Mathlib.Omega.{arith}
+use lib.ListN.{set}
 use borrow.Author.Needs.{needs}
+use borrow.Author.Tests.{not-true, not-false}
+use denote.Ref.{now}
+use Rattle.quorum_tree.specs.Table.{sized, fresh-number, fresh-table}
+use Rattle.tree.proofs.Stepping.{four, fresh-left}
 use Rattle.tree.proofs.fresh.Statement.{statement}
 use Rattle.tree.proofs.fresh.Tie as tie
-use Rattle.tree.proofs.fresh.Reads as reads
-use Rattle.tree.proofs.fresh.Lts as lts
-use Rattle.table.proofs.clear.Reads as clear-reads
-use Rattle.table.proofs.set_status.Reads as set-status-reads
-use Rattle.table_check.proofs.has_table_length.Reads as has-table-length-reads
 
--- src/lib.rt:26:9
 has-table-length-requires : tie.Need-has-table-length-requires
 has-table-length-requires c κs = search needs
 
--- src/lib.rt:27:9
 same-length : tie.Need-same-length
 same-length c = search needs
 
--- src/lib.rt:27:9
 returns : tie.Need-returns
-returns c = ?
+unfolding fresh-number fresh-table
+returns c =
+    let e : sized (now (c .before .before .before .before .args .t)) ≡ false = sym (c .before .has-table-length .ensures) ∙ not-true _ (c .if1 .taken) in
+    (rw e refl, rw e refl)
 
--- src/lib.rt:29:5
+-- the length is that of a table
+long : (c : tie.Else1) → sized (now (c .before .before .before .before .args .t)) ≡ true
+long c = sym (c .before .has-table-length .ensures) ∙ not-false _ (c .if1 .left)
+
 clear-requires : tie.Need-clear-requires
 clear-requires c κs = search needs
 
--- src/lib.rt:30:5
 set-status-requires : tie.Need-set-status-requires
-set-status-requires c κs = ?
+set-status-requires c κs =
+    let d = c .before .before .before in
+    let b = d .before .before in
+    omega (arith, d .clear .kept .0, four (now (b .before .before .before .before .args .t)) (long b))
 
--- src/lib.rt:22:1
 same-length-2 : tie.Need-same-length-2
 same-length-2 c = search needs
 
--- src/lib.rt:22:1
 returns-2 : tie.Need-returns-2
-returns-2 c = ?
+unfolding fresh-number
+returns-2 c =
+    let s = c .before .before in
+    let d = s .before .before .before .before in
+    let b = d .before .before in
+    (rw (long b) refl, s .set-status .ensures ∙ ap (λ l. set l 3 3) (d .clear .ensures) ∙ fresh-left _ (long b))
 
 pub fresh-spec : {M : Type 1} → statement M
 fresh-spec =
     tie.close
-    (tie.spec
-    has-table-length-requires
-    same-length
-    returns
-    clear-requires
-    set-status-requires
-    same-length-2
-    returns-2)
+    (tie.spec has-table-length-requires same-length returns clear-requires set-status-requires same-length-2 returns-2)

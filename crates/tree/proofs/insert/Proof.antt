@@ -1,32 +1,31 @@
+-- `tree::insert` meets its contract: the struck rows, the new one behind them, and the rest as it was. Assumes nothing.
+use mathlib.Core.Path.{_≡_, sym, ap, subst, _∙_}
 use borrow.Author.Needs.{needs}
+use denote.Ref.{now}
+use Rattle.tree.proofs.Stepping.{put-behind}
 use Rattle.tree.proofs.insert.Statement.{statement}
 use Rattle.tree.proofs.insert.Tie as tie
-use Rattle.tree.proofs.insert.Reads as reads
-use Rattle.tree.proofs.insert.Lts as lts
-use Rattle.table.proofs.put_row.Reads as put-row-reads
-use Rattle.table.proofs.strike.Reads as strike-reads
-use Rattle.tree.proofs.new_status.Reads as new-status-reads
 
--- src/lib.rt:82:9
 new-status-requires : tie.Need-new-status-requires
 new-status-requires c κs = search needs
 
--- src/lib.rt:83:5
 strike-requires : tie.Need-strike-requires
 strike-requires c κs = search needs
 
--- src/lib.rt:84:5
 put-row-requires : tie.Need-put-row-requires
 put-row-requires c κs = search needs
 
--- src/lib.rt:78:1
 same-length : tie.Need-same-length
 same-length c = search needs
 
--- src/lib.rt:78:1
 returns : tie.Need-returns
-returns c = ?
+returns c =
+    let p = c .before .before in
+    let s = p .before .before .before .before in
+    let n = s .before .before in
+    let a = n .before .before .before .args in
+    put-behind (now (a .t)) (a .n) (a .r) (a .v) (a .p) (n .new-status .result) (s .strike .last .0) (p .put-row .last .0)
+    (n .new-status .ensures) (s .strike .ensures) (p .put-row .ensures)
 
 pub insert-spec : {M : Type 1} → statement M
-insert-spec =
-    tie.close (tie.spec new-status-requires strike-requires put-row-requires same-length returns)
+insert-spec = tie.close (tie.spec new-status-requires strike-requires put-row-requires same-length returns)
