@@ -1,0 +1,2 @@
+-- Laws of XDR numbers.
+pub mod Laws

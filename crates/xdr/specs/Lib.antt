@@ -1,0 +1,2 @@
+-- XDR (RFC 4506): what a number is as bytes.
+pub mod Words
