@@ -41,14 +41,3 @@ word-at s at = value (take 4 (drop at s))
 unfoldable pub hyper-at : List ℕ → ℕ → ℕ
 unfolding value
 hyper-at s at = value (take 8 (drop at s))
-
--- numbers one after another
-pub data Item : Type 0 where
-  integer : ℕ → Item
-  long : ℕ → Item
-
-unfoldable pub encoded : List Item → List ℕ
-unfolding word hyper
-encoded [] = []
-encoded (integer x ∷ l) = word x ++ encoded l
-encoded (long x ∷ l) = hyper x ++ encoded l
