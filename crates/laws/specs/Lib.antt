@@ -3,3 +3,4 @@ pub mod Tests
 pub mod Lists
 pub mod First
 pub mod Parts
+pub mod Answers

@@ -15,6 +15,18 @@ unfolding encoded
 encoded-append [] js = refl
 encoded-append (i ∷ is) js = rw (encoded-append is js, append-assoc (item i) (encoded is) (encoded js))
 
+-- how many bytes items have
+abbrev pub span : List Item → ℕ
+span [] = 0
+span (integer x ∷ l) = 4 + span l
+span (long x ∷ l) = 8 + span l
+
+pub length-encoded : (is : List Item) → length (encoded is) ≡ span is
+unfolding encoded
+length-encoded [] = refl
+length-encoded (integer x ∷ l) = rw (length-append (word x) (encoded l), length-word x, length-encoded l)
+length-encoded (long x ∷ l) = rw (length-append (hyper x) (encoded l), length-hyper x, length-encoded l)
+
 -- an item is read where it was put
 pub integer-found : (is js : List Item) (x at : ℕ) → length (encoded is) ≡ at → x < 4294967296 → word-at (encoded (is ++ integer x ∷ js)) at ≡ x
 unfolding encoded

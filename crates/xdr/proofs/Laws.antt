@@ -1,10 +1,10 @@
 -- Laws of XDR numbers, over the number n of bytes: a number below 256 ^ n is read back from its n bytes, and n bytes are those of the
 -- number that they spell. Both go by the last byte, which is the remainder by 256. Assumes nothing.
 use mathlib.Core.Path.{_≡_, refl, sym, ap, _∙_}
-use mathlib.Core.List.{List, [], _∷_, _++_, List·Memᴰ·append-cases, Memᴰ·append-left, Memᴰ·append-right}
+use mathlib.Core.List.{List, [], _∷_, _++_, List·Memᴰ·head as here, List·Memᴰ·tail as there, List·Memᴰ·append-cases, Memᴰ·append-left, Memᴰ·append-right}
 use mathlib.Core.Logic.{⊎-elim}
 use Prim.Native.Nat.{ℕ, zero, suc, _+_, _*_, _/_, _%_, _^_, _≤_, _<_}
-use native.Mathlib.Nat.{pow-suc, pow-succ', add-mul, mul-assoc, zero-add}
+use native.Mathlib.Nat.{pow-suc, pow-succ', add-mul, mul-assoc, mul-le-mul-right, zero-add}
 use native.Mathlib.Omega.{arith}
 use lib.ListN.{length, take, drop, getD, set, length-append, length-drop, take-append-drop}
 use lib.Seq.{take-suc, take-all, take-at, drop-at, length-take-le, drop-drop, drop-cons, take-add, sets-eq}
@@ -72,22 +72,35 @@ value-append l k = further 0 l k ∙ value-shift (value-after 0 l) k
     further a [] k = refl
     further a (b ∷ l) k = further (a * 256 + b) l k
 
+-- bytes spell a number that fits their width
+value-small : (l : List ℕ) → Bytes l → value l < 256 ^ length l
+unfolding value value-after
+value-small [] k = omega arith
+value-small (b ∷ l) k =
+    let p = 256 ^ length l in
+    let byte : b ≤ 255 = omega (arith, k b (here refl)) in
+    let low : value-after 0 l < p = value-small l (λ c m. k c (there m)) in
+    let e : value-after (0 + b) l ≡ (0 + b) * p + value-after 0 l = value-shift (0 + b) l in
+    rw (e, zero-add b, pow-succ' 256 (length l)) (omega (arith, mul-le-mul-right p byte))
+
 -- a number stands where it was put
 found : (n x at : ℕ) (front rest : List ℕ) → x < 256 ^ n → length front ≡ at → value (take n (drop at (front ++ (big-endian n x ++ rest)))) ≡ x
 found n x at front rest small h =
     rw (drop-at front (big-endian n x ++ rest) at h, take-at (big-endian n x) rest n (length-big-endian n x)) (spelt n x small)
 
--- the n bytes at a place are those of the number that stands there
+-- the n bytes at a place are bytes, n of them
+part-bytes : (n at : ℕ) (s : List ℕ) → Bytes s → Bytes (take n (drop at s))
+part-bytes n at s k b m =
+    let inner : b ∈ drop at s = rw (take-append-drop n (drop at s)) at (Memᴰ·append-left (drop n (drop at s)) m) in
+    k b (rw (take-append-drop at s) at (Memᴰ·append-right (take at s) inner))
+
+part-length : (n at : ℕ) (s : List ℕ) → at + n ≤ length s → length (take n (drop at s)) ≡ n
+part-length n at s h = length-take-le n (drop at s) (rw (length-drop at s) (omega arith))
+
+-- they are those of the number that stands there
 whole : (n at : ℕ) (s : List ℕ) → Bytes s → at + n ≤ length s → big-endian n (value (take n (drop at s))) ++ drop (at + n) s ≡ drop at s
 whole n at s k h =
-    let size : length (take n (drop at s)) ≡ n = length-take-le n (drop at s) (rw (length-drop at s) (omega arith)) in
-    let bytes : Bytes (take n (drop at s)) = λ b m. k b (in-part b m) in
-    rw (respelt n (take n (drop at s)) size bytes, ← drop-drop n at s) (take-append-drop n (drop at s))
-  where
-    in-part : (b : ℕ) → b ∈ take n (drop at s) → b ∈ s
-    in-part b m =
-        let inner : b ∈ drop at s = rw (take-append-drop n (drop at s)) at (Memᴰ·append-left (drop n (drop at s)) m) in
-        rw (take-append-drop at s) at (Memᴰ·append-right (take at s) inner)
+    rw (respelt n (take n (drop at s)) (part-length n at s h) (part-bytes n at s k), ← drop-drop n at s) (take-append-drop n (drop at s))
 
 pub length-word : (x : ℕ) → length (word x) ≡ 4
 unfolding word
@@ -113,6 +126,10 @@ pub hyper-whole : (at : ℕ) (s : List ℕ) → Bytes s → at + 8 ≤ length s 
 unfolding hyper hyper-at
 hyper-whole at s k h = whole 8 at s k h
 
+pub hyper-at-small : (at : ℕ) (s : List ℕ) → Bytes s → at + 8 ≤ length s → hyper-at s at < 18446744073709551616
+unfolding hyper-at
+hyper-at-small at s k h = rw (part-length 8 at s h) at (value-small (take 8 (drop at s)) (part-bytes 8 at s k))
+
 -- the bytes of a number are those of its high part and then those of its low part
 big-endian-parts : (m n high low : ℕ) → high < 256 ^ m → low < 256 ^ n → big-endian (m + n) (high * 256 ^ n + low) ≡ big-endian m high ++ big-endian n low
 big-endian-parts m n high low h k =
@@ -134,7 +151,7 @@ hyper-words x h =
 pub hyper-at-words : (s : List ℕ) (at : ℕ) → at + 8 ≤ length s → hyper-at s at ≡ word-at s at * 4294967296 + word-at s (at + 4)
 unfolding hyper-at word-at
 hyper-at-words s at h =
-    let low : length (take 4 (drop (at + 4) s)) ≡ 4 = length-take-le 4 (drop (at + 4) s) (rw (length-drop (at + 4) s) (omega arith)) in
+    let low : length (take 4 (drop (at + 4) s)) ≡ 4 = part-length 4 (at + 4) s (omega arith) in
     let parts : take 8 (drop at s) ≡ take 4 (drop at s) ++ take 4 (drop (at + 4) s) = rw (take-add 4 4 (drop at s), drop-drop 4 at s) in
     rw (parts, value-append (take 4 (drop at s)) (take 4 (drop (at + 4) s)), low) refl
 
