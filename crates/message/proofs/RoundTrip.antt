@@ -26,10 +26,10 @@ use Rattle.message.specs.declared.Message.the-variants.{Start, Join, Joi
 use Rattle.message.specs.declared.Fault.the-variants.{Length, Kind, Field}
 use Rattle.message.specs.declared.Read.the-variants.{Got, Refused}
 use Rattle.message.specs.Fields.{head-in-range, vote-in-range, in-range}
-use Rattle.message.specs.Layout.{head, words, bytes, byte-count, Held}
-use Rattle.message.specs.Reading.{under-4, no-kind, wrong-length, kind, round, sender, presence, voted, is-join, wrong-presence, inexact, size, decoded, row, answer, read-number, read}
+use Rattle.message.specs.Layout.{head, words, bytes, byte-count, kind, round, sender, presence, voted, voted-value, proposed, Held}
+use Rattle.message.specs.Reading.{under-4, no-kind, wrong-length, is-join, wrong-presence, inexact, size, decoded, message-row, answer, read-number, read}
 use Rattle.message.specs.declared.Written.the-variants.{Sent, ShortBuffer, OutOfRange}
-use Rattle.message.specs.Writing.{causes, answer-of, written, written-number, left, in-front}
+use Rattle.message.specs.Writing.{writer-row, answer-of, written, written-number, buffer-after, in-front}
 use Rattle.message.proofs.Checks.{size-least, size-join-least, size-join, size-join-voted, size-propose, size-other, decoded-start, decoded-join, decoded-join-voted, decoded-propose, decoded-vote}
 
 -- a round in range is a word
@@ -84,7 +84,7 @@ whole-read s m w e h =
     by-test (is-join s)
     (λ j. rw j (le-ltb (length s) 16 (omega (arith, size-join-least s (eqb-true (kind s) 2 j)))))
     (λ j. rw j sized) in
-    ap (λ (n : ℕ). answer n (decoded s)) (zero-of (row s) (long-enough, (known, (length-right, (w .present, (sized, (ranged, tt))))))) ∙ ap Got e
+    ap (λ (n : ℕ). answer n (decoded s)) (zero-of (message-row s) (long-enough, (known, (length-right, (w .present, (sized, (ranged, tt))))))) ∙ ap Got e
 
 answer-got : (n : ℕ) (a m : Message) → answer n a ≡ Got m → (n ≡ 0) × (a ≡ m)
 answer-got n a m h =
@@ -102,8 +102,8 @@ answer-got n a m h =
 read-whole : (s : List ℕ) (m : Message) → read s ≡ Got m → Whole s × (decoded s ≡ m) × (in-range m ≡ true)
 unfolding read
 read-whole s m h =
-    let (zero-first, same) = answer-got (first (row s)) (decoded s) m h in
-    let (long-enough, (known, (length-right, (present, (sized, (ranged, end)))))) = passed (row s) refl zero-first in
+    let (zero-first, same) = answer-got (first (message-row s)) (decoded s) m h in
+    let (long-enough, (known, (length-right, (present, (sized, (ranged, end)))))) = passed (message-row s) refl zero-first in
     let nonzero : eqb (kind s) 0 ≡ false = or-left (eqb (kind s) 0) (ltb 4 (kind s)) known in
     let small : ltb 4 (kind s) ≡ false = or-right (eqb (kind s) 0) (ltb 4 (kind s)) known in
     let whole : Whole s =
@@ -143,10 +143,10 @@ module _ (s : List ℕ) (b : Bytes s) where
       (stood (Join (round s) (sender s)) (k, (refl, (refl, (p, tt)))) (w .exact ∙ size-join s k p), tt))
       (λ k p. let l : length s ≡ 28 = w .exact ∙ size-join-voted s k p in
       rw (← e, decoded-join-voted s k p)
-      (stood (JoinVoted (round s) (sender s) (voted s) (hyper-at s 20)) (k, (refl, (refl, (p, (refl, (refl, tt)))))) l, hyper-at-small 20 s b (omega arith)))
+      (stood (JoinVoted (round s) (sender s) (voted s) (voted-value s)) (k, (refl, (refl, (p, (refl, (refl, tt)))))) l, hyper-at-small 20 s b (omega arith)))
       (λ k. let l : length s ≡ 20 = w .exact ∙ size-propose s k in
       rw (← e, decoded-propose s k)
-      (stood (Propose (round s) (sender s) (hyper-at s 12)) (k, (refl, (refl, (refl, tt)))) l, hyper-at-small 12 s b (omega arith)))
+      (stood (Propose (round s) (sender s) (proposed s)) (k, (refl, (refl, (refl, tt)))) l, hyper-at-small 12 s b (omega arith)))
       (λ k. rw (← e, decoded-vote s k)
       (stood (Vote (round s) (sender s)) (k, (refl, (refl, tt))) (w .exact ∙ size-other s (λ z. omega arith) (λ z. omega arith)), tt))
 
@@ -234,22 +234,22 @@ answer-sent k m n h =
     (λ u. let z : OutOfRange ≡ Sent n = rw u at g in impossible (cc)))
 
 -- a message that the writer took stands at the front of the buffer, is in range, and reads back
-pub written-reads-back : (m : Message) (old : List ℕ) (n : ℕ) → Held m → written m old ≡ Sent n → (in-range m ≡ true) × (read (take n (left m old)) ≡ Got m)
-unfolding written left in-front
+pub written-reads-back : (m : Message) (old : List ℕ) (n : ℕ) → Held m → written m old ≡ Sent n → (in-range m ≡ true) × (read (take n (buffer-after m old)) ≡ Got m)
+unfolding written buffer-after in-front
 written-reads-back m old n v h =
-    let (ok, size) = answer-sent (first (causes m old)) m n h in
-    let (room, (ranged, end)) = passed (causes m old) refl ok in
+    let (ok, size) = answer-sent (first (writer-row m old)) m n h in
+    let (room, (ranged, end)) = passed (writer-row m old) refl ok in
     let fits : in-range m ≡ true = not-false (in-range m) ranged in
     (fits, simp (room, fits, take-at (bytes m) (drop (length (bytes m)) old) n size) (reads-back m v fits))
 
 -- an answer has the number of the first cause of its row
-pub read-row : (s : List ℕ) → read-number (read s) ≡ first (row s)
+pub read-numbered : (s : List ℕ) → read-number (read s) ≡ first (message-row s)
 unfolding read
-read-row s = number-kept read-number (λ n. answer n (decoded s)) (row s) (refl, (refl, (refl, (refl, (refl, (refl, refl))))))
+read-numbered s = number-kept read-number (λ n. answer n (decoded s)) (message-row s) (refl, (refl, (refl, (refl, (refl, (refl, refl))))))
 
-pub written-row : (m : Message) (old : List ℕ) → written-number (written m old) ≡ first (causes m old)
+pub written-numbered : (m : Message) (old : List ℕ) → written-number (written m old) ≡ first (writer-row m old)
 unfolding written
-written-row m old = number-kept written-number (λ n. answer-of n m) (causes m old) (refl, (refl, refl))
+written-numbered m old = number-kept written-number (λ n. answer-of n m) (writer-row m old) (refl, (refl, refl))
 
 -- P12 of 01: JOIN words 2, 5, 0 get 14; 2, 5, 0, 0 are accepted
 pub p12 : (read-number (read (encoded (integer 2 ∷ integer 5 ∷ integer 0 ∷ []))) ≡ 14) ×
