@@ -2,6 +2,7 @@
 use mathlib.Core.Path.{sym, _∙_}
 use native.Mathlib.Omega.{arith}
 use borrow.Author.Tests.{lt-ltb, le-ltb}
+use denote.Ref.{now}
 use Rattle.message.specs.Reading.{read}
 use Rattle.message.proofs.Checks.{join-short, size-join, size-join-voted, join-rest}
 use borrow.Author.Needs.{needs}
@@ -9,7 +10,7 @@ use Rattle.message.proofs.read_join.Statement.{statement}
 use Rattle.message.proofs.read_join.Tie as tie
 
 returns : tie.Need-returns
-returns c = sym (join-short _ (c .before .before .pre .1) (c .before .before .pre .0) (c .if1 .taken))
+returns c = sym (join-short (now (c .before .before .args .s)) (c .before .before .pre .1) (c .before .before .pre .0) (omega arith))
 
 word-at-requires : tie.Need-word-at-requires
 word-at-requires c κs = search needs
