@@ -1,5 +1,7 @@
 -- Laws shared by the other crates: Booleans and tests, lists, memberships, refusals in order.
 pub mod Tests
-pub mod Lists
-pub mod First
 pub mod Conjunction
+pub mod Lists
+pub mod Parts
+pub mod First
+pub mod Answers
