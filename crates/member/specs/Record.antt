@@ -1,22 +1,19 @@
 -- The member record of 01, "Members": fresh and sound.
 use mathlib.Core.Bool.{Bool, true, false, cond, _&&_, _||_, not}
 use mathlib.Core.List.{List}
-use Prim.Native.Nat.{ℕ, _+_, _-_, _/_, _%_}
+use Prim.Native.Nat.{ℕ, _%_}
 use lib.ListN.{getD, replicate}
 use lib.Dec.{ltb, leb, eqb}
 use Rattle.ids.specs.declared.Round.{Round}
 use Rattle.ids.specs.declared.Member.{Member}
 use Rattle.ids.specs.Ranges.{above-range}
 use Rattle.quorum.specs.Count.{count, some}
+use Rattle.quorum.specs.Quorum.{quorum}
 use Rattle.member.specs.declared.MemberState.{MemberState}
 
 -- N is 3, 5 or 7
 abbrev pub allowed : ℕ → Bool
 allowed n = eqb n 3 || (eqb n 5 || eqb n 7)
-
--- f = (N-1)/2, quorum f+1
-unfoldable pub quorum : ℕ → ℕ
-quorum n = (n - 1) / 2 + 1
 
 -- the leader of round r is member r mod N
 abbrev pub leads : ℕ → Member → Round → Bool

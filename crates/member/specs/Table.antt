@@ -8,11 +8,12 @@ use Rattle.laws.specs.First.{Cause, _gives_, first}
 use Rattle.ids.specs.declared.Round.{Round}
 use Rattle.ids.specs.declared.Member.{Member}
 use Rattle.ids.specs.Ranges.{out-of-range}
+use Rattle.quorum.specs.Quorum.{quorum}
 use Rattle.message.specs.declared.Message.{Message}
 use Rattle.message.specs.declared.Message.the-variants.{Start, Join, JoinVoted, Propose, Vote}
 use Rattle.message.specs.Fields.{in-range}
 use Rattle.member.specs.declared.MemberState.{MemberState}
-use Rattle.member.specs.Record.{quorum, leads, round, flag, flagged, no-flags, sound, sound-number, fresh}
+use Rattle.member.specs.Record.{leads, round, flag, flagged, no-flags, sound, sound-number, fresh}
 
 -- what a step comes to: its number, the record after it, what it sends (nothing or one message), what its answer names
 pub data Named : Type 0 where
