@@ -1,4 +1,6 @@
 // The member steps of 01, "Members", by value: a record and an event in, the new record and the answer out.
+pub mod soundness;
+
 use ids::Member;
 use ids::Round;
 use message::Message;

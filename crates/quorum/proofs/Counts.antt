@@ -51,6 +51,26 @@ count-beyond p n (suc k) l f =
     (λ t. let e : n ≡ suc k = omega tests in rw e refl)
     (λ t. rw (f k (omega tests) (omega arith)) (count-beyond p n k (omega tests) (λ s a b. f s a (omega arith))))
 
+pub count-grows : (p : ℕ → Bool) (n k : ℕ) → n ≤ k → count p n ≤ count p k
+unfolding count
+count-grows p n zero l = let e : n ≡ 0 = omega arith in rw e (omega arith)
+count-grows p n (suc k) l =
+    by-test (eqb n (suc k))
+    (λ t. let e : n ≡ suc k = omega tests in rw e (omega arith))
+    (λ t.
+    let h : count p n ≤ count p k = count-grows p n k (omega tests) in
+    by-test (p k) (λ u. rw u (omega arith)) (λ u. rw u h))
+
+-- where nothing is added from n to k-1, none passes there
+pub beyond-none : (p : ℕ → Bool) (n k s : ℕ) → count p n ≡ count p k → n ≤ s → s < k → p s ≡ false
+unfolding count
+beyond-none p n k s e a b =
+    by-test (p s)
+    (λ t.
+    let h : suc (count p s) ≤ count p k = rw t at (count-grows p (suc s) k (omega arith)) in
+    absurd (omega (arith, count-grows p n s a)))
+    (λ t. t)
+
 pub some-none : (p : ℕ → Bool) (n s : ℕ) → some p n ≡ false → s < n → p s ≡ false
 unfolding some
 some-none p zero s h l = absurd (omega arith)

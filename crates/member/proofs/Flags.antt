@@ -1,0 +1,48 @@
+-- Sizes of an office, and the flags of a record: cleared, with one more, and none from N on. Counts over the seven are counts over the
+-- members where there is no flag from N on. Assumes nothing.
+use mathlib.Core.Path.{_≡_, refl, sym, _∙_}
+use mathlib.Core.Bool.{Bool, true, false, cond, not, _&&_}
+use mathlib.Core.List.{List, [], _∷_}
+use mathlib.Core.Logic.{_≢_}
+use Prim.Native.Nat.{ℕ, zero, suc, _<_, _≤_}
+use native.Mathlib.Omega.{arith}
+use lib.ListN.{length, getD, set, replicate}
+use lib.Seq.{getD-set-same, getD-set-other}
+use borrow.Author.Tests.{not-true, eqb-true, eq-eqb}
+use lib.Dec.{ltb, leb, eqb}
+use Rattle.laws.specs.Tests.{tests, by-test, clash, or-cases, and-left, and-right, and-cases, and-intro, same-test}
+use Rattle.ids.specs.declared.Member.{Member}
+use Rattle.quorum.specs.Count.{count, some}
+use Rattle.quorum.specs.Quorum.{quorum}
+use Rattle.quorum.proofs.Counts.{count-none, count-more, count-beyond, beyond-none, some-none, none-some}
+use Rattle.member.specs.Record.{allowed, sound-number, flag, flagged, flag-from, no-flags}
+
+-- an office has 3 to 7 members
+pub sizes : (n : ℕ) → allowed n ≡ true → (3 ≤ n) × (n ≤ 7)
+sizes n h =
+    or-cases (eqb n 3) _ h (λ e. (omega tests, omega tests))
+    (λ h′. or-cases (eqb n 5) (eqb n 7) h′ (λ e. (omega tests, omega tests)) (λ e. (omega tests, omega tests)))
+
+-- what the test of number and N says
+pub number-sizes : (me : Member) (n : ℕ) → sound-number me n ≡ true → (me .0 < n) × (3 ≤ n) × (n ≤ 7)
+number-sizes me n h =
+    let (low, high) = sizes n (and-left (allowed n) (ltb (me .0) n) h) in
+    (omega (tests, and-right (allowed n) (ltb (me .0) n) h), low, high)
+
+-- no flag from N on
+pub none-from : (n : ℕ) (fs : List Bool) → not (some (flag-from n fs) 7) ≡ true → (s : ℕ) → n ≤ s → s < 7 → flag fs s ≡ false
+none-from n fs h s a b =
+    and-cases (leb n s) (flag fs s) (some-none (flag-from n fs) 7 s (not-true (some (flag-from n fs) 7) h) b) (λ e. absurd (omega tests)) (λ e. e)
+
+-- as many flags below N as in all, exactly if there is none from N on
+pub counts-agree : (n : ℕ) (fs : List Bool) → n ≤ 7 → eqb (count (flag fs) n) (count (flag fs) 7) ≡ not (some (flag-from n fs) 7)
+counts-agree n fs l =
+    same-test (eqb (count (flag fs) n) (count (flag fs) 7)) (not (some (flag-from n fs) 7))
+    (λ e. let none : some (flag-from n fs) 7 ≡ false = none-some (flag-from n fs) 7 (agree (eqb-true (count (flag fs) n) (count (flag fs) 7) e)) in rw none)
+    (λ h. eq-eqb (count (flag fs) n) (count (flag fs) 7) (sym (count-beyond (flag fs) n 7 l (λ s a b. none-from n fs h s a b))))
+  where
+    agree : count (flag fs) n ≡ count (flag fs) 7 → (s : ℕ) → s < 7 → flag-from n fs s ≡ false
+    agree e s b =
+        by-test (leb n s)
+        (λ t. rw t (beyond-none (flag fs) n 7 s e (omega tests) b))
+        (λ t. rw t)

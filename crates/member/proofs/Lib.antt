@@ -1,0 +1,2 @@
+-- Laws of the member record and its steps.
+pub mod Flags
