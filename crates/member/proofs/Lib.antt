@@ -1,2 +1,3 @@
 -- Laws of the member record and its steps.
 pub mod Flags
+pub mod Checks

@@ -8,6 +8,9 @@ use Rattle.member.specs.declared.Refusal.the-variants.{NotSound, Field, 
 use Rattle.member.specs.declared.Answer.{Answer}
 use Rattle.member.specs.declared.Answer.the-variants.{Refused, Sent, Done, Proposed, Decided}
 use Rattle.member.specs.declared.Step.{Step}
+use Rattle.member.specs.declared.rows.Check.{Check}
+use Rattle.member.specs.declared.rows.Check.the-variants.{Pass}
+use Rattle.member.specs.declared.rows.Check.the-variants as check
 use Rattle.member.specs.Table.{Outcome, refused, sends, silent, nothing, proposal, decision}
 
 abbrev pub refusal-number : Refusal → ℕ
@@ -32,3 +35,8 @@ answer-outcome m (Decided r x) = record { number = 0; state = m; sent = []; name
 -- what a step of the code comes to
 abbrev pub outcome : Step → Outcome
 outcome s = answer-outcome (s .state) (s .answer)
+
+-- the refusals that JOIN and VOTE share
+abbrev pub check-number : Check → ℕ
+check-number Pass = 0
+check-number (check.Refused k) = refusal-number k

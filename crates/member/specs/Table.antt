@@ -97,6 +97,10 @@ counting m s =
 abbrev pub complete : MemberState → Bool
 complete m = eqb (flagged (m .flags)) (quorum (m .n))
 
+-- what happens at f+1 flags, and nothing more before
+abbrev pub at-quorum : (MemberState → Outcome) → MemberState → Outcome
+at-quorum full m = cond (complete m) (full m) (silent m)
+
 -- a voted round above B replaces B and X
 unfoldable pub adopting : MemberState → Round → ℕ → MemberState
 adopting m q w =
@@ -116,14 +120,18 @@ proposes m r =
 
 -- JOIN r once its vote is taken over
 abbrev pub JOIN-row : MemberState → Round → Member → Outcome
-JOIN-row m r s = cond (complete (counting m s)) (proposes (counting m s) r) (silent (counting m s))
+JOIN-row m r s = at-quorum (λ k. proposes k r) (counting m s)
+
+-- V = r and W ≠ v
+abbrev pub other-vote : MemberState → Round → ℕ → Bool
+other-vote m r v = eqb (m .voted .0) (r .0) && not (eqb (m .vote) v)
 
 -- PROPOSE r, v: 21 unless the sender leads r; 22 if J > r; 23 if V = r and W ≠ v
 abbrev pub PROPOSE-causes : MemberState → Round → Member → ℕ → List Cause
 PROPOSE-causes m r s v =
     not (leads (m .n) s r) gives 21 ∷
     ltb (r .0) (m .joined .0) gives 22 ∷
-    (eqb (m .voted .0) (r .0) && not (eqb (m .vote) v)) gives 23 ∷ []
+    other-vote m r v gives 23 ∷ []
 
 -- J = V = r, W = v
 abbrev pub voting : MemberState → Round → ℕ → MemberState
@@ -144,7 +152,7 @@ abbrev pub decides : MemberState → Round → Outcome
 decides m r = record { number = 0; state = deciding m; sent = []; named = decision (r .0) (m .value) }
 
 abbrev pub VOTE-row : MemberState → Round → Member → Outcome
-VOTE-row m r s = cond (complete (counting m s)) (decides (counting m s) r) (silent (counting m s))
+VOTE-row m r s = at-quorum (λ k. decides k r) (counting m s)
 
 -- an event of a member
 pub data Event : Type 0 where

@@ -1,4 +1,5 @@
 // The member steps of 01, "Members", by value: a record and an event in, the new record and the answer out.
+mod rows;
 pub mod soundness;
 
 use ids::Member;
