@@ -1,12 +1,12 @@
 -- Sizes of an office, and the flags of a record: cleared, with one more, and none from N on. Counts over the seven are counts over the
 -- members where there is no flag from N on. Assumes nothing.
 use mathlib.Core.Path.{_≡_, refl, sym, _∙_}
-use mathlib.Core.Bool.{Bool, true, false, cond, not, _&&_}
+use mathlib.Core.Bool.{Bool, true, false, cond, not, _&&_, and-false}
 use mathlib.Core.List.{List, [], _∷_}
 use mathlib.Core.Logic.{_≢_}
 use Prim.Native.Nat.{ℕ, zero, suc, _<_, _≤_}
 use native.Mathlib.Omega.{arith}
-use lib.ListN.{length, getD, set, replicate}
+use lib.ListN.{length, getD, set, replicate, getD-replicate}
 use lib.Seq.{getD-set-same, getD-set-other}
 use borrow.Author.Tests.{not-true, eqb-true, eq-eqb}
 use lib.Dec.{ltb, leb, eqb}
@@ -46,3 +46,37 @@ counts-agree n fs l =
         by-test (leb n s)
         (λ t. rw t (beyond-none (flag fs) n 7 s e (omega tests) b))
         (λ t. rw t)
+
+pub cleared-count : flagged no-flags ≡ 0
+unfolding flagged
+cleared-count = count-none (flag no-flags) 7 (λ s l. getD-replicate 7 s false false l)
+
+-- no flag is short of any quorum
+pub cleared-short : (n : ℕ) → ltb (flagged no-flags) (quorum n) ≡ true
+unfolding quorum
+cleared-short n = rw cleared-count (omega tests)
+
+pub cleared-from : (n : ℕ) → not (some (flag-from n no-flags) 7) ≡ true
+cleared-from n =
+    let e : some (flag-from n no-flags) 7 ≡ false = none-some (flag-from n no-flags) 7 (λ s l. rw (getD-replicate 7 s false false l) (and-false (leb n s))) in
+    rw e
+
+-- the flags with that of s set
+module _ (fs : List Bool) (s : ℕ) (seven : length fs ≡ 7) (low : s < 7) where
+  pub set-count : flag fs s ≡ false → flagged (set fs s true) ≡ suc (flagged fs)
+  unfolding flagged
+  set-count h =
+      count-more (flag fs) (flag (set fs s true)) s 7 low h (getD-set-same fs s true false (omega arith)) (λ t d. getD-set-other fs s t true false d)
+
+  pub set-from : (n : ℕ) → s < n → not (some (flag-from n fs) 7) ≡ true → not (some (flag-from n (set fs s true)) 7) ≡ true
+  set-from n l h =
+      let e : some (flag-from n (set fs s true)) 7 ≡ false = none-some (flag-from n (set fs s true)) 7 above in
+      rw e
+    where
+      above : (t : ℕ) → t < 7 → flag-from n (set fs s true) t ≡ false
+      above t k =
+          by-test (leb n t)
+          (λ a.
+          let d : t ≢ s = omega tests in
+          rw (a, getD-set-other fs s t true false d) (none-from n fs h t (omega tests) k))
+          (λ a. rw a)

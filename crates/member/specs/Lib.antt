@@ -2,3 +2,4 @@
 pub mod Record
 pub mod Table
 pub mod Answers
+pub mod Kept

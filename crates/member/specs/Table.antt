@@ -101,12 +101,14 @@ complete m = eqb (flagged (m .flags)) (quorum (m .n))
 abbrev pub at-quorum : (MemberState → Outcome) → MemberState → Outcome
 at-quorum full m = cond (complete m) (full m) (silent m)
 
+-- B and X replaced
+abbrev pub adopted : MemberState → Round → ℕ → MemberState
+adopted m q w =
+    record { me = m .me; n = m .n; joined = m .joined; voted = m .voted; vote = m .vote; led = m .led; phase = m .phase; value = w; source = q; flags = m .flags }
+
 -- a voted round above B replaces B and X
 unfoldable pub adopting : MemberState → Round → ℕ → MemberState
-adopting m q w =
-    cond (ltb (m .source .0) (q .0))
-    (record { me = m .me; n = m .n; joined = m .joined; voted = m .voted; vote = m .vote; led = m .led; phase = m .phase; value = w; source = q; flags = m .flags })
-    m
+adopting m q w = cond (ltb (m .source .0) (q .0)) (adopted m q w) m
 
 -- phase 2, flags cleared
 abbrev pub proposing : MemberState → MemberState
@@ -182,6 +184,11 @@ row m (deliver (Vote r s)) = VOTE-row m r s
 unfoldable pub sound-step : MemberState → Event → Outcome
 unfolding causes row
 sound-step m e = unless (causes m e) m (row m e)
+
+-- a message to be delivered is within its ranges
+abbrev pub fitting : Event → Bool
+fitting (start r offer) = true
+fitting (deliver g) = in-range g
 
 -- the rows "record" and "message": 17 not sound; 16 a field of the message out of range
 abbrev pub unfit : MemberState → Event → List Cause
