@@ -10,6 +10,7 @@ use Rattle.ids.specs.Ranges.{above-range}
 use Rattle.quorum.specs.Count.{some}
 use Rattle.quorum.specs.Quorum.{quorum}
 use Rattle.member.specs.declared.MemberState.{MemberState}
+use Rattle.member.proofs.Flags.{number-sizes}
 use Rattle.member.specs.Record.{flag-from, flagged, leads, sound, sound-number, sound-vote, sound-flags, sound-idle, sound-count, sound-leading}
 
 -- L = 0 and idle, or leading
@@ -86,3 +87,9 @@ leading-parts m s z =
 
 pub leading-whole : (m : MemberState) → eqb (m .led .0) 0 ≡ false → Leading m → sound-lead m ≡ true
 leading-whole m z l = rw (z, l .active, l .ranged, l .leader, l .lower) (l .counted)
+
+-- a sound record has 3 to 7 members
+pub sound-size : (m : MemberState) → sound m ≡ true → (3 ≤ m .n) × (m .n ≤ 7)
+sound-size m h =
+    let (own, low, high) = number-sizes (m .me) (m .n) (parts m h .number) in
+    (low, high)

@@ -5,6 +5,18 @@ pub mod soundness;
 use ids::Member;
 use ids::Round;
 use message::Message;
+use rows::on_message;
+use rows::on_start_call;
+use rows::refuse;
+use soundness::blank;
+use soundness::number_sound;
+ghost use mathlib.Core.Path.{_≡_};
+ghost use mathlib.Core.Bool.{true};
+ghost use Rattle.message.specs.Fields.{head-in-range, in-range};
+ghost use Rattle.member.specs.Record.{sound};
+ghost use Rattle.member.specs.Table.{start, deliver, fresh-step, step};
+ghost use Rattle.member.specs.Answers.{refusal-number, outcome};
+ghost use Rattle.member.specs.Kept.{Stepped};
 
 // The member record.
 pub struct MemberState {
@@ -69,4 +81,118 @@ pub enum Answer {
 pub struct Step {
     pub state: MemberState,
     pub answer: Answer,
+}
+
+// Whether a message's round and sender are in range.
+fn head_in_range(r: Round, s: Member) -> bool
+    ensures { λ b. ⌜ b ≡ head-in-range r s ⌝ }
+{
+    if !ids::in_range(r) {
+        return false;
+    }
+    if 6 < s.0 {
+        return false;
+    }
+    true
+}
+
+// Whether a message is within the ranges of its kind.
+fn fields_in_range(g: Message) -> bool
+    ensures { λ b. ⌜ b ≡ in-range g ⌝ }
+{
+    match g {
+        Message::Start { round, sender } => head_in_range(round, sender),
+        Message::Join { round, sender } => head_in_range(round, sender),
+        Message::JoinVoted {
+            round,
+            sender,
+            voted,
+            value: _,
+        } => {
+            if !head_in_range(round, sender) {
+                return false;
+            }
+            if voted.0 < 1 {
+                return false;
+            }
+            voted.0 < round.0
+        }
+        Message::Propose {
+            round,
+            sender,
+            value: _,
+        } => head_in_range(round, sender),
+        Message::Vote { round, sender } => head_in_range(round, sender),
+    }
+}
+
+// 01's number of a refusal.
+pub fn number(k: Refusal) -> u32
+    ensures { λ n. ⌜ n ≡ refusal-number k ⌝ }
+{
+    match k {
+        Refusal::NotSound => 17,
+        Refusal::Field => 16,
+        Refusal::RoundRange => 3,
+        Refusal::NotLeader => 19,
+        Refusal::NotAboveLed => 20,
+        Refusal::Sender => 21,
+        Refusal::MovedPast => 22,
+        Refusal::OtherValue => 23,
+        Refusal::NotAwaited => 24,
+        Refusal::CountedAlready => 25,
+    }
+}
+
+// A fresh record.
+pub fn fresh(me: Member, n: u32) -> Step
+    ensures { λ s. ⌜ outcome s ≡ fresh-step me n ⌝ }
+{
+    let m = blank(me, n);
+    if !number_sound(me, n) {
+        return refuse(m, Refusal::NotSound);
+    }
+    Step {
+        state: m,
+        answer: Answer::Done,
+    }
+}
+
+// start(r, offer) of a sound record.
+pub fn start_sound(m: MemberState, r: Round, offer: u64) -> Step
+    requires { ⌜ sound m ≡ true ⌝ }
+    ensures { λ s. ⌜ Stepped m (start r offer) s ⌝ }
+{
+    on_start_call(m, r, offer)
+}
+
+// start(r, offer) of any record.
+pub fn start(m: MemberState, r: Round, offer: u64) -> Step
+    ensures { λ s. ⌜ outcome s ≡ step m (start r offer) ⌝ }
+{
+    if !soundness::sound(m) {
+        return refuse(m, Refusal::NotSound);
+    }
+    start_sound(m, r, offer)
+}
+
+// Delivery of a message within its ranges to a sound record.
+pub fn deliver_sound(m: MemberState, g: Message) -> Step
+    requires { ⌜ (sound m ≡ true) × (in-range g ≡ true) ⌝ }
+    ensures { λ s. ⌜ Stepped m (deliver g) s ⌝ }
+{
+    on_message(m, g)
+}
+
+// Delivery of any message to any record.
+pub fn deliver(m: MemberState, g: Message) -> Step
+    ensures { λ s. ⌜ outcome s ≡ step m (deliver g) ⌝ }
+{
+    if !soundness::sound(m) {
+        return refuse(m, Refusal::NotSound);
+    }
+    if !fields_in_range(g) {
+        return refuse(m, Refusal::Field);
+    }
+    deliver_sound(m, g)
 }

@@ -13,7 +13,7 @@ use message::Message;
 ghost use mathlib.Core.Path.{_≡_};
 ghost use Prim.Native.Nat.{_≤_, _<_};
 ghost use Rattle.member.specs.Record.{leads};
-ghost use Rattle.member.specs.Table.{refused, unless, start-causes, start-row, START-causes, START-row, join-of, count-causes, counting, complete, adopting, JOIN-row, other-vote, PROPOSE-causes, PROPOSE-row, VOTE-row};
+ghost use Rattle.member.specs.Table.{refused, unless, start-causes, start-row, START-causes, START-row, join-of, count-causes, counting, complete, adopting, JOIN-row, other-vote, PROPOSE-causes, PROPOSE-row, VOTE-row, deliver, sound-step};
 ghost use Rattle.laws.specs.First.{first};
 ghost use Rattle.member.specs.Answers.{outcome, refusal-number, check-number};
 
@@ -93,7 +93,7 @@ fn join_message(m: MemberState, r: Round) -> Message
 }
 
 // START r.
-pub fn on_start(m: MemberState, r: Round, s: Member) -> Step
+fn on_start(m: MemberState, r: Round, s: Member) -> Step
     requires { ⌜ 1 ≤ m .n ⌝ }
     ensures { λ t. ⌜ outcome t ≡ unless (START-causes m r s) m (START-row m r) ⌝ }
 {
@@ -122,7 +122,7 @@ fn voted_otherwise(m: MemberState, r: Round, v: u64) -> bool
 }
 
 // PROPOSE r, v.
-pub fn on_propose(m: MemberState, r: Round, s: Member, v: u64) -> Step
+fn on_propose(m: MemberState, r: Round, s: Member, v: u64) -> Step
     requires { ⌜ 1 ≤ m .n ⌝ }
     ensures { λ t. ⌜ outcome t ≡ unless (PROPOSE-causes m r s v) m (PROPOSE-row m r v) ⌝ }
 {
@@ -236,7 +236,7 @@ fn count_join(m: MemberState, r: Round, s: Member) -> Step
 }
 
 // JOIN r without a vote.
-pub fn on_join(m: MemberState, r: Round, s: Member) -> Step
+fn on_join(m: MemberState, r: Round, s: Member) -> Step
     requires { ⌜ (1 ≤ m .n) × (m .n ≤ 7) ⌝ }
     ensures { λ t. ⌜ outcome t ≡ unless (count-causes 1 m r s) m (JOIN-row m r s) ⌝ }
 {
@@ -248,7 +248,7 @@ pub fn on_join(m: MemberState, r: Round, s: Member) -> Step
 }
 
 // JOIN r with a vote for w in round q.
-pub fn on_join_voted(m: MemberState, r: Round, s: Member, q: Round, w: u64) -> Step
+fn on_join_voted(m: MemberState, r: Round, s: Member, q: Round, w: u64) -> Step
     requires { ⌜ (1 ≤ m .n) × (m .n ≤ 7) ⌝ }
     ensures { λ t. ⌜ outcome t ≡ unless (count-causes 1 m r s) m (JOIN-row (adopting m q w) r s) ⌝ }
 {
@@ -260,7 +260,7 @@ pub fn on_join_voted(m: MemberState, r: Round, s: Member, q: Round, w: u64) -> S
 }
 
 // VOTE r.
-pub fn on_vote(m: MemberState, r: Round, s: Member) -> Step
+fn on_vote(m: MemberState, r: Round, s: Member) -> Step
     requires { ⌜ (1 ≤ m .n) × (m .n ≤ 7) ⌝ }
     ensures { λ t. ⌜ outcome t ≡ unless (count-causes 2 m r s) m (VOTE-row m r s) ⌝ }
 {
@@ -283,5 +283,28 @@ pub fn on_vote(m: MemberState, r: Round, s: Member) -> Step
             round: r,
             value: counted.value,
         },
+    }
+}
+
+// Any message.
+pub fn on_message(m: MemberState, g: Message) -> Step
+    requires { ⌜ (1 ≤ m .n) × (m .n ≤ 7) ⌝ }
+    ensures { λ t. ⌜ outcome t ≡ sound-step m (deliver g) ⌝ }
+{
+    match g {
+        Message::Start { round, sender } => on_start(m, round, sender),
+        Message::Join { round, sender } => on_join(m, round, sender),
+        Message::JoinVoted {
+            round,
+            sender,
+            voted,
+            value,
+        } => on_join_voted(m, round, sender, voted, value),
+        Message::Propose {
+            round,
+            sender,
+            value,
+        } => on_propose(m, round, sender, value),
+        Message::Vote { round, sender } => on_vote(m, round, sender),
     }
 }
