@@ -2,3 +2,5 @@
 pub mod Tests
 pub mod Lists
 pub mod First
+pub mod Parts
+pub mod Answers

@@ -12,7 +12,7 @@ use soundness::blank;
 use soundness::number_sound;
 ghost use mathlib.Core.Path.{_≡_};
 ghost use mathlib.Core.Bool.{true};
-ghost use Rattle.message.specs.Fields.{head-in-range, in-range};
+ghost use Rattle.message.specs.Fields.{in-range};
 ghost use Rattle.member.specs.Record.{sound};
 ghost use Rattle.member.specs.Table.{start, deliver, fresh-step, step};
 ghost use Rattle.member.specs.Answers.{refusal-number, outcome};
@@ -83,49 +83,6 @@ pub struct Step {
     pub answer: Answer,
 }
 
-// Whether a message's round and sender are in range.
-fn head_in_range(r: Round, s: Member) -> bool
-    ensures { λ b. ⌜ b ≡ head-in-range r s ⌝ }
-{
-    if !ids::in_range(r) {
-        return false;
-    }
-    if 6 < s.0 {
-        return false;
-    }
-    true
-}
-
-// Whether a message is within the ranges of its kind.
-fn fields_in_range(g: Message) -> bool
-    ensures { λ b. ⌜ b ≡ in-range g ⌝ }
-{
-    match g {
-        Message::Start { round, sender } => head_in_range(round, sender),
-        Message::Join { round, sender } => head_in_range(round, sender),
-        Message::JoinVoted {
-            round,
-            sender,
-            voted,
-            value: _,
-        } => {
-            if !head_in_range(round, sender) {
-                return false;
-            }
-            if voted.0 < 1 {
-                return false;
-            }
-            voted.0 < round.0
-        }
-        Message::Propose {
-            round,
-            sender,
-            value: _,
-        } => head_in_range(round, sender),
-        Message::Vote { round, sender } => head_in_range(round, sender),
-    }
-}
-
 // 01's number of a refusal.
 pub fn number(k: Refusal) -> u32
     ensures { λ n. ⌜ n ≡ refusal-number k ⌝ }
@@ -191,7 +148,7 @@ pub fn deliver(m: MemberState, g: Message) -> Step
     if !soundness::sound(m) {
         return refuse(m, Refusal::NotSound);
     }
-    if !fields_in_range(g) {
+    if !message::in_range(g) {
         return refuse(m, Refusal::Field);
     }
     deliver_sound(m, g)
