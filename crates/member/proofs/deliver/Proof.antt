@@ -25,13 +25,28 @@ refuse-requires-2 c κs = search needs
 
 returns-2 : tie.Need-returns-2
 unfolding step
-returns-2 c = rw (← c .before .before .before .before .sound .ensures, not-false (c .before .before .before .before .sound .result) (c .before .before .before .if1 .left), ← c .before .before .in-range .ensures, not-true (c .before .before .in-range .result) (c .before .if2 .taken)) (c .refuse2 .ensures)
+returns-2 c =
+    let sound = c .before .before .before .before .sound in
+    let in-range = c .before .before .in-range in
+    rw (
+      ← sound .ensures,
+      not-false (sound .result) (c .before .before .before .if1 .left),
+      ← in-range .ensures,
+      not-true (in-range .result) (c .before .if2 .taken),
+    ) (c .refuse2 .ensures)
 
 deliver-sound-requires : tie.Need-deliver-sound-requires
-deliver-sound-requires c κs = (sym (c .before .before .before .sound .ensures) ∙ not-false (c .before .before .before .sound .result) (c .before .before .if1 .left), sym (c .before .in-range .ensures) ∙ not-false (c .before .in-range .result) (c .if2 .left))
+deliver-sound-requires c κs =
+    let sound = c .before .before .before .sound in
+    let in-range = c .before .in-range in
+    (sym (sound .ensures) ∙ not-false (sound .result) (c .before .before .if1 .left), sym (in-range .ensures) ∙ not-false (in-range .result) (c .if2 .left))
 
 returns-3 : tie.Need-returns-3
-returns-3 c = c .deliver-sound .ensures .equals ∙ sym (step-of-sound (c .before .before .before .before .before .args .m) (deliver (c .before .before .before .before .before .args .g)) (sym (c .before .before .before .before .sound .ensures) ∙ not-false (c .before .before .before .before .sound .result) (c .before .before .before .if1 .left)) (sym (c .before .before .in-range .ensures) ∙ not-false (c .before .before .in-range .result) (c .before .if2 .left)))
+returns-3 c =
+    let args = c .before .before .before .before .before .args in
+    let sound = c .before .before .before .before .sound in
+    let in-range = c .before .before .in-range in
+    c .deliver-sound .ensures .equals ∙ sym (step-of-sound (args .m) (deliver (args .g)) (sym (sound .ensures) ∙ not-false (sound .result) (c .before .before .before .if1 .left)) (sym (in-range .ensures) ∙ not-false (in-range .result) (c .before .if2 .left)))
 
 pub deliver-spec : {M : Type 1} → statement M
 deliver-spec =

@@ -21,7 +21,10 @@ start-sound-requires : tie.Need-start-sound-requires
 start-sound-requires c κs = sym (c .before .sound .ensures) ∙ not-false (c .before .sound .result) (c .if1 .left)
 
 returns-2 : tie.Need-returns-2
-returns-2 c = c .start-sound .ensures .equals ∙ sym (step-of-sound (c .before .before .before .args .m) (start (c .before .before .before .args .r) (c .before .before .before .args .offer)) (sym (c .before .before .sound .ensures) ∙ not-false (c .before .before .sound .result) (c .before .if1 .left)) refl)
+returns-2 c =
+    let args = c .before .before .before .args in
+    let sound = c .before .before .sound in
+    c .start-sound .ensures .equals ∙ sym (step-of-sound (args .m) (start (args .r) (args .offer)) (sym (sound .ensures) ∙ not-false (sound .result) (c .before .if1 .left)) refl)
 
 pub start-spec : {M : Type 1} → statement M
 start-spec =

@@ -16,7 +16,9 @@ refuse-requires c κs = search needs
 
 returns : tie.Need-returns
 returns c =
-    let e : out-of-range (c .before .before .before .args .r .0) ≡ true = not-false (out-of-range (c .before .before .before .args .r .0)) (sym (c .before .before .in-range .ensures) ∙ not-true (c .before .before .in-range .result) (c .before .if1 .taken)) in
+    let args = c .before .before .before .args in
+    let in-range = c .before .before .in-range in
+    let e : out-of-range (args .r .0) ≡ true = not-false (out-of-range (args .r .0)) (sym (in-range .ensures) ∙ not-true (in-range .result) (c .before .if1 .taken)) in
     rw e (c .refuse .ensures)
 
 is-leader-requires : tie.Need-is-leader-requires
@@ -27,21 +29,35 @@ refuse-requires-2 c κs = search needs
 
 returns-2 : tie.Need-returns-2
 returns-2 c =
-    let e : out-of-range (c .before .before .before .before .before .before .args .r .0) ≡ false = not-true (out-of-range (c .before .before .before .before .before .before .args .r .0)) (sym (c .before .before .before .before .before .in-range .ensures) ∙ not-false (c .before .before .before .before .before .in-range .result) (c .before .before .before .before .if1 .left)) in
-    rw (e, ← c .before .before .is-leader .ensures, not-true (c .before .before .is-leader .result) (c .before .if2 .taken)) (c .refuse2 .ensures)
+    let args = c .before .before .before .before .before .before .args in
+    let in-range = c .before .before .before .before .before .in-range in
+    let is-leader = c .before .before .is-leader in
+    let e : out-of-range (args .r .0) ≡ false = not-true (out-of-range (args .r .0)) (sym (in-range .ensures) ∙ not-false (in-range .result) (c .before .before .before .before .if1 .left)) in
+    rw (e, ← is-leader .ensures, not-true (is-leader .result) (c .before .if2 .taken)) (c .refuse2 .ensures)
 
 refuse-requires-3 : tie.Need-refuse-requires-3
 refuse-requires-3 c κs = search needs
 
 returns-3 : tie.Need-returns-3
 returns-3 c =
-    let e : out-of-range (c .before .before .before .before .before .before .before .before .before .args .r .0) ≡ false = not-true (out-of-range (c .before .before .before .before .before .before .before .before .before .args .r .0)) (sym (c .before .before .before .before .before .before .before .before .in-range .ensures) ∙ not-false (c .before .before .before .before .before .before .before .before .in-range .result) (c .before .before .before .before .before .before .before .if1 .left)) in
-    rw (e, ← c .before .before .before .before .before .is-leader .ensures, not-false (c .before .before .before .before .before .is-leader .result) (c .before .before .before .before .if2 .left), le-leb _ _ (c .before .if3 .taken)) (c .refuse3 .ensures)
+    let args = c .before .before .before .before .before .before .before .before .before .args in
+    let in-range = c .before .before .before .before .before .before .before .before .in-range in
+    let is-leader = c .before .before .before .before .before .is-leader in
+    let e : out-of-range (args .r .0) ≡ false = not-true (out-of-range (args .r .0)) (sym (in-range .ensures) ∙ not-false (in-range .result) (c .before .before .before .before .before .before .before .if1 .left)) in
+    rw (
+      e,
+      ← is-leader .ensures,
+      not-false (is-leader .result) (c .before .before .before .before .if2 .left),
+      le-leb _ _ (c .before .if3 .taken),
+    ) (c .refuse3 .ensures)
 
 returns-4 : tie.Need-returns-4
 returns-4 c =
-    let e : out-of-range (c .before .before .before .before .before .before .before .before .before .args .r .0) ≡ false = not-true (out-of-range (c .before .before .before .before .before .before .before .before .before .args .r .0)) (sym (c .before .before .before .before .before .before .before .before .in-range .ensures) ∙ not-false (c .before .before .before .before .before .before .before .before .in-range .result) (c .before .before .before .before .before .before .before .if1 .left)) in
-    rw (e, ← c .before .before .before .before .before .is-leader .ensures, not-false (c .before .before .before .before .before .is-leader .result) (c .before .before .before .before .if2 .left), lt-leb _ _ (c .before .if3 .left))
+    let args = c .before .before .before .before .before .before .before .before .before .args in
+    let in-range = c .before .before .before .before .before .before .before .before .in-range in
+    let is-leader = c .before .before .before .before .before .is-leader in
+    let e : out-of-range (args .r .0) ≡ false = not-true (out-of-range (args .r .0)) (sym (in-range .ensures) ∙ not-false (in-range .result) (c .before .before .before .before .before .before .before .if1 .left)) in
+    rw (e, ← is-leader .ensures, not-false (is-leader .result) (c .before .before .before .before .if2 .left), lt-leb _ _ (c .before .if3 .left))
 
 pub on-start-call-spec : {M : Type 1} → statement M
 on-start-call-spec =
