@@ -46,7 +46,8 @@ returns-3 c =
     let args = c .before .before .before .before .before .args in
     let sound = c .before .before .before .before .sound in
     let in-range = c .before .before .in-range in
-    c .deliver-sound .ensures .equals ∙ sym (step-of-sound (args .m) (deliver (args .g)) (sym (sound .ensures) ∙ not-false (sound .result) (c .before .before .before .if1 .left)) (sym (in-range .ensures) ∙ not-false (in-range .result) (c .before .if2 .left)))
+    c .deliver-sound .ensures .equals ∙
+    sym (step-of-sound (args .m) (deliver (args .g)) (sym (sound .ensures) ∙ not-false (sound .result) (c .before .before .before .if1 .left)) (sym (in-range .ensures) ∙ not-false (in-range .result) (c .before .if2 .left)))
 
 pub deliver-spec : {M : Type 1} → statement M
 deliver-spec =

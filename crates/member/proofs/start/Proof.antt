@@ -24,7 +24,8 @@ returns-2 : tie.Need-returns-2
 returns-2 c =
     let args = c .before .before .before .args in
     let sound = c .before .before .sound in
-    c .start-sound .ensures .equals ∙ sym (step-of-sound (args .m) (start (args .r) (args .offer)) (sym (sound .ensures) ∙ not-false (sound .result) (c .before .if1 .left)) refl)
+    c .start-sound .ensures .equals ∙
+    sym (step-of-sound (args .m) (start (args .r) (args .offer)) (sym (sound .ensures) ∙ not-false (sound .result) (c .before .if1 .left)) refl)
 
 pub start-spec : {M : Type 1} → statement M
 start-spec =

@@ -1,6 +1,5 @@
 -- `member::start_sound` meets its contract: the row, and that steps keep soundness; that the flags are seven is their type. Assumes nothing.
 use mathlib.Core.Path.{_≡_, refl}
-use mathlib.Core.Bool.{true}
 use native.Mathlib.Omega.{arith}
 use lib.ListN.{length, length-map}
 use Rattle.member.proofs.Sound.{sound-size}

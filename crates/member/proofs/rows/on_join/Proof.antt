@@ -3,7 +3,6 @@ use mathlib.Core.Path.{_∙_}
 use native.Mathlib.Omega.{arith}
 use Rattle.member.specs.Table.{count-causes, JOIN-row}
 use Rattle.member.proofs.Checks.{check-refused, check-passed, check-sender}
-use borrow.Author.Tests.{eq-eqb, ne-eqb, lt-ltb, le-ltb, le-leb, lt-leb, not-true, not-false}
 use borrow.Author.Needs.{needs}
 use Rattle.member.proofs.rows.on_join.Statement.{statement}
 use Rattle.member.proofs.rows.on_join.Tie as tie
@@ -22,7 +21,8 @@ returns c =
     let args = c .before .before .before .before .before .args in
     let awaited = c .before .before .before .before .awaited in
     let check = c .before .before .check in
-    c .refuse .ensures ∙ check-refused (count-causes 1 (args .m) (args .r) (args .s)) (args .m) (JOIN-row (args .m) (args .r) (args .s)) (awaited .result) (check .given .0 .0) (awaited .ensures) (check .given .1)
+    c .refuse .ensures ∙
+    check-refused (count-causes 1 (args .m) (args .r) (args .s)) (args .m) (JOIN-row (args .m) (args .r) (args .s)) (awaited .result) (check .given .0 .0) (awaited .ensures) (check .given .1)
 
 enum-told : tie.Need-enum-told
 enum-told c = search needs
@@ -37,7 +37,8 @@ returns-2 : tie.Need-returns-2
 returns-2 c =
     let args = c .before .before .before .before .args in
     let awaited = c .before .before .before .awaited in
-    c .count-join .ensures ∙ check-passed (count-causes 1 (args .m) (args .r) (args .s)) (args .m) (JOIN-row (args .m) (args .r) (args .s)) (awaited .result) (awaited .ensures) (c .before .enum-told .given .1)
+    c .count-join .ensures ∙
+    check-passed (count-causes 1 (args .m) (args .r) (args .s)) (args .m) (JOIN-row (args .m) (args .r) (args .s)) (awaited .result) (awaited .ensures) (c .before .enum-told .given .1)
 
 pub on-join-spec : {M : Type 1} → statement M
 on-join-spec =

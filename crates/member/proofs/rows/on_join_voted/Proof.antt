@@ -21,7 +21,8 @@ returns c =
     let args = c .before .before .before .before .before .args in
     let awaited = c .before .before .before .before .awaited in
     let check = c .before .before .check in
-    c .refuse .ensures ∙ check-refused (count-causes 1 (args .m) (args .r) (args .s)) (args .m) (JOIN-row (adopting (args .m) (args .q) (args .w)) (args .r) (args .s)) (awaited .result) (check .given .0 .0) (awaited .ensures) (check .given .1)
+    c .refuse .ensures ∙
+    check-refused (count-causes 1 (args .m) (args .r) (args .s)) (args .m) (JOIN-row (adopting (args .m) (args .q) (args .w)) (args .r) (args .s)) (awaited .result) (check .given .0 .0) (awaited .ensures) (check .given .1)
 
 enum-told : tie.Need-enum-told
 enum-told c = search needs
@@ -41,7 +42,8 @@ returns-2 c =
     let awaited = c .before .before .before .before .awaited in
     rw (
     c .before .adopt .ensures
-    ) at (c .count-join .ensures) ∙ check-passed (count-causes 1 (args .m) (args .r) (args .s)) (args .m) (JOIN-row (adopting (args .m) (args .q) (args .w)) (args .r) (args .s)) (awaited .result) (awaited .ensures) (c .before .before .enum-told .given .1)
+    ) at (c .count-join .ensures) ∙
+    check-passed (count-causes 1 (args .m) (args .r) (args .s)) (args .m) (JOIN-row (adopting (args .m) (args .q) (args .w)) (args .r) (args .s)) (awaited .result) (awaited .ensures) (c .before .before .enum-told .given .1)
 
 pub on-join-voted-spec : {M : Type 1} → statement M
 on-join-voted-spec =

@@ -21,7 +21,8 @@ returns c =
     let args = c .before .before .before .before .before .args in
     let awaited = c .before .before .before .before .awaited in
     let check = c .before .before .check in
-    c .refuse .ensures ∙ check-refused (count-causes 2 (args .m) (args .r) (args .s)) (args .m) (VOTE-row (args .m) (args .r) (args .s)) (awaited .result) (check .given .0 .0) (awaited .ensures) (check .given .1)
+    c .refuse .ensures ∙
+    check-refused (count-causes 2 (args .m) (args .r) (args .s)) (args .m) (VOTE-row (args .m) (args .r) (args .s)) (awaited .result) (check .given .0 .0) (awaited .ensures) (check .given .1)
 
 enum-told : tie.Need-enum-told
 enum-told c = search needs
@@ -41,7 +42,8 @@ returns-2 c =
     let awaited = c .before .before .before .before .before .awaited in
     let flag-sender = c .before .before .flag-sender in
     let is-complete = c .before .is-complete in
-    short (λ k. decides k (args .r)) (counting (args .m) (args .s)) (flag-sender .result) (is-complete .result) (flag-sender .ensures) (is-complete .ensures) (c .if1 .taken) ∙ check-passed (count-causes 2 (args .m) (args .r) (args .s)) (args .m) (VOTE-row (args .m) (args .r) (args .s)) (awaited .result) (awaited .ensures) (c .before .before .before .enum-told .given .1)
+    short (λ k. decides k (args .r)) (counting (args .m) (args .s)) (flag-sender .result) (is-complete .result) (flag-sender .ensures) (is-complete .ensures) (c .if1 .taken) ∙
+    check-passed (count-causes 2 (args .m) (args .r) (args .s)) (args .m) (VOTE-row (args .m) (args .r) (args .s)) (awaited .result) (awaited .ensures) (c .before .before .before .enum-told .given .1)
 
 returns-3 : tie.Need-returns-3
 returns-3 c =
@@ -49,7 +51,8 @@ returns-3 c =
     let awaited = c .before .before .before .before .before .awaited in
     let flag-sender = c .before .before .flag-sender in
     let is-complete = c .before .is-complete in
-    reached (λ k. decides k (args .r)) (counting (args .m) (args .s)) (flag-sender .result) (is-complete .result) (flag-sender .ensures) (is-complete .ensures) (c .if1 .left) ∙ check-passed (count-causes 2 (args .m) (args .r) (args .s)) (args .m) (VOTE-row (args .m) (args .r) (args .s)) (awaited .result) (awaited .ensures) (c .before .before .before .enum-told .given .1)
+    reached (λ k. decides k (args .r)) (counting (args .m) (args .s)) (flag-sender .result) (is-complete .result) (flag-sender .ensures) (is-complete .ensures) (c .if1 .left) ∙
+    check-passed (count-causes 2 (args .m) (args .r) (args .s)) (args .m) (VOTE-row (args .m) (args .r) (args .s)) (awaited .result) (awaited .ensures) (c .before .before .before .enum-told .given .1)
 
 pub on-vote-spec : {M : Type 1} → statement M
 on-vote-spec =
