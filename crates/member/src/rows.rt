@@ -12,7 +12,7 @@ use ids::in_range;
 use message::Message;
 ghost use mathlib.Core.Path.{_≡_};
 ghost use Prim.Native.Nat.{_≤_, _<_};
-ghost use Rattle.member.specs.Table.{refused, unless, start-causes, start-row, START-causes, START-row, join-of, count-causes, counting, complete, adopting, JOIN-row, other-vote, PROPOSE-causes, PROPOSE-row, VOTE-row, deliver, sound-step};
+ghost use Rattle.member.specs.Table.{refused, unless, start-causes, start-row, START-causes, START-row, join-of, count-causes, counting, complete, adopting, proposing, JOIN-row, other-vote, PROPOSE-causes, PROPOSE-row, VOTE-row, deliver, sound-step};
 ghost use Rattle.laws.specs.First.{first};
 ghost use Rattle.member.specs.Answers.{outcome, refusal-number, check-number};
 
@@ -194,6 +194,16 @@ fn adopt(m: MemberState, q: Round, w: u64) -> MemberState
     m
 }
 
+// The record in phase 2, its flags cleared for the votes.
+fn to_proposed(m: MemberState) -> MemberState
+    ensures { λ t. ⌜ t ≡ proposing m ⌝ }
+{
+    let mut next = m;
+    next.phase = 2;
+    next.flags = [false; 7];
+    next
+}
+
 // A JOIN that is counted, its vote taken over before.
 fn count_join(m: MemberState, r: Round, s: Member) -> Step
     requires { ⌜ (1 ≤ m .n) × (s .0 < 7) ⌝ }
@@ -208,11 +218,8 @@ fn count_join(m: MemberState, r: Round, s: Member) -> Step
     }
     let me = counted.me;
     let source = counted.source;
-    let mut proposed = counted;
-    proposed.phase = 2;
-    proposed.flags = [false; 7];
     Step {
-        state: proposed,
+        state: to_proposed(counted),
         answer: Answer::Proposed {
             sent: Message::Propose {
                 round: r,

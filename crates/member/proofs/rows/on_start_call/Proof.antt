@@ -31,8 +31,7 @@ returns-2 c =
       inside (out-of-range (c .before .before .before .before .before .before .args .r .0)) (in-range .result) (in-range .ensures) (c .before .before .before .before .if1 .left),
       ← is-leader .ensures,
       not-true (is-leader .result) (c .before .if2 .taken),
-    ) (c .refuse2 .ensures
-    )
+    ) (c .refuse2 .ensures)
 
 refuse-requires-3 : tie.Need-refuse-requires-3
 refuse-requires-3 c κs = search needs
