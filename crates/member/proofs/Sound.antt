@@ -7,11 +7,7 @@ use Rattle.laws.specs.Tests.{and-left, and-right}
 use Rattle.ids.specs.Ranges.{above-range}
 use Rattle.member.specs.declared.MemberState.{MemberState}
 use Rattle.member.proofs.Flags.{number-sizes}
-use Rattle.member.specs.Record.{leads, sound, sound-number, sound-vote, sound-flags, sound-idle, sound-count, sound-leading}
-
--- L = 0 and idle, or leading
-abbrev pub sound-lead : MemberState → Bool
-sound-lead m = cond (eqb (m .led .0) 0) (sound-idle m) (sound-leading m)
+use Rattle.member.specs.Record.{leads, sound, sound-number, sound-vote, sound-flags, sound-count, sound-leading, sound-lead}
 
 pub record Sound (m : MemberState) : Type 0 where
   pub number : sound-number (m .me) (m .n) ≡ true

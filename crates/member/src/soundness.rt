@@ -8,7 +8,7 @@ ghost use mathlib.Core.Path.{_≡_};
 ghost use Prim.Native.Nat.{_≤_};
 ghost use Rattle.quorum.specs.Count.{count};
 ghost use Rattle.quorum.specs.Quorum.{quorum};
-ghost use Rattle.member.specs.Record.{allowed, leads, flag, flagged, fresh, sound-number, sound-vote, sound-flags, sound-idle, sound-count, sound-leading, sound};
+ghost use Rattle.member.specs.Record.{allowed, leads, flag, flagged, fresh, sound-number, sound-vote, sound-flags, sound-idle, sound-count, sound-leading, sound-lead, sound};
 
 // The quorum of an office of n members: f + 1, where f is (n - 1) / 2.
 pub fn quorum_of(n: u32) -> u32
@@ -169,6 +169,17 @@ fn leading_sound(m: MemberState) -> bool
     count_sound(m)
 }
 
+// Idle exactly when L is 0.
+fn lead_sound(m: MemberState) -> bool
+    requires { ⌜ 1 ≤ m .n ⌝ }
+    ensures { λ b. ⌜ b ≡ sound-lead m ⌝ }
+{
+    if m.led.0 == 0 {
+        return idle_sound(m);
+    }
+    leading_sound(m)
+}
+
 // Whether a record is sound.
 pub fn sound(m: MemberState) -> bool
     ensures { λ b. ⌜ b ≡ sound m ⌝ }
@@ -186,8 +197,5 @@ pub fn sound(m: MemberState) -> bool
     if !flags_sound(m) {
         return false;
     }
-    if m.led.0 == 0 {
-        return idle_sound(m);
-    }
-    leading_sound(m)
+    lead_sound(m)
 }

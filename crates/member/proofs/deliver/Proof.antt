@@ -7,15 +7,15 @@ use borrow.Author.Needs.{needs}
 use Rattle.member.proofs.deliver.Statement.{statement}
 use Rattle.member.proofs.deliver.Tie as tie
 
-sound-requires : tie.Need-sound-requires
-sound-requires c κs = search needs
+is-sound-requires : tie.Need-is-sound-requires
+is-sound-requires c κs = search needs
 
 refuse-requires : tie.Need-refuse-requires
 refuse-requires c κs = search needs
 
 returns : tie.Need-returns
 unfolding step
-returns c = rw (← c .before .before .sound .ensures, not-true (c .before .before .sound .result) (c .before .if1 .taken)) (c .refuse .ensures)
+returns c = rw (← c .before .before .is-sound .ensures, not-true (c .before .before .is-sound .result) (c .before .if1 .taken)) (c .refuse .ensures)
 
 in-range-requires : tie.Need-in-range-requires
 in-range-requires c κs = search needs
@@ -26,34 +26,34 @@ refuse-requires-2 c κs = search needs
 returns-2 : tie.Need-returns-2
 unfolding step
 returns-2 c =
-    let sound = c .before .before .before .before .sound in
+    let is-sound = c .before .before .before .before .is-sound in
     let in-range = c .before .before .in-range in
     rw (
-      ← sound .ensures,
-      not-false (sound .result) (c .before .before .before .if1 .left),
+      ← is-sound .ensures,
+      not-false (is-sound .result) (c .before .before .before .if1 .left),
       ← in-range .ensures,
       not-true (in-range .result) (c .before .if2 .taken),
     ) (c .refuse2 .ensures)
 
 deliver-sound-requires : tie.Need-deliver-sound-requires
 deliver-sound-requires c κs =
-    let sound = c .before .before .before .sound in
+    let is-sound = c .before .before .before .is-sound in
     let in-range = c .before .in-range in
-    (sym (sound .ensures) ∙ not-false (sound .result) (c .before .before .if1 .left), sym (in-range .ensures) ∙ not-false (in-range .result) (c .if2 .left))
+    (sym (is-sound .ensures) ∙ not-false (is-sound .result) (c .before .before .if1 .left), sym (in-range .ensures) ∙ not-false (in-range .result) (c .if2 .left))
 
 returns-3 : tie.Need-returns-3
 returns-3 c =
     let args = c .before .before .before .before .before .args in
-    let sound = c .before .before .before .before .sound in
+    let is-sound = c .before .before .before .before .is-sound in
     let in-range = c .before .before .in-range in
     c .deliver-sound .ensures .equals ∙
-    sym (step-of-sound (args .m) (deliver (args .g)) (sym (sound .ensures) ∙ not-false (sound .result) (c .before .before .before .if1 .left)) (sym (in-range .ensures) ∙ not-false (in-range .result) (c .before .if2 .left)))
+    sym (step-of-sound (args .m) (deliver (args .g)) (sym (is-sound .ensures) ∙ not-false (is-sound .result) (c .before .before .before .if1 .left)) (sym (in-range .ensures) ∙ not-false (in-range .result) (c .before .if2 .left)))
 
 pub deliver-spec : {M : Type 1} → statement M
 deliver-spec =
     tie.close
     (tie.spec
-    sound-requires
+    is-sound-requires
     refuse-requires
     returns
     in-range-requires

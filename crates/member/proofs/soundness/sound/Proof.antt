@@ -1,5 +1,5 @@
 -- `member::soundness::sound` meets its contract: each return goes by the tests that led there; an allowed N is 3 to 7. Assumes nothing.
-use borrow.Author.Tests.{eq-eqb, ne-eqb, le-leb, lt-leb, not-true, not-false}
+use borrow.Author.Tests.{le-leb, lt-leb, not-true, not-false}
 use native.Mathlib.Omega.{arith}
 use Rattle.member.specs.Record.{sound}
 use Rattle.member.proofs.Flags.{number-sizes}
@@ -58,50 +58,27 @@ returns-4 c =
       not-true (flags-sound .result) (c .if4 .taken),
     )
 
-idle-sound-requires : tie.Need-idle-sound-requires
-idle-sound-requires c κs = search needs
+lead-sound-requires : tie.Need-lead-sound-requires
+lead-sound-requires c κs =
+    let args = c .before .before .before .before .before .before .before .before .before .args in
+    let number-sound = c .before .before .before .before .before .before .before .number-sound in
+    omega (arith, number-sizes (args .m .me) (args .m .n) (rw (number-sound .ensures) at (not-false (number-sound .result) (c .before .before .before .before .before .before .if1 .left))))
 
 returns-5 : tie.Need-returns-5
 unfolding sound
 returns-5 c =
-    let number-sound = c .before .before .before .before .before .before .before .before .before .before .number-sound in
-    let vote-sound = c .before .before .before .before .before .before .vote-sound in
-    let flags-sound = c .before .before .before .before .flags-sound in
+    let number-sound = c .before .before .before .before .before .before .before .before .number-sound in
+    let vote-sound = c .before .before .before .before .vote-sound in
+    let flags-sound = c .before .before .flags-sound in
     rw (
       ← number-sound .ensures,
-      not-false (number-sound .result) (c .before .before .before .before .before .before .before .before .before .if1 .left),
-      le-leb _ _ (c .before .before .before .before .before .before .before .if2 .left),
+      not-false (number-sound .result) (c .before .before .before .before .before .before .before .if1 .left),
+      le-leb _ _ (c .before .before .before .before .before .if2 .left),
       ← vote-sound .ensures,
-      not-false (vote-sound .result) (c .before .before .before .before .before .if3 .left),
+      not-false (vote-sound .result) (c .before .before .before .if3 .left),
       ← flags-sound .ensures,
-      not-false (flags-sound .result) (c .before .before .before .if4 .left),
-      eq-eqb _ _ (c .before .if5 .taken),
-      c .idle-sound .ensures,
-    )
-
-leading-sound-requires : tie.Need-leading-sound-requires
-leading-sound-requires c κs =
-    let args = c .before .before .before .before .before .before .before .before .before .before .before .args in
-    let number-sound = c .before .before .before .before .before .before .before .before .before .number-sound in
-    omega (arith, number-sizes (args .m .me) (args .m .n) (rw (number-sound .ensures) at (not-false (number-sound .result) (c .before .before .before .before .before .before .before .before .if1 .left))))
-
-returns-6 : tie.Need-returns-6
-unfolding sound
-returns-6 c =
-    let number-sound = c .before .before .before .before .before .before .before .before .before .before .number-sound in
-    let vote-sound = c .before .before .before .before .before .before .vote-sound in
-    let flags-sound = c .before .before .before .before .flags-sound in
-    rw (
-      ← number-sound .ensures,
-      not-false (number-sound .result) (c .before .before .before .before .before .before .before .before .before .if1 .left),
-      le-leb _ _ (c .before .before .before .before .before .before .before .if2 .left),
-      ← vote-sound .ensures,
-      not-false (vote-sound .result) (c .before .before .before .before .before .if3 .left),
-      ← flags-sound .ensures,
-      not-false (flags-sound .result) (c .before .before .before .if4 .left),
-      ne-eqb _ _ (c .before .if5 .left),
-      c .leading-sound .ensures,
-    )
+      not-false (flags-sound .result) (c .before .if4 .left),
+    ) (c .lead-sound .ensures)
 
 pub sound-spec : {M : Type 1} → statement M
 sound-spec =
@@ -114,7 +91,5 @@ sound-spec =
     returns-3
     flags-sound-requires
     returns-4
-    idle-sound-requires
-    returns-5
-    leading-sound-requires
-    returns-6)
+    lead-sound-requires
+    returns-5)
