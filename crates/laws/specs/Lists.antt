@@ -1,11 +1,8 @@
--- Lists: membership, "some element passes", an element put at the end, cuts, rows of a table.
-use mathlib.Core.Path.{_≡_, refl, sym, ap, _∙_}
+-- Lists: membership, "some element passes", an element put at the end, cuts, lists mapped.
+use mathlib.Core.Path.{_≡_, refl, sym, ap}
 use mathlib.Core.Bool.{Bool, true, false, _||_, or-assoc, or-false}
-use mathlib.Core.List.{List, [], _∷_, _++_, map, append-assoc, List·Memᴰ, List·Memᴰ·head as here, List·Memᴰ·tail as there, List·Memᴰ·append-cases, List·Memᴰ·eq-of-singleton, Memᴰ·append-left, Memᴰ·append-right, Memᴰ·of-map}
-use mathlib.Core.Logic.{_⊎_, inl, inr, ⊎-elim}
-use Prim.Native.Nat.{ℕ, zero, suc, _+_, _<_, _≤_}
-use native.Mathlib.Omega.{arith}
-use lib.ListN.{length, getD, length-append}
+use mathlib.Core.List.{List, [], _∷_, _++_, map, List·Memᴰ, List·Memᴰ·head as here, List·Memᴰ·tail as there, List·Memᴰ·append-cases, List·Memᴰ·eq-of-singleton, Memᴰ·append-right, Memᴰ·of-map}
+use mathlib.Core.Logic.{⊎-elim}
 use Rattle.laws.specs.Tests.{by-test, clash, impossible, or-cases, or-left, or-right}
 
 infix 20 _∈_

@@ -2,13 +2,13 @@
 use mathlib.Core.Path.{_≡_, refl, sym, ap, subst, _∙_}
 use mathlib.Core.Bool.{Bool, true, false, cond, not, or-true, and-false}
 use mathlib.Core.List.{List, [], _∷_, _++_, map, append-assoc, append-nil}
-use Prim.Native.Nat.{ℕ, zero, suc, _+_, _-_, _*_, _/_, _≤_, _<_}
+use Prim.Native.Nat.{ℕ, zero, suc, _+_, _-_, _*_, _≤_, _<_}
 use native.Mathlib.Omega.{arith}
 use native.Mathlib.Numerals.{add-one}
-use native.Mathlib.Nat.{add-suc, add-zero}
-use lib.ListN.{length, getD, set, take, drop, length-append, length-take, length-drop, length-map}
-use lib.Seq.{drop-cons, drop-append-add, getD-append-add, append-snoc, getD-drop}
-use lib.Dec.{ltb, leb, eqb}
+use native.Mathlib.Nat.{add-zero}
+use lib.ListN.{length, getD, set, drop, length-map}
+use lib.Seq.{drop-cons, getD-append-add, append-snoc, getD-drop}
+use lib.Dec.{ltb, leb}
 use borrow.Author.Tests.{eq-eqb, ne-eqb, lt-ltb, le-ltb, ltb-true, leb-true, leb-false}
 use Rattle.laws.specs.Tests.{by-test, clash, tests}
 use Rattle.laws.specs.Lists.{any, any-append, any-snoc, map-append}
