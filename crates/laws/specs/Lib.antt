@@ -4,3 +4,4 @@ pub mod Lists
 pub mod First
 pub mod Parts
 pub mod Answers
+pub mod Conjunction

@@ -2,3 +2,4 @@
 pub mod Machine
 pub mod Properties
 pub mod Table
+pub mod Check
