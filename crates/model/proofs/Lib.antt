@@ -1,0 +1,2 @@
+-- The third demand about the model.
+pub mod Rehearsal
