@@ -5,3 +5,5 @@ pub mod First
 pub mod Parts
 pub mod Answers
 pub mod Conjunction
+pub mod Elements
+pub mod Numbers

@@ -1,2 +1,4 @@
 -- The third demand about the model.
 pub mod Rehearsal
+pub mod Senders
+pub mod Kept
