@@ -2,3 +2,5 @@
 pub mod Rehearsal
 pub mod Senders
 pub mod Kept
+pub mod Made
+pub mod Invariant
