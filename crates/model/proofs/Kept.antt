@@ -5,21 +5,23 @@ use mathlib.Core.Path.{_≡_, refl, sym, ap, _∙_, subst}
 use mathlib.Core.Bool.{Bool, true, false, cond, _&&_, _||_, not}
 use mathlib.Core.List.{List, [], _∷_, _++_, List·Memᴰ·append-cases}
 use mathlib.Core.Logic.{_≢_, ⊎-elim}
-use Prim.Native.Nat.{ℕ, zero, suc, _+_, _<_, _≤_}
+use Prim.Native.Nat.{ℕ, zero, suc, _+_, _<_, _≤_, _%_}
 use native.Mathlib.Omega.{arith}
 use lib.ListN.{length, getD, set, length-set, length-append}
 use lib.Dec.{ltb, leb, eqb}
-use borrow.Author.Tests.{not-false, lt-ltb}
-use Rattle.laws.specs.Tests.{tests, by-test, clash, or-left, or-right, and-cases, and-intro}
+use borrow.Author.Tests.{not-true, lt-ltb}
+use Rattle.laws.specs.Tests.{tests, by-test, clash, or-left, or-right, or-none, and-left, and-cases, and-intro}
 use Rattle.laws.specs.Lists.{_∈_}
 use Rattle.laws.specs.Elements.{getD-in, set-each}
 use Rattle.laws.specs.First.{first}
+use Rattle.ids.specs.Ranges.{above-range, out-of-range}
 use Rattle.message.specs.declared.Message.{Message}
 use Rattle.message.specs.Fields.{in-range}
 use Rattle.member.specs.declared.MemberState.{MemberState}
 use Rattle.member.specs.Record.{allowed, fresh, sound, sound-number}
 use Rattle.member.specs.Table.{Outcome, Named, step, sound-step, fitting, causes, row, refused}
 use Rattle.member.specs.Kept.{Kept}
+use Rattle.member.proofs.Sound.{Sound, parts, votes, leading-parts, Leading as MemberLeads}
 use Rattle.member.proofs.Keeping.{step-kept, fresh-sound, step-of-sound}
 use Rattle.model.specs.Model.{Sizes, Event, start, deliver, Office, member-number, fresh-members, first-office, member-at, message-at, at-member, unsent, event-of, outcome, sends-one, proposes-one, proposals, event-causes, answer, taken, next, after}
 use Rattle.model.proofs.Senders.{sender, Own, own-step}
@@ -39,6 +41,32 @@ pub record KeptOffice (z : Sizes) (o : Office) : Type 0 where
   pub senders : (g : Message) → g ∈ o .sent → sender g < z .n
   -- and the messages sent fit the store
   pub fits : length (o .sent) ≤ z .store
+
+-- a member that isn't idle leads a round of its own, in range, and B is below it
+pub leads-one : (z : Sizes) (t : ℕ) (m : MemberState) → KeptMember z t m → 1 ≤ m .phase → (eqb (m .led .0) 0 ≡ false) × MemberLeads m
+leads-one z t m M h =
+    let s : Sound m = parts m (M .is-sound) in
+    by-test (eqb (m .led .0) 0)
+    (λ e. absurd (omega (tests, and-left (eqb (m .phase) 0) _ (rw e at (s .lead)))))
+    (λ e. (e, leading-parts m s e))
+
+pub own-round : (z : Sizes) (t : ℕ) (m : MemberState) → KeptMember z t m → 1 ≤ m .phase → m .led .0 % z .n ≡ t
+own-round z t m M h =
+    let (e, l) = leads-one z t m M h in
+    let q : eqb (m .led .0 % z .n) t ≡ true = rw (M .size, M .number) at (l .leader) in
+    omega tests
+
+pub led-ranged : (z : Sizes) (t : ℕ) (m : MemberState) → KeptMember z t m → 1 ≤ m .phase → out-of-range (m .led .0) ≡ false
+led-ranged z t m M h =
+    let (e, l) = leads-one z t m M h in
+    or-none e (not-true (above-range (m .led .0)) (l .ranged))
+
+pub source-lower : (z : Sizes) (t : ℕ) (m : MemberState) → KeptMember z t m → 1 ≤ m .phase → m .source .0 < m .led .0
+source-lower z t m M h = let (e, l) = leads-one z t m M h in omega (tests, l .lower)
+
+-- V is at most J
+pub vote-lower : (z : Sizes) (t : ℕ) (m : MemberState) → KeptMember z t m → m .voted .0 ≤ m .joined .0
+vote-lower z t m M = omega (tests, votes m (parts m (M .is-sound)) .ordered)
 
 -- what an event that gets 0 has passed
 pub record Accepted (z : Sizes) (o : Office) (e : Event) : Type 0 where

@@ -4,3 +4,5 @@ pub mod Senders
 pub mod Kept
 pub mod Made
 pub mod Invariant
+pub mod Grows
+pub mod Meeting
