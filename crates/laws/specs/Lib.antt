@@ -2,4 +2,8 @@
 pub mod Tests
 pub mod Lists
 pub mod First
+pub mod Parts
+pub mod Answers
 pub mod Conjunction
+pub mod Elements
+pub mod Numbers

@@ -1,6 +1,5 @@
 -- The ranges of a message's fields (01, "Messages").
 use mathlib.Core.Bool.{Bool, _&&_, not}
-use Prim.Native.Nat.{ℕ}
 use lib.Dec.{ltb, leb}
 use Rattle.ids.specs.declared.Round.{Round}
 use Rattle.ids.specs.declared.Member.{Member}
@@ -13,9 +12,12 @@ abbrev pub head-in-range : Round → Member → Bool
 head-in-range r s = not (out-of-range (r .0)) && not (no-member (s .0))
 
 -- a voted round is at least 1 and below the JOIN's round
+abbrev pub vote-in-range : Round → Round → Bool
+vote-in-range r q = leb 1 (q .0) && ltb (q .0) (r .0)
+
 abbrev pub in-range : Message → Bool
 in-range (Start r s) = head-in-range r s
 in-range (Join r s) = head-in-range r s
-in-range (JoinVoted r s q w) = head-in-range r s && (leb 1 (q .0) && ltb (q .0) (r .0))
+in-range (JoinVoted r s q w) = head-in-range r s && vote-in-range r q
 in-range (Propose r s v) = head-in-range r s
 in-range (Vote r s) = head-in-range r s

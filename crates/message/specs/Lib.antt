@@ -1,2 +1,5 @@
 -- The meanings of 01, "Messages".
 pub mod Fields
+pub mod Layout
+pub mod Reading
+pub mod Writing

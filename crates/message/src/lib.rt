@@ -1,4 +1,14 @@
-// The messages of 01, "Messages".
+// The messages of 01, "Messages": the enum, its reader and its writer.
+ghost use mathlib.Core.Path.{_≡_};
+ghost use mathlib.Core.Bool.{true, false};
+ghost use mathlib.Core.List.{_++_};
+ghost use Prim.Native.Nat.{_≤_};
+ghost use lib.ListN.{length, drop};
+ghost use Rattle.xdr.specs.Items.{encoded};
+ghost use Rattle.message.specs.Fields.{head-in-range, vote-in-range, in-range};
+ghost use Rattle.message.specs.Layout.{head, bytes};
+ghost use Rattle.message.specs.Reading.{fault-number, kind, size, decoded, read-rest, read};
+ghost use Rattle.message.specs.Writing.{in-front, Writes};
 use ids::Member;
 use ids::Round;
 
@@ -27,4 +37,247 @@ pub enum Message {
         round: Round,
         sender: Member,
     },
+}
+
+// Why bytes are no message: 14, 15, 16 of the place table.
+pub enum Fault {
+    Length,
+    Kind,
+    Field,
+}
+
+// What bytes read as.
+pub enum Read {
+    Got(Message),
+    Refused(Fault),
+}
+
+// What the writer answers: the length of what it put at the front, or 18, or 16.
+pub enum Written {
+    Sent(usize),
+    ShortBuffer,
+    OutOfRange,
+}
+
+// The highest sender.
+const LAST_SENDER: u32 = 6;
+
+// The length of the longest message.
+pub const LONGEST: usize = 28;
+
+// The place table's number of a fault.
+pub fn number(f: Fault) -> u32
+    ensures { λ r. ⌜ r ≡ fault-number f ⌝ }
+{
+    match f {
+        Fault::Length => 14,
+        Fault::Kind => 15,
+        Fault::Field => 16,
+    }
+}
+
+// Whether the round is one of 1 to 1,000,000 and the sender one of 0 to 6.
+fn head_in_range(round: Round, sender: Member) -> bool
+    ensures { λ b. ⌜ b ≡ head-in-range round sender ⌝ }
+{
+    if ids::in_range(round) {
+        if LAST_SENDER < sender.0 {
+            return false;
+        }
+        return true;
+    }
+    false
+}
+
+// Whether a voted round is at least 1 and below the JOIN's round.
+fn vote_in_range(round: Round, voted: Round) -> bool
+    ensures { λ b. ⌜ b ≡ vote-in-range round voted ⌝ }
+{
+    if voted.0 == 0 {
+        return false;
+    }
+    voted.0 < round.0
+}
+
+// Whether a message's fields are in range.
+pub fn in_range(m: Message) -> bool
+    ensures { λ b. ⌜ b ≡ in-range m ⌝ }
+{
+    match m {
+        Message::Start { round, sender } => head_in_range(round, sender),
+        Message::Join { round, sender } => head_in_range(round, sender),
+        Message::JoinVoted {
+            round,
+            sender,
+            voted,
+            value: _,
+        } => {
+            if head_in_range(round, sender) {
+                return vote_in_range(round, voted);
+            }
+            false
+        }
+        Message::Propose {
+            round,
+            sender,
+            value: _,
+        } => head_in_range(round, sender),
+        Message::Vote { round, sender } => head_in_range(round, sender),
+    }
+}
+
+// The message that bytes of the length of their kind spell.
+fn decode(s: &[u8]) -> Message
+    requires { ⌜ length (now s) ≡ size (now s) ⌝ }
+    ensures { λ m. ⌜ m ≡ decoded (now (s .entry)) ⌝ }
+{
+    let kind = xdr::word_at(s, 0);
+    let round = Round(xdr::word_at(s, 4));
+    let sender = Member(xdr::word_at(s, 8));
+    if kind == 1 {
+        return Message::Start { round, sender };
+    }
+    if kind == 2 {
+        if xdr::word_at(s, 12) == 1 {
+            return Message::JoinVoted {
+                round,
+                sender,
+                voted: Round(xdr::word_at(s, 16)),
+                value: xdr::hyper_at(s, 20),
+            };
+        }
+        return Message::Join { round, sender };
+    }
+    if kind == 3 {
+        return Message::Propose {
+            round,
+            sender,
+            value: xdr::hyper_at(s, 12),
+        };
+    }
+    Message::Vote { round, sender }
+}
+
+// The rest of the reading, where n is the length of the kind: the length, then the fields.
+fn read_rest(s: &[u8], n: usize) -> Read
+    requires { ⌜ n ≡ size (now s) ⌝ }
+    ensures { λ r. ⌜ r ≡ read-rest (now (s .entry)) ⌝ }
+{
+    if s.len() != n {
+        return Read::Refused(Fault::Length);
+    }
+    let m = decode(s);
+    if in_range(m) {
+        Read::Got(m)
+    } else {
+        Read::Refused(Fault::Field)
+    }
+}
+
+// Reads a JOIN: its presence word has to be there before it is looked at.
+fn read_join(s: &[u8]) -> Read
+    requires { ⌜ (4 ≤ length (now s)) × (kind (now s) ≡ 2) ⌝ }
+    ensures { λ r. ⌜ r ≡ read (now (s .entry)) ⌝ }
+{
+    if s.len() < 16 {
+        return Read::Refused(Fault::Length);
+    }
+    let presence = xdr::word_at(s, 12);
+    if presence == 0 {
+        return read_rest(s, 16);
+    }
+    if presence == 1 {
+        return read_rest(s, 28);
+    }
+    Read::Refused(Fault::Field)
+}
+
+// Reads any bytes of any length: the message that they are, or the fault that comes first.
+pub fn read_message(s: &[u8]) -> Read
+    ensures { λ r. ⌜ r ≡ read (now (s .entry)) ⌝ }
+{
+    if s.len() < 4 {
+        return Read::Refused(Fault::Length);
+    }
+    let kind = xdr::word_at(s, 0);
+    if kind == 0 {
+        return Read::Refused(Fault::Kind);
+    }
+    if 4 < kind {
+        return Read::Refused(Fault::Kind);
+    }
+    if kind == 2 {
+        return read_join(s);
+    }
+    if kind == 3 {
+        return read_rest(s, 20);
+    }
+    read_rest(s, 12)
+}
+
+// Writes what every message starts with.
+fn put_head(buf: &mut [u8], kind: u32, round: Round, sender: Member)
+    requires { ⌜ 12 ≤ length (now buf) ⌝ }
+    ensures { λ _. ⌜ now (buf .exit) ≡ encoded (head kind round sender) ++ drop 12 (now (buf .entry)) ⌝ }
+{
+    xdr::put_word(buf, 0, kind);
+    xdr::put_word(buf, 4, round.0);
+    xdr::put_word(buf, 8, sender.0);
+}
+
+// Writes a message at the front of a buffer that has room for any, and answers its length.
+fn put_message(m: Message, buf: &mut [u8]) -> usize
+    requires { ⌜ 28 ≤ length (now buf) ⌝ }
+    ensures { λ n. ⌜ (n ≡ length (bytes m)) × (now (buf .exit) ≡ in-front m (now (buf .entry))) ⌝ }
+{
+    match m {
+        Message::Start { round, sender } => {
+            put_head(buf, 1, round, sender);
+            12
+        }
+        Message::Join { round, sender } => {
+            put_head(buf, 2, round, sender);
+            xdr::put_word(buf, 12, 0);
+            16
+        }
+        Message::JoinVoted {
+            round,
+            sender,
+            voted,
+            value,
+        } => {
+            put_head(buf, 2, round, sender);
+            xdr::put_word(buf, 12, 1);
+            xdr::put_word(buf, 16, voted.0);
+            xdr::put_hyper(buf, 20, value);
+            28
+        }
+        Message::Propose {
+            round,
+            sender,
+            value,
+        } => {
+            put_head(buf, 3, round, sender);
+            xdr::put_hyper(buf, 12, value);
+            20
+        }
+        Message::Vote { round, sender } => {
+            put_head(buf, 4, round, sender);
+            12
+        }
+    }
+}
+
+// Puts a message at the front of the buffer lent for it. A refusal writes nothing.
+pub fn write_message(m: Message, buf: &mut [u8]) -> Written
+    ensures { λ r. ⌜ Writes m (now (buf .entry)) r (now (buf .exit)) ⌝ }
+{
+    if buf.len() < LONGEST {
+        return Written::ShortBuffer;
+    }
+    if in_range(m) {
+        Written::Sent(put_message(m, buf))
+    } else {
+        Written::OutOfRange
+    }
 }

@@ -1,0 +1,16 @@
+-- Parts of a list that are written over, one behind another.
+use mathlib.Core.Path.{_≡_}
+use mathlib.Core.List.{List, _++_, append-assoc}
+use Prim.Native.Nat.{ℕ, _+_, _≤_}
+use native.Mathlib.Omega.{arith}
+use lib.ListN.{length, take, drop, length-append}
+use lib.Seq.{length-take-le, take-at, drop-at, drop-drop}
+
+module _ {ℓ} {A : Type ℓ} where
+  -- what is written over a part and then over the part behind it is written over both
+  pub written-on : (l u w : List A) (at mid end : ℕ) → at + length u ≡ mid → mid + length w ≡ end → end ≤ length l →
+      take mid (take at l ++ u ++ drop mid l) ++ w ++ drop end (take at l ++ u ++ drop mid l) ≡ take at l ++ (u ++ w) ++ drop end l
+  written-on l u w at mid end p q h =
+      let head = take at l ++ u in
+      let size : length head ≡ mid = rw (length-append (take at l) u, length-take-le at l (omega arith)) p in
+      rw (take-at head (drop mid l) mid size, ← q, ← drop-drop (length w) mid (head ++ drop mid l), drop-at head (drop mid l) mid size, drop-drop (length w) mid l, append-assoc (take at l) u w)

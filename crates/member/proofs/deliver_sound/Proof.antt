@@ -1,0 +1,21 @@
+-- `member::deliver_sound` meets its contract: the row, and that steps keep soundness; that the flags are seven is their type. Assumes nothing.
+use mathlib.Core.Path.{_≡_, refl}
+use mathlib.Core.Bool.{true}
+use native.Mathlib.Omega.{arith}
+use lib.ListN.{length, length-map}
+use Rattle.member.proofs.Sound.{sound-size}
+use Rattle.member.proofs.Keeping.{step-kept}
+use Rattle.member.specs.Table.{deliver}
+use Rattle.member.proofs.deliver_sound.Statement.{statement}
+use Rattle.member.proofs.deliver_sound.Tie as tie
+
+on-message-requires : tie.Need-on-message-requires
+on-message-requires c κs = let (low, high) = sound-size (c .args .m) (c .pre .0) in (omega arith, high)
+
+returns : tie.Need-returns
+returns c =
+    let seven : length (c .before .args .m .flags) ≡ 7 = simp length-map at (c .before .good .0 .1 .1 .1 .1 .1 .1 .1 .1 .1 .1 .1 .0 .1 .0 .1) in
+    record { equals = c .on-message .ensures; kept = rw (c .on-message .ensures) (step-kept (c .before .args .m) (deliver (c .before .args .g)) seven (c .before .pre .0) (c .before .pre .1)) }
+
+pub deliver-sound-spec : {M : Type 1} → statement M
+deliver-sound-spec = tie.close (tie.spec on-message-requires returns)

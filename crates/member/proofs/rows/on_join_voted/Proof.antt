@@ -1,0 +1,45 @@
+-- `member::rows::on_join_voted` meets its contract: each return goes by the tests that led there. Assumes nothing.
+use mathlib.Core.Path.{_∙_}
+use native.Mathlib.Omega.{arith}
+use Rattle.member.specs.Table.{count-causes, adopting, JOIN-row}
+use Rattle.member.proofs.Checks.{check-refused, check-passed, check-sender, adopting-size}
+use borrow.Author.Needs.{needs}
+use Rattle.member.proofs.rows.on_join_voted.Statement.{statement}
+use Rattle.member.proofs.rows.on_join_voted.Tie as tie
+
+awaited-requires : tie.Need-awaited-requires
+awaited-requires c κs = search needs
+
+enum-known-check : tie.Need-enum-known-check
+enum-known-check c = search needs
+
+refuse-requires : tie.Need-refuse-requires
+refuse-requires c κs = search needs
+
+returns : tie.Need-returns
+returns c = c .refuse .ensures ∙ check-refused (count-causes 1 (c .before .before .before .before .before .args .m) (c .before .before .before .before .before .args .r) (c .before .before .before .before .before .args .s)) (c .before .before .before .before .before .args .m) (JOIN-row (adopting (c .before .before .before .before .before .args .m) (c .before .before .before .before .before .args .q) (c .before .before .before .before .before .args .w)) (c .before .before .before .before .before .args .r) (c .before .before .before .before .before .args .s)) (c .before .before .before .before .awaited .result) (c .before .before .check .given .0 .0) (c .before .before .before .before .awaited .ensures) (c .before .before .check .given .1)
+
+enum-told : tie.Need-enum-told
+enum-told c = search needs
+
+adopt-requires : tie.Need-adopt-requires
+adopt-requires c κs = search needs
+
+count-join-requires : tie.Need-count-join-requires
+count-join-requires c κs = (rw (c .adopt .ensures, adopting-size) (omega arith), omega (arith, check-sender 1 (c .before .before .before .before .args .m) (c .before .before .before .before .args .r) (c .before .before .before .before .args .s) (c .before .before .before .awaited .result) (c .before .before .before .awaited .ensures) (c .before .enum-told .given .1)))
+
+returns-2 : tie.Need-returns-2
+returns-2 c = rw (c .before .adopt .ensures) at (c .count-join .ensures) ∙ check-passed (count-causes 1 (c .before .before .before .before .before .args .m) (c .before .before .before .before .before .args .r) (c .before .before .before .before .before .args .s)) (c .before .before .before .before .before .args .m) (JOIN-row (adopting (c .before .before .before .before .before .args .m) (c .before .before .before .before .before .args .q) (c .before .before .before .before .before .args .w)) (c .before .before .before .before .before .args .r) (c .before .before .before .before .before .args .s)) (c .before .before .before .before .awaited .result) (c .before .before .before .before .awaited .ensures) (c .before .before .enum-told .given .1)
+
+pub on-join-voted-spec : {M : Type 1} → statement M
+on-join-voted-spec =
+    tie.close
+    (tie.spec
+    awaited-requires
+    enum-known-check
+    refuse-requires
+    returns
+    enum-told
+    adopt-requires
+    count-join-requires
+    returns-2)

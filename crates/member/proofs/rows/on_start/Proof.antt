@@ -1,0 +1,38 @@
+-- `member::rows::on_start` meets its contract: each return goes by the tests that led there. Assumes nothing.
+use borrow.Author.Tests.{le-leb, lt-leb, not-true, not-false}
+use borrow.Author.Needs.{needs}
+use Rattle.member.proofs.rows.on_start.Statement.{statement}
+use Rattle.member.proofs.rows.on_start.Tie as tie
+
+is-leader-requires : tie.Need-is-leader-requires
+is-leader-requires c κs = search needs
+
+refuse-requires : tie.Need-refuse-requires
+refuse-requires c κs = search needs
+
+returns : tie.Need-returns
+returns c = rw (← c .before .before .is-leader .ensures, not-true (c .before .before .is-leader .result) (c .before .if1 .taken)) (c .refuse .ensures)
+
+refuse-requires-2 : tie.Need-refuse-requires-2
+refuse-requires-2 c κs = search needs
+
+returns-2 : tie.Need-returns-2
+returns-2 c = rw (← c .before .before .before .before .before .is-leader .ensures, not-false (c .before .before .before .before .before .is-leader .result) (c .before .before .before .before .if1 .left), le-leb _ _ (c .before .if2 .taken)) (c .refuse2 .ensures)
+
+join-message-requires : tie.Need-join-message-requires
+join-message-requires c κs = search needs
+
+returns-3 : tie.Need-returns-3
+returns-3 c = rw (← c .before .before .before .before .before .is-leader .ensures, not-false (c .before .before .before .before .before .is-leader .result) (c .before .before .before .before .if1 .left), lt-leb _ _ (c .before .if2 .left), c .join-message .ensures)
+
+pub on-start-spec : {M : Type 1} → statement M
+on-start-spec =
+    tie.close
+    (tie.spec
+    is-leader-requires
+    refuse-requires
+    returns
+    refuse-requires-2
+    returns-2
+    join-message-requires
+    returns-3)

@@ -1,0 +1,23 @@
+-- What the step of a sound record at a message within its ranges promises.
+use mathlib.Core.Path.{_≡_}
+use mathlib.Core.Bool.{true}
+use lib.ListN.{length}
+use Rattle.laws.specs.Lists.{_∈_}
+use Rattle.message.specs.declared.Message.{Message}
+use Rattle.message.specs.Fields.{in-range}
+use Rattle.member.specs.declared.MemberState.{MemberState}
+use Rattle.member.specs.declared.Step.{Step}
+use Rattle.member.specs.Record.{sound}
+use Rattle.member.specs.Table.{Outcome, Event, sound-step}
+use Rattle.member.specs.Answers.{outcome}
+
+-- the record after is sound, its flags are seven, and what is sent is within the ranges of its kind
+pub record Kept (o : Outcome) : Type 0 where
+  pub sound-after : sound (o .state) ≡ true
+  pub seven-after : length (o .state .flags) ≡ 7
+  pub sent-in-range : (g : Message) → g ∈ o .sent → in-range g ≡ true
+
+-- the step equals the table and is kept so
+pub record Stepped (m : MemberState) (e : Event) (s : Step) : Type 0 where
+  pub equals : outcome s ≡ sound-step m e
+  pub kept : Kept (outcome s)

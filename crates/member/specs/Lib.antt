@@ -1,0 +1,5 @@
+-- The meanings of 01, "Members".
+pub mod Record
+pub mod Table
+pub mod Answers
+pub mod Kept

@@ -1,0 +1,205 @@
+-- The member table of 01, "Members", row by row, with the refusals in the order of the place table.
+use mathlib.Core.Bool.{Bool, true, false, cond, _&&_, not}
+use mathlib.Core.List.{List, [], _∷_}
+use Prim.Native.Nat.{ℕ}
+use lib.ListN.{set}
+use lib.Dec.{ltb, leb, eqb}
+use Rattle.laws.specs.First.{Cause, _gives_, first}
+use Rattle.ids.specs.declared.Round.{Round}
+use Rattle.ids.specs.declared.Member.{Member}
+use Rattle.ids.specs.Ranges.{out-of-range}
+use Rattle.quorum.specs.Quorum.{quorum}
+use Rattle.message.specs.declared.Message.{Message}
+use Rattle.message.specs.declared.Message.the-variants.{Start, Join, JoinVoted, Propose, Vote}
+use Rattle.message.specs.Fields.{in-range}
+use Rattle.member.specs.declared.MemberState.{MemberState}
+use Rattle.member.specs.Record.{leads, round, flag, flagged, no-flags, sound, sound-number, fresh}
+
+-- what a step comes to: its number, the record after it, what it sends (nothing or one message), what its answer names
+pub data Named : Type 0 where
+  nothing : Named
+  -- add(r, X, B)
+  proposal : (r x b : ℕ) → Named
+  -- commit(r), where X is the value decided
+  decision : (r x : ℕ) → Named
+
+pub record Outcome : Type 0 where
+  pub number : ℕ
+  pub state : MemberState
+  pub sent : List Message
+  pub named : Named
+
+abbrev pub sends : MemberState → Message → Outcome
+sends m g = record { number = 0; state = m; sent = g ∷ []; named = nothing }
+
+abbrev pub silent : MemberState → Outcome
+silent m = record { number = 0; state = m; sent = []; named = nothing }
+
+-- a refused step leaves the record as it was, sends nothing and names nothing
+abbrev pub refused : ℕ → MemberState → Outcome
+refused k m = record { number = k; state = m; sent = []; named = nothing }
+
+-- the first cause that holds refuses the step; else it is what the row says
+abbrev pub unless : List Cause → MemberState → Outcome → Outcome
+unless cs m o = cond (eqb (first cs) 0) o (refused (first cs) m)
+
+-- start(r, offer)
+abbrev pub start-causes : MemberState → Round → List Cause
+start-causes m r =
+    out-of-range (r .0) gives 3 ∷
+    not (leads (m .n) (m .me) r) gives 19 ∷
+    leb (r .0) (m .led .0) gives 20 ∷ []
+
+-- L = r, phase 1, X = offer, B = 0, flags cleared
+abbrev pub leading : MemberState → Round → ℕ → MemberState
+leading m r offer =
+    record { me = m .me; n = m .n; joined = m .joined; voted = m .voted; vote = m .vote; led = r; phase = 1; value = offer; source = round 0; flags = no-flags }
+
+-- sends START
+abbrev pub start-row : MemberState → Round → ℕ → Outcome
+start-row m r offer = sends (leading m r offer) (Start r (m .me))
+
+-- START r: 21 unless the sender leads r; 22 if J ≥ r
+abbrev pub START-causes : MemberState → Round → Member → List Cause
+START-causes m r s =
+    not (leads (m .n) s r) gives 21 ∷
+    leb (r .0) (m .joined .0) gives 22 ∷ []
+
+-- J = r
+abbrev pub joining : MemberState → Round → MemberState
+joining m r =
+    record { me = m .me; n = m .n; joined = r; voted = m .voted; vote = m .vote; led = m .led; phase = m .phase; value = m .value; source = m .source; flags = m .flags }
+
+-- JOIN with V, W if V > 0
+abbrev pub join-of : MemberState → Round → Message
+join-of m r = cond (ltb 0 (m .voted .0)) (JoinVoted r (m .me) (m .voted) (m .vote)) (Join r (m .me))
+
+abbrev pub START-row : MemberState → Round → Outcome
+START-row m r = sends (joining m r) (join-of m r)
+
+-- r = L in this phase
+abbrev pub awaits : MemberState → ℕ → Round → Bool
+awaits m phase r = eqb (r .0) (m .led .0) && eqb (m .phase) phase
+
+-- JOIN r (phase 1) and VOTE r (phase 2): 21 if sender ≥ N; 24 unless r = L in that phase; 25
+abbrev pub count-causes : ℕ → MemberState → Round → Member → List Cause
+count-causes phase m r s =
+    leb (m .n) (s .0) gives 21 ∷
+    not (awaits m phase r) gives 24 ∷
+    flag (m .flags) (s .0) gives 25 ∷ []
+
+-- flags the sender
+abbrev pub counting : MemberState → Member → MemberState
+counting m s =
+    record { me = m .me; n = m .n; joined = m .joined; voted = m .voted; vote = m .vote; led = m .led; phase = m .phase; value = m .value; source = m .source; flags = set (m .flags) (s .0) true }
+
+-- at f+1 flags
+abbrev pub complete : MemberState → Bool
+complete m = eqb (flagged (m .flags)) (quorum (m .n))
+
+-- what happens at f+1 flags, and nothing more before
+abbrev pub at-quorum : (MemberState → Outcome) → MemberState → Outcome
+at-quorum full m = cond (complete m) (full m) (silent m)
+
+-- B and X replaced
+abbrev pub adopted : MemberState → Round → ℕ → MemberState
+adopted m q w =
+    record { me = m .me; n = m .n; joined = m .joined; voted = m .voted; vote = m .vote; led = m .led; phase = m .phase; value = w; source = q; flags = m .flags }
+
+-- a voted round above B replaces B and X
+unfoldable pub adopting : MemberState → Round → ℕ → MemberState
+adopting m q w = cond (ltb (m .source .0) (q .0)) (adopted m q w) m
+
+-- phase 2, flags cleared
+abbrev pub proposing : MemberState → MemberState
+proposing m =
+    record { me = m .me; n = m .n; joined = m .joined; voted = m .voted; vote = m .vote; led = m .led; phase = 2; value = m .value; source = m .source; flags = no-flags }
+
+-- sends PROPOSE(r, X), and the answer names r, X, B: add(r, X, B)
+abbrev pub proposes : MemberState → Round → Outcome
+proposes m r =
+    record { number = 0; state = proposing m; sent = Propose r (m .me) (m .value) ∷ []; named = proposal (r .0) (m .value) (m .source .0) }
+
+-- JOIN r once its vote is taken over
+abbrev pub JOIN-row : MemberState → Round → Member → Outcome
+JOIN-row m r s = at-quorum (λ k. proposes k r) (counting m s)
+
+-- V = r and W ≠ v
+abbrev pub other-vote : MemberState → Round → ℕ → Bool
+other-vote m r v = eqb (m .voted .0) (r .0) && not (eqb (m .vote) v)
+
+-- PROPOSE r, v: 21 unless the sender leads r; 22 if J > r; 23 if V = r and W ≠ v
+abbrev pub PROPOSE-causes : MemberState → Round → Member → ℕ → List Cause
+PROPOSE-causes m r s v =
+    not (leads (m .n) s r) gives 21 ∷
+    ltb (r .0) (m .joined .0) gives 22 ∷
+    other-vote m r v gives 23 ∷ []
+
+-- J = V = r, W = v
+abbrev pub voting : MemberState → Round → ℕ → MemberState
+voting m r v =
+    record { me = m .me; n = m .n; joined = r; voted = r; vote = v; led = m .led; phase = m .phase; value = m .value; source = m .source; flags = m .flags }
+
+-- sends VOTE
+abbrev pub PROPOSE-row : MemberState → Round → ℕ → Outcome
+PROPOSE-row m r v = sends (voting m r v) (Vote r (m .me))
+
+-- phase 3
+abbrev pub deciding : MemberState → MemberState
+deciding m =
+    record { me = m .me; n = m .n; joined = m .joined; voted = m .voted; vote = m .vote; led = m .led; phase = 3; value = m .value; source = m .source; flags = m .flags }
+
+-- the answer names r, X: commit(r)
+abbrev pub decides : MemberState → Round → Outcome
+decides m r = record { number = 0; state = deciding m; sent = []; named = decision (r .0) (m .value) }
+
+abbrev pub VOTE-row : MemberState → Round → Member → Outcome
+VOTE-row m r s = at-quorum (λ k. decides k r) (counting m s)
+
+-- an event of a member
+pub data Event : Type 0 where
+  start : (r : Round) (offer : ℕ) → Event
+  deliver : (g : Message) → Event
+
+-- the rows "start" and "deliver" of the place table, by the member table
+unfoldable pub causes : MemberState → Event → List Cause
+causes m (start r offer) = start-causes m r
+causes m (deliver (Start r s)) = START-causes m r s
+causes m (deliver (Join r s)) = count-causes 1 m r s
+causes m (deliver (JoinVoted r s q w)) = count-causes 1 m r s
+causes m (deliver (Propose r s v)) = PROPOSE-causes m r s v
+causes m (deliver (Vote r s)) = count-causes 2 m r s
+
+-- the column "Else"
+unfoldable pub row : MemberState → Event → Outcome
+unfolding flagged quorum adopting
+row m (start r offer) = start-row m r offer
+row m (deliver (Start r s)) = START-row m r
+row m (deliver (Join r s)) = JOIN-row m r s
+row m (deliver (JoinVoted r s q w)) = JOIN-row (adopting m q w) r s
+row m (deliver (Propose r s v)) = PROPOSE-row m r v
+row m (deliver (Vote r s)) = VOTE-row m r s
+
+-- the step of a sound record at a message within its ranges
+unfoldable pub sound-step : MemberState → Event → Outcome
+unfolding causes row
+sound-step m e = unless (causes m e) m (row m e)
+
+-- a message to be delivered is within its ranges
+abbrev pub fitting : Event → Bool
+fitting (start r offer) = true
+fitting (deliver g) = in-range g
+
+-- the rows "record" and "message": 17 not sound; 16 a field of the message out of range
+abbrev pub unfit : MemberState → Event → List Cause
+unfit m (start r offer) = not (sound m) gives 17 ∷ []
+unfit m (deliver g) = not (sound m) gives 17 ∷ not (in-range g) gives 16 ∷ []
+
+-- the step of any record at any event
+unfoldable pub step : MemberState → Event → Outcome
+unfolding sound sound-step
+step m e = unless (unfit m e) m (sound-step m e)
+
+-- fresh: 17 if the number or N isn't allowed; the record then is not sound
+unfoldable pub fresh-step : Member → ℕ → Outcome
+fresh-step me n = unless (not (sound-number me n) gives 17 ∷ []) (fresh me n) (silent (fresh me n))

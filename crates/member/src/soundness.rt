@@ -1,0 +1,183 @@
+// Which records are sound (01, "Members"), and the fresh record.
+use crate::MemberState;
+use ids::LAST_ROUND;
+use ids::Member;
+use ids::Round;
+ghost use mathlib.Core.Path.{_≡_};
+ghost use mathlib.Core.Bool.{true};
+ghost use Prim.Native.Nat.{_≤_, _<_};
+ghost use Rattle.quorum.specs.Count.{count};
+ghost use Rattle.quorum.specs.Quorum.{quorum};
+ghost use Rattle.member.specs.Record.{allowed, flag, flagged, fresh, sound-number, sound-vote, sound-flags, sound-idle, sound-count, sound-leading, sound};
+
+// The quorum of an office of n members: f + 1, where f is (n - 1) / 2.
+pub fn quorum_of(n: u32) -> u32
+    requires { ⌜ 1 ≤ n ⌝ }
+    ensures { λ k. ⌜ k ≡ quorum n ⌝ }
+{
+    (n - 1) / 2 + 1
+}
+
+// How many of the members below `to` are flagged.
+fn count_below(flags: [bool; 7], to: usize) -> u32
+    requires { ⌜ to ≤ 7 ⌝ }
+    ensures { λ k. ⌜ k ≡ count (flag flags) to ⌝ }
+{
+    let mut k: u32 = 0;
+    let mut i: usize = 0;
+    while i < to {
+        if flags[i] {
+            k += 1;
+        }
+        i += 1;
+    }
+    k
+}
+
+// How many members are flagged.
+pub fn count_flags(flags: [bool; 7]) -> u32
+    ensures { λ k. ⌜ k ≡ flagged flags ⌝ }
+{
+    count_below(flags, 7)
+}
+
+// A record with its number and N given, all else zero or false.
+pub fn blank(me: Member, n: u32) -> MemberState
+    ensures { λ m. ⌜ m ≡ fresh me n ⌝ }
+{
+    MemberState {
+        me: me,
+        n: n,
+        joined: Round(0),
+        voted: Round(0),
+        vote: 0,
+        led: Round(0),
+        phase: 0,
+        value: 0,
+        source: Round(0),
+        flags: [false; 7],
+    }
+}
+
+// N is 3, 5 or 7.
+fn size_allowed(n: u32) -> bool
+    ensures { λ b. ⌜ b ≡ allowed n ⌝ }
+{
+    if n == 3 {
+        return true;
+    }
+    if n == 5 {
+        return true;
+    }
+    n == 7
+}
+
+// N is allowed and the number below it.
+pub fn number_sound(me: Member, n: u32) -> bool
+    ensures { λ b. ⌜ b ≡ sound-number me n ⌝ }
+{
+    if !size_allowed(n) {
+        return false;
+    }
+    me.0 < n
+}
+
+// V is at most J, J at most the last round, and V is 0 only with W 0.
+fn vote_sound(m: MemberState) -> bool
+    ensures { λ b. ⌜ b ≡ sound-vote m ⌝ }
+{
+    if m.joined.0 < m.voted.0 {
+        return false;
+    }
+    if LAST_ROUND < m.joined.0 {
+        return false;
+    }
+    if m.voted.0 == 0 {
+        return m.vote == 0;
+    }
+    true
+}
+
+// Flags from N on are false: as many are counted below N as in all.
+fn flags_sound(m: MemberState) -> bool
+    requires { ⌜ m .n ≤ 7 ⌝ }
+    ensures { λ b. ⌜ b ≡ sound-flags m ⌝ }
+{
+    let n = m.n as usize;
+    let flags = m.flags;
+    count_below(flags, n) == count_below(flags, 7)
+}
+
+// L is 0: idle, X and B are 0, no flag.
+fn idle_sound(m: MemberState) -> bool
+    ensures { λ b. ⌜ b ≡ sound-idle m ⌝ }
+{
+    if m.phase != 0 {
+        return false;
+    }
+    if m.value != 0 {
+        return false;
+    }
+    if m.source.0 != 0 {
+        return false;
+    }
+    let flags = m.flags;
+    count_flags(flags) == 0
+}
+
+// Fewer flags than the quorum in phases 1 and 2, the quorum in phase 3.
+fn count_sound(m: MemberState) -> bool
+    requires { ⌜ 1 ≤ m .n ⌝ }
+    ensures { λ b. ⌜ b ≡ sound-count m ⌝ }
+{
+    let flags = m.flags;
+    let counted = count_flags(flags);
+    let needed = quorum_of(m.n);
+    if m.phase == 3 {
+        return counted == needed;
+    }
+    counted < needed
+}
+
+// L isn't 0: not idle, L in range and led by this member, B below L.
+fn leading_sound(m: MemberState) -> bool
+    requires { ⌜ 1 ≤ m .n ⌝ }
+    ensures { λ b. ⌜ b ≡ sound-leading m ⌝ }
+{
+    if m.phase == 0 {
+        return false;
+    }
+    if LAST_ROUND < m.led.0 {
+        return false;
+    }
+    if m.led.0 % m.n != m.me.0 {
+        return false;
+    }
+    if m.led.0 <= m.source.0 {
+        return false;
+    }
+    count_sound(m)
+}
+
+// Whether a record is sound.
+pub fn sound(m: MemberState) -> bool
+    ensures { λ b. ⌜ b ≡ sound m ⌝ }
+{
+    let me = m.me;
+    if !number_sound(me, m.n) {
+        return false;
+    }
+    if 3 < m.phase {
+        return false;
+    }
+    if !vote_sound(m) {
+        return false;
+    }
+    if !flags_sound(m) {
+        return false;
+    }
+    if m.led.0 == 0 {
+        return idle_sound(m);
+    }
+    leading_sound(m)
+}

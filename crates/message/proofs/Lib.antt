@@ -1,0 +1,4 @@
+-- Theorems about messages.
+pub mod Checks
+pub mod Puts
+pub mod RoundTrip

@@ -1,0 +1,258 @@
+-- What is written reads back, and nothing else is read.
+-- A message in range is read from its own bytes, since each of its words is found where the layout has it. Bytes that are read as a message
+-- are those of that message: its words stand in them, and with the length of the kind they are all that stands there.
+-- Assumes nothing.
+use mathlib.Core.Path.{_≡_, refl, sym, ap, _∙_}
+use mathlib.Core.Bool.{true, false, not, cond}
+use mathlib.Core.List.{List, [], _∷_, _++_}
+use Prim.Native.Nat.{ℕ, _≤_, _<_}
+use native.Mathlib.Omega.{arith}
+use lib.ListN.{length, take, drop}
+use lib.Seq.{take-at}
+use lib.Dec.{eqb, ltb, leb}
+use borrow.Author.Tests.{not-true, not-false, ne-eqb, eq-eqb, le-ltb, eqb-true}
+use Rattle.laws.specs.Tests.{tests, by-test, impossible, and-left, and-right, or-left, or-right, or-none}
+use Rattle.laws.specs.First.{first, passed, zero-of}
+use Rattle.laws.specs.Answers.{number-kept}
+use Rattle.ids.specs.declared.Round.{Round}
+use Rattle.ids.specs.declared.Member.{Member}
+use Rattle.ids.specs.Ranges.{out-of-range, above-range, no-member}
+use Rattle.xdr.specs.Words.{Bytes, word, word-at, hyper-at}
+use Rattle.xdr.specs.Items.{Item, integer, long, encoded, Stand}
+use Rattle.xdr.proofs.Laws.{hyper-at-small}
+use Rattle.xdr.proofs.Items.{length-encoded, integer-found, long-found, stands}
+use Rattle.message.specs.declared.Message.{Message}
+use Rattle.message.specs.declared.Message.the-variants.{Start, Join, JoinVoted, Propose, Vote}
+use Rattle.message.specs.declared.Fault.the-variants.{Length, Kind, Field}
+use Rattle.message.specs.declared.Read.the-variants.{Got, Refused}
+use Rattle.message.specs.Fields.{head-in-range, vote-in-range, in-range}
+use Rattle.message.specs.Layout.{head, words, bytes, byte-count, Held}
+use Rattle.message.specs.Reading.{under-4, no-kind, wrong-length, kind, round, sender, presence, voted, is-join, wrong-presence, inexact, size, decoded, row, answer, read-number, read}
+use Rattle.message.specs.declared.Written.the-variants.{Sent, ShortBuffer, OutOfRange}
+use Rattle.message.specs.Writing.{causes, answer-of, written, written-number, left, in-front}
+use Rattle.message.proofs.Checks.{size-least, size-join-least, size-join, size-join-voted, size-propose, size-other, decoded-start, decoded-join, decoded-join-voted, decoded-propose, decoded-vote}
+
+-- a round in range is a word
+round-small : (r : Round) (s : Member) → head-in-range r s ≡ true → r .0 < 4294967296
+round-small r s h =
+    let out : out-of-range (r .0) ≡ false = not-true (out-of-range (r .0)) (and-left (not (out-of-range (r .0))) (not (no-member (s .0))) h) in
+    let low : above-range (r .0) ≡ false = or-right (eqb (r .0) 0) (above-range (r .0)) out in
+    omega tests
+
+sender-small : (r : Round) (s : Member) → head-in-range r s ≡ true → s .0 < 4294967296
+sender-small r s h =
+    let out : no-member (s .0) ≡ false = not-true (no-member (s .0)) (and-right (not (out-of-range (r .0))) (not (no-member (s .0))) h) in
+    omega tests
+
+pub length-bytes : (m : Message) → length (bytes m) ≡ byte-count m
+unfolding bytes
+length-bytes (Start r s) = length-encoded (words (Start r s))
+length-bytes (Join r s) = length-encoded (words (Join r s))
+length-bytes (JoinVoted r s q w) = length-encoded (words (JoinVoted r s q w))
+length-bytes (Propose r s v) = length-encoded (words (Propose r s v))
+length-bytes (Vote r s) = length-encoded (words (Vote r s))
+
+-- what every message starts with is found, whatever comes after
+module _ (k : ℕ) (r : Round) (s : Member) (small : k < 5) (h : head-in-range r s ≡ true) (js : List Item) where
+  kind-found : kind (encoded (head k r s ++ js)) ≡ k
+  kind-found = integer-found [] (integer (r .0) ∷ integer (s .0) ∷ js) k 0 (length-encoded []) (omega arith)
+
+  round-found : round (encoded (head k r s ++ js)) ≡ r
+  round-found = ap (λ (x : ℕ). record { 0 = x }) (integer-found (integer k ∷ []) (integer (s .0) ∷ js) (r .0) 4 (length-encoded (integer k ∷ [])) (round-small r s h))
+
+  sender-found : sender (encoded (head k r s ++ js)) ≡ s
+  sender-found = ap (λ (x : ℕ). record { 0 = x }) (integer-found (integer k ∷ integer (r .0) ∷ []) js (s .0) 8 (length-encoded (integer k ∷ integer (r .0) ∷ [])) (sender-small r s h))
+
+-- bytes of the length of their kind and presence
+record Whole (s : List ℕ) : Type 0 where
+  low : 1 ≤ kind s
+  high : kind s ≤ 4
+  present : wrong-presence s ≡ false
+  exact : length s ≡ size s
+
+-- they read as the message that they spell, if it is in range
+whole-read : (s : List ℕ) (m : Message) → Whole s → decoded s ≡ m → in-range m ≡ true → read s ≡ Got m
+unfolding read
+whole-read s m w e h =
+    let least = size-least s in
+    let exact = w .exact in
+    let long-enough : under-4 s ≡ false = omega tests in
+    let known : no-kind s ≡ false = or-none (ne-eqb (kind s) 0 (λ z. omega (arith, w .low))) (le-ltb 4 (kind s) (w .high)) in
+    let sized : inexact s ≡ false = ap not (eq-eqb (length s) (size s) exact) in
+    let ranged : not (in-range (decoded s)) ≡ false = rw (e, h) in
+    let length-right : wrong-length s ≡ false =
+    by-test (is-join s)
+    (λ j. rw j (le-ltb (length s) 16 (omega (arith, size-join-least s (eqb-true (kind s) 2 j)))))
+    (λ j. rw j sized) in
+    ap (λ (n : ℕ). answer n (decoded s)) (zero-of (row s) (long-enough, (known, (length-right, (w .present, (sized, (ranged, tt))))))) ∙ ap Got e
+
+answer-got : (n : ℕ) (a m : Message) → answer n a ≡ Got m → (n ≡ 0) × (a ≡ m)
+answer-got n a m h =
+    by-test (eqb n 0)
+    (λ t. let g : Got a ≡ Got m = rw t at h in (eqb-true n 0 t, cc))
+    (λ t. let g : cond (eqb n 14) (Refused Length) (cond (eqb n 15) (Refused Kind) (Refused Field)) ≡ Got m = rw t at h in
+    by-test (eqb n 14)
+    (λ u. let z : Refused Length ≡ Got m = rw u at g in impossible (cc))
+    (λ u. let f : cond (eqb n 15) (Refused Kind) (Refused Field) ≡ Got m = rw u at g in
+    by-test (eqb n 15)
+    (λ v. let z : Refused Kind ≡ Got m = rw v at f in impossible (cc))
+    (λ v. let z : Refused Field ≡ Got m = rw v at f in impossible (cc))))
+
+-- and nothing else reads as a message
+read-whole : (s : List ℕ) (m : Message) → read s ≡ Got m → Whole s × (decoded s ≡ m) × (in-range m ≡ true)
+unfolding read
+read-whole s m h =
+    let (zero-first, same) = answer-got (first (row s)) (decoded s) m h in
+    let (long-enough, (known, (length-right, (present, (sized, (ranged, end)))))) = passed (row s) refl zero-first in
+    let nonzero : eqb (kind s) 0 ≡ false = or-left (eqb (kind s) 0) (ltb 4 (kind s)) known in
+    let small : ltb 4 (kind s) ≡ false = or-right (eqb (kind s) 0) (ltb 4 (kind s)) known in
+    let whole : Whole s =
+    record {
+      low = omega tests;
+      high = omega tests;
+      present = present;
+      exact = eqb-true (length s) (size s) (not-false (eqb (length s) (size s)) sized);
+    } in
+    (whole, same, rw (← same) (not-false (in-range (decoded s)) ranged))
+
+-- the five shapes
+by-kind {ℓ} : {C : Type ℓ} (s : List ℕ) → Whole s → (kind s ≡ 1 → C) → (kind s ≡ 2 → presence s ≡ 0 → C) → (kind s ≡ 2 → presence s ≡ 1 → C) →
+    (kind s ≡ 3 → C) → (kind s ≡ 4 → C) → C
+by-kind s w start join join-voted propose vote =
+    let low = w .low in
+    let high = w .high in
+    by-test (eqb (kind s) 1) (λ t. start (eqb-true (kind s) 1 t))
+    (λ t. by-test (is-join s)
+    (λ j. let few : ltb 1 (presence s) ≡ false = rw j at (w .present) in
+    by-test (eqb (presence s) 0) (λ p. join (eqb-true (kind s) 2 j) (eqb-true (presence s) 0 p)) (λ p. join-voted (eqb-true (kind s) 2 j) (omega tests)))
+    (λ j. by-test (eqb (kind s) 3) (λ p. propose (eqb-true (kind s) 3 p)) (λ p. vote (omega tests))))
+
+module _ (s : List ℕ) (b : Bytes s) where
+  -- bytes in which the words of a message stand, and no more, are its bytes
+  stood : (m : Message) → Stand s 0 (words m) → length s ≡ byte-count m → s ≡ bytes m
+  unfolding bytes
+  stood m w e = stands s 0 (words m) b w (omega (arith, length-bytes m))
+
+  stood-read : (m : Message) → Whole s → decoded s ≡ m → (s ≡ bytes m) × Held m
+  unfolding words
+  stood-read m w e =
+      by-kind s w
+      (λ k. rw (← e, decoded-start s k)
+      (stood (Start (round s) (sender s)) (k, (refl, (refl, tt))) (w .exact ∙ size-other s (λ z. omega arith) (λ z. omega arith)), tt))
+      (λ k p. rw (← e, decoded-join s k p)
+      (stood (Join (round s) (sender s)) (k, (refl, (refl, (p, tt)))) (w .exact ∙ size-join s k p), tt))
+      (λ k p. let l : length s ≡ 28 = w .exact ∙ size-join-voted s k p in
+      rw (← e, decoded-join-voted s k p)
+      (stood (JoinVoted (round s) (sender s) (voted s) (hyper-at s 20)) (k, (refl, (refl, (p, (refl, (refl, tt)))))) l, hyper-at-small 20 s b (omega arith)))
+      (λ k. let l : length s ≡ 20 = w .exact ∙ size-propose s k in
+      rw (← e, decoded-propose s k)
+      (stood (Propose (round s) (sender s) (hyper-at s 12)) (k, (refl, (refl, (refl, tt)))) l, hyper-at-small 12 s b (omega arith)))
+      (λ k. rw (← e, decoded-vote s k)
+      (stood (Vote (round s) (sender s)) (k, (refl, (refl, tt))) (w .exact ∙ size-other s (λ z. omega arith) (λ z. omega arith)), tt))
+
+  -- what is read is, byte for byte, what is written for that message, and in range
+  pub only-written : (m : Message) → read s ≡ Got m → (s ≡ bytes m) × Held m × (in-range m ≡ true)
+  only-written m h =
+      let (w, e, r) = read-whole s m h in
+      let (same, held) = stood-read m w e in
+      (same, held, r)
+
+-- no two byte strings read as one message
+pub one-reading : (s t : List ℕ) (m : Message) → Bytes s → Bytes t → read s ≡ Got m → read t ≡ Got m → s ≡ t
+one-reading s t m b c h k = only-written s b m h .0 ∙ sym (only-written t c m k .0)
+
+-- a message of a kind is whole
+module _ (s : List ℕ) (m : Message) (e : length s ≡ byte-count m) where
+  whole-join : kind s ≡ 2 → presence s ≤ 1 → size s ≡ byte-count m → Whole s
+  whole-join k p z = record { low = omega arith; high = omega arith; present = rw k (le-ltb 1 (presence s) p); exact = e ∙ sym z }
+
+  whole-other : (k : ℕ) → kind s ≡ k → 1 ≤ k → k ≤ 4 → eqb k 2 ≡ false → size s ≡ byte-count m → Whole s
+  whole-other k q low high j z = record { low = omega arith; high = omega arith; present = rw (q, j); exact = e ∙ sym z }
+
+-- the bytes of a message in range are whole, and spell it
+spelt : (m : Message) → Held m → in-range m ≡ true → Whole (bytes m) × (decoded (bytes m) ≡ m)
+unfolding bytes
+spelt (Start r s) v h =
+    let l = bytes (Start r s) in
+    let k = kind-found 1 r s (omega arith) h [] in (
+      whole-other l (Start r s) (length-bytes (Start r s)) 1 k (omega arith) (omega arith) refl (size-other l (λ z. omega arith) (λ z. omega arith)),
+      decoded-start l k ∙ (λ i. Start (round-found 1 r s (omega arith) h [] i) (sender-found 1 r s (omega arith) h [] i)),
+    )
+spelt (Join r s) v h =
+    let l = bytes (Join r s) in
+    let js = integer 0 ∷ [] in
+    let k = kind-found 2 r s (omega arith) h js in
+    let p : presence l ≡ 0 = integer-found (head 2 r s) [] 0 12 (length-encoded (head 2 r s)) (omega arith) in (
+      whole-join l (Join r s) (length-bytes (Join r s)) k (rw p (omega arith)) (size-join l k p),
+      decoded-join l k p ∙ (λ i. Join (round-found 2 r s (omega arith) h js i) (sender-found 2 r s (omega arith) h js i)),
+    )
+spelt (JoinVoted r s q w) v h =
+    let l = bytes (JoinVoted r s q w) in
+    let js = integer 1 ∷ integer (q .0) ∷ long w ∷ [] in
+    let g : head-in-range r s ≡ true = and-left (head-in-range r s) (vote-in-range r q) h in
+    let f : vote-in-range r q ≡ true = and-right (head-in-range r s) (vote-in-range r q) h in
+    let below : ltb (q .0) (r .0) ≡ true = and-right (leb 1 (q .0)) (ltb (q .0) (r .0)) f in
+    let k = kind-found 2 r s (omega arith) g js in
+    let p : presence l ≡ 1 = integer-found (head 2 r s) (integer (q .0) ∷ long w ∷ []) 1 12 (length-encoded (head 2 r s)) (omega arith) in
+    let y : word-at l 16 ≡ q .0 =
+    integer-found (head 2 r s ++ integer 1 ∷ []) (long w ∷ []) (q .0) 16 (length-encoded (head 2 r s ++ integer 1 ∷ [])) (omega (tests, round-small r s g)) in
+    let z : hyper-at l 20 ≡ w = long-found (head 2 r s ++ integer 1 ∷ integer (q .0) ∷ []) [] w 20 (length-encoded (head 2 r s ++ integer 1 ∷ integer (q .0) ∷ [])) v in (
+      whole-join l (JoinVoted r s q w) (length-bytes (JoinVoted r s q w)) k (rw p (omega arith)) (size-join-voted l k p),
+      decoded-join-voted l k p ∙ (λ i. JoinVoted (round-found 2 r s (omega arith) g js i) (sender-found 2 r s (omega arith) g js i) (record { 0 = y i }) (z i)),
+    )
+spelt (Propose r s w) v h =
+    let l = bytes (Propose r s w) in
+    let js = long w ∷ [] in
+    let k = kind-found 3 r s (omega arith) h js in
+    let z : hyper-at l 12 ≡ w = long-found (head 3 r s) [] w 12 (length-encoded (head 3 r s)) v in (
+      whole-other l (Propose r s w) (length-bytes (Propose r s w)) 3 k (omega arith) (omega arith) refl (size-propose l k),
+      decoded-propose l k ∙ (λ i. Propose (round-found 3 r s (omega arith) h js i) (sender-found 3 r s (omega arith) h js i) (z i)),
+    )
+spelt (Vote r s) v h =
+    let l = bytes (Vote r s) in
+    let k = kind-found 4 r s (omega arith) h [] in (
+      whole-other l (Vote r s) (length-bytes (Vote r s)) 4 k (omega arith) (omega arith) refl (size-other l (λ z. omega arith) (λ z. omega arith)),
+      decoded-vote l k ∙ (λ i. Vote (round-found 4 r s (omega arith) h [] i) (sender-found 4 r s (omega arith) h [] i)),
+    )
+
+-- each message that the writer takes reads back as itself
+pub reads-back : (m : Message) → Held m → in-range m ≡ true → read (bytes m) ≡ Got m
+reads-back m v h = let (w, e) = spelt m v h in whole-read (bytes m) m w e h
+
+-- every message in range is written, with the length of its kind, into a buffer that has room for any
+pub in-range-written : (m : Message) (old : List ℕ) → 28 ≤ length old → in-range m ≡ true → written m old ≡ Sent (byte-count m)
+unfolding written
+in-range-written m old l h = simp (le-ltb (length old) 28 l, h, length-bytes m)
+
+answer-sent : (k : ℕ) (m : Message) (n : ℕ) → answer-of k m ≡ Sent n → (k ≡ 0) × (length (bytes m) ≡ n)
+answer-sent k m n h =
+    by-test (eqb k 0)
+    (λ t. let g : Sent (length (bytes m)) ≡ Sent n = rw t at h in (eqb-true k 0 t, cc))
+    (λ t. let g : cond (eqb k 18) ShortBuffer OutOfRange ≡ Sent n = rw t at h in
+    by-test (eqb k 18)
+    (λ u. let z : ShortBuffer ≡ Sent n = rw u at g in impossible (cc))
+    (λ u. let z : OutOfRange ≡ Sent n = rw u at g in impossible (cc)))
+
+-- a message that the writer took stands at the front of the buffer, is in range, and reads back
+pub written-reads-back : (m : Message) (old : List ℕ) (n : ℕ) → Held m → written m old ≡ Sent n → (in-range m ≡ true) × (read (take n (left m old)) ≡ Got m)
+unfolding written left in-front
+written-reads-back m old n v h =
+    let (ok, size) = answer-sent (first (causes m old)) m n h in
+    let (room, (ranged, end)) = passed (causes m old) refl ok in
+    let fits : in-range m ≡ true = not-false (in-range m) ranged in
+    (fits, simp (room, fits, take-at (bytes m) (drop (length (bytes m)) old) n size) (reads-back m v fits))
+
+-- an answer has the number of the first cause of its row
+pub read-row : (s : List ℕ) → read-number (read s) ≡ first (row s)
+unfolding read
+read-row s = number-kept read-number (λ n. answer n (decoded s)) (row s) (refl, (refl, (refl, (refl, (refl, (refl, refl))))))
+
+pub written-row : (m : Message) (old : List ℕ) → written-number (written m old) ≡ first (causes m old)
+unfolding written
+written-row m old = number-kept written-number (λ n. answer-of n m) (causes m old) (refl, (refl, refl))
+
+-- P12 of 01: JOIN words 2, 5, 0 get 14; 2, 5, 0, 0 are accepted
+pub p12 : (read-number (read (encoded (integer 2 ∷ integer 5 ∷ integer 0 ∷ []))) ≡ 14) ×
+    (read (encoded (integer 2 ∷ integer 5 ∷ integer 0 ∷ integer 0 ∷ [])) ≡ Got (Join (record { 0 = 5 }) (record { 0 = 0 })))
+unfolding read size decoded encoded word word-at
+p12 = (refl, refl)

@@ -1,0 +1,8 @@
+-- The third demand about the model.
+pub mod Rehearsal
+pub mod Senders
+pub mod Kept
+pub mod Made
+pub mod Invariant
+pub mod Grows
+pub mod Meeting

@@ -1,0 +1,1 @@
+// Facts about quorums, for every number of members. No code.

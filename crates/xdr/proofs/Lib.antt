@@ -1,0 +1,3 @@
+-- Laws of XDR numbers, and of items one behind another.
+pub mod Laws
+pub mod Items
