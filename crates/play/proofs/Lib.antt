@@ -1,0 +1,2 @@
+-- Laws for play.
+pub mod Settling

@@ -1,0 +1,3 @@
+-- What play promises (01, "Play"), and how its memory stands for the model.
+pub mod Standing
+pub mod Promise
