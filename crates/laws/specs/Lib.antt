@@ -1,5 +1,6 @@
 -- Laws shared by the other crates: Booleans and tests, lists, memberships, refusals in order.
 pub mod Tests
+<<<<<<< HEAD
 pub mod Lists
 pub mod First
 pub mod Parts
@@ -7,3 +8,10 @@ pub mod Answers
 pub mod Conjunction
 pub mod Elements
 pub mod Numbers
+=======
+pub mod Conjunction
+pub mod Lists
+pub mod Parts
+pub mod First
+pub mod Answers
+>>>>>>> main

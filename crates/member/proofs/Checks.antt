@@ -1,8 +1,8 @@
 -- What a check of the refusals that JOIN and VOTE share says of a step: no refusal has number 0, so a check passed exactly if the
 -- causes come to 0. Assumes nothing.
 use mathlib.Core.Path.{_≡_, refl, sym, _∙_, ap}
-use mathlib.Core.Bool.{Bool, true, false, cond, not}
-use mathlib.Core.List.{List, [], _∷_}
+use mathlib.Core.Bool.{Bool, true, false, not}
+use mathlib.Core.List.{List}
 use Prim.Native.Nat.{ℕ, _<_}
 use borrow.Author.Tests.{not-true, not-false}
 use lib.Dec.{ltb, eqb}
@@ -57,6 +57,13 @@ pub reached : (full : MemberState → Outcome) (m d : MemberState) (b : Bool) �
 reached full m d b e f t =
     let h : full d ≡ at-quorum full d = rw (← f, not-false b t) refl in
     h ∙ ap (λ k. at-quorum full k) e
+
+-- a test that the code makes as the negation of what the table tests
+pub outside : (x b : Bool) → b ≡ not x → not b ≡ true → x ≡ true
+outside x b e h = not-false x (sym e ∙ not-true b h)
+
+pub inside : (x b : Bool) → b ≡ not x → not b ≡ false → x ≡ false
+inside x b e h = not-true x (sym e ∙ not-false b h)
 
 -- a vote taken over leaves N
 pub adopting-size : (m : MemberState) (q : Round) (w : ℕ) → adopting m q w .n ≡ m .n

@@ -1,16 +1,16 @@
 -- An accepted step of a sound record gives a sound record, and what it sends is within the ranges of its kind. Row by row: what the
 -- row leaves is sound as it was, what it changes is so by the causes that did not hold. Assumes nothing.
-use mathlib.Core.Path.{_≡_, refl, sym, _∙_}
-use mathlib.Core.Bool.{Bool, true, false, cond, not, _&&_, _||_, and-true}
+use mathlib.Core.Path.{_≡_, refl}
+use mathlib.Core.Bool.{Bool, true, false, cond, not, and-true}
 use mathlib.Core.List.{List, [], _∷_, List·Memᴰ·eq-of-singleton}
-use Prim.Native.Nat.{ℕ, suc, _<_, _≤_}
+use Prim.Native.Nat.{ℕ, suc, _<_}
 use native.Mathlib.Omega.{arith}
 use borrow.Author.Tests.{not-true, not-false}
 use lib.ListN.{length, set, length-set}
 use lib.Dec.{ltb, leb, eqb}
-use Rattle.laws.specs.Tests.{tests, by-test, clash, and-left, and-right, and-intro, or-left, or-right, or-none}
+use Rattle.laws.specs.Tests.{tests, by-test, and-left, and-right, or-left, or-right}
 use Rattle.laws.specs.Lists.{_∈_}
-use Rattle.laws.specs.First.{Cause, first, Passed, passed}
+use Rattle.laws.specs.First.{first, Passed, passed}
 use Rattle.ids.specs.declared.Round.{Round}
 use Rattle.ids.specs.declared.Member.{Member}
 use Rattle.ids.specs.Ranges.{above-range, out-of-range, no-member}
@@ -21,7 +21,7 @@ use Rattle.message.specs.declared.Message.the-variants.{Start, Join, JoinVoted,
 use Rattle.message.specs.Fields.{head-in-range, in-range}
 use Rattle.member.specs.declared.MemberState.{MemberState}
 use Rattle.member.specs.Record.{leads, flag, flagged, flag-from, no-flags, sound, sound-number, fresh}
-use Rattle.member.specs.Table.{Outcome, sends, silent, refused, unless, start-causes, leading, start-row, START-causes, joining, join-of, START-row, awaits, count-causes, counting, complete, at-quorum, adopted, adopting, proposes, JOIN-row, PROPOSE-causes, voting, PROPOSE-row, decides, VOTE-row, Event, start, deliver, fitting, causes, row, sound-step, step}
+use Rattle.member.specs.Table.{Outcome, silent, start-causes, leading, start-row, START-causes, joining, join-of, START-row, awaits, count-causes, counting, complete, at-quorum, adopted, adopting, proposes, JOIN-row, voting, PROPOSE-row, decides, VOTE-row, Event, start, deliver, fitting, causes, row, sound-step, step}
 use Rattle.member.specs.Kept.{Kept}
 use Rattle.member.proofs.Flags.{number-sizes, cleared-short, cleared-from, set-count, set-from}
 use Rattle.member.proofs.Sound.{Sound, parts, whole, Votes, votes, Leading, leading-parts, leading-whole}

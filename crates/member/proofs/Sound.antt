@@ -1,21 +1,13 @@
 -- A sound record taken apart and put together again. Assumes nothing.
-use mathlib.Core.Path.{_≡_, refl}
+use mathlib.Core.Path.{_≡_}
 use mathlib.Core.Bool.{Bool, true, false, cond, not, _&&_, _||_}
-use mathlib.Core.List.{List}
-use Prim.Native.Nat.{ℕ, _<_, _≤_}
-use borrow.Author.Tests.{not-true}
+use Prim.Native.Nat.{_≤_}
 use lib.Dec.{ltb, leb, eqb}
-use Rattle.laws.specs.Tests.{tests, and-left, and-right, and-intro}
+use Rattle.laws.specs.Tests.{and-left, and-right}
 use Rattle.ids.specs.Ranges.{above-range}
-use Rattle.quorum.specs.Count.{some}
-use Rattle.quorum.specs.Quorum.{quorum}
 use Rattle.member.specs.declared.MemberState.{MemberState}
 use Rattle.member.proofs.Flags.{number-sizes}
-use Rattle.member.specs.Record.{flag-from, flagged, leads, sound, sound-number, sound-vote, sound-flags, sound-idle, sound-count, sound-leading}
-
--- L = 0 and idle, or leading
-abbrev pub sound-lead : MemberState → Bool
-sound-lead m = cond (eqb (m .led .0) 0) (sound-idle m) (sound-leading m)
+use Rattle.member.specs.Record.{leads, sound, sound-number, sound-vote, sound-flags, sound-count, sound-leading, sound-lead}
 
 pub record Sound (m : MemberState) : Type 0 where
   pub number : sound-number (m .me) (m .n) ≡ true

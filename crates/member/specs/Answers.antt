@@ -1,7 +1,6 @@
 -- 01's number and values for every case of the answers.
-use mathlib.Core.List.{List, [], _∷_}
+use mathlib.Core.List.{[], _∷_}
 use Prim.Native.Nat.{ℕ}
-use Rattle.message.specs.declared.Message.{Message}
 use Rattle.member.specs.declared.MemberState.{MemberState}
 use Rattle.member.specs.declared.Refusal.{Refusal}
 use Rattle.member.specs.declared.Refusal.the-variants.{NotSound, Field, RoundRange, NotLeader, NotAboveLed, Sender, MovedPast, OtherValue, NotAwaited, CountedAlready}
@@ -11,7 +10,7 @@ use Rattle.member.specs.declared.Step.{Step}
 use Rattle.member.specs.declared.rows.Check.{Check}
 use Rattle.member.specs.declared.rows.Check.the-variants.{Pass}
 use Rattle.member.specs.declared.rows.Check.the-variants as check
-use Rattle.member.specs.Table.{Outcome, refused, sends, silent, nothing, proposal, decision}
+use Rattle.member.specs.Table.{Outcome, refused, sends, silent, proposal, decision}
 
 abbrev pub refusal-number : Refusal → ℕ
 refusal-number NotSound = 17

@@ -1,5 +1,5 @@
 -- The member record of 01, "Members": fresh and sound.
-use mathlib.Core.Bool.{Bool, true, false, cond, _&&_, _||_, not}
+use mathlib.Core.Bool.{Bool, false, cond, _&&_, _||_, not}
 use mathlib.Core.List.{List}
 use Prim.Native.Nat.{ℕ, _%_}
 use lib.ListN.{getD, replicate}
@@ -69,8 +69,12 @@ sound-leading m =
     not (eqb (m .phase) 0) &&
     (not (above-range (m .led .0)) && (leads (m .n) (m .me) (m .led) && (ltb (m .source .0) (m .led .0) && sound-count m)))
 
+-- idle exactly when L = 0
+abbrev pub sound-lead : MemberState → Bool
+sound-lead m = cond (eqb (m .led .0) 0) (sound-idle m) (sound-leading m)
+
 unfoldable pub sound : MemberState → Bool
 unfolding flagged quorum
 sound m =
     sound-number (m .me) (m .n) &&
-    (leb (m .phase) 3 && (sound-vote m && (sound-flags m && cond (eqb (m .led .0) 0) (sound-idle m) (sound-leading m))))
+    (leb (m .phase) 3 && (sound-vote m && (sound-flags m && sound-lead m)))

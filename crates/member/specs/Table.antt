@@ -1,5 +1,5 @@
 -- The member table of 01, "Members", row by row, with the refusals in the order of the place table.
-use mathlib.Core.Bool.{Bool, true, false, cond, _&&_, not}
+use mathlib.Core.Bool.{Bool, true, cond, _&&_, not}
 use mathlib.Core.List.{List, [], _∷_}
 use Prim.Native.Nat.{ℕ}
 use lib.ListN.{set}
@@ -15,7 +15,7 @@ use Rattle.message.specs.Fields.{in-range}
 use Rattle.member.specs.declared.MemberState.{MemberState}
 use Rattle.member.specs.Record.{leads, round, flag, flagged, no-flags, sound, sound-number, fresh}
 
--- what a step comes to: its number, the record after it, what it sends (nothing or one message), what its answer names
+-- what an answer names
 pub data Named : Type 0 where
   nothing : Named
   -- add(r, X, B)
@@ -23,6 +23,7 @@ pub data Named : Type 0 where
   -- commit(r), where X is the value decided
   decision : (r x : ℕ) → Named
 
+-- what a step comes to: its number, the record after it, what it sends (nothing or one message), what its answer names
 pub record Outcome : Type 0 where
   pub number : ℕ
   pub state : MemberState

@@ -1,6 +1,6 @@
 // The member steps of 01, "Members", by value: a record and an event in, the new record and the answer out.
 mod rows;
-pub mod soundness;
+mod soundness;
 
 use ids::Member;
 use ids::Round;
@@ -115,6 +115,13 @@ pub fn fresh(me: Member, n: u32) -> Step
     }
 }
 
+// Whether a record is sound.
+pub fn is_sound(m: MemberState) -> bool
+    ensures { λ b. ⌜ b ≡ sound m ⌝ }
+{
+    soundness::sound(m)
+}
+
 // start(r, offer) of a sound record.
 pub fn start_sound(m: MemberState, r: Round, offer: u64) -> Step
     requires { ⌜ sound m ≡ true ⌝ }
@@ -127,7 +134,7 @@ pub fn start_sound(m: MemberState, r: Round, offer: u64) -> Step
 pub fn start(m: MemberState, r: Round, offer: u64) -> Step
     ensures { λ s. ⌜ outcome s ≡ step m (start r offer) ⌝ }
 {
-    if !soundness::sound(m) {
+    if !is_sound(m) {
         return refuse(m, Refusal::NotSound);
     }
     start_sound(m, r, offer)
@@ -145,7 +152,7 @@ pub fn deliver_sound(m: MemberState, g: Message) -> Step
 pub fn deliver(m: MemberState, g: Message) -> Step
     ensures { λ s. ⌜ outcome s ≡ step m (deliver g) ⌝ }
 {
-    if !soundness::sound(m) {
+    if !is_sound(m) {
         return refuse(m, Refusal::NotSound);
     }
     if !message::in_range(g) {

@@ -4,16 +4,15 @@ use crate::MemberState;
 use crate::Refusal;
 use crate::Step;
 use crate::soundness::count_flags;
+use crate::soundness::is_leader;
 use crate::soundness::quorum_of;
 use ids::Member;
 use ids::Round;
 use ids::in_range;
-use ids::leader;
 use message::Message;
 ghost use mathlib.Core.Path.{_≡_};
 ghost use Prim.Native.Nat.{_≤_, _<_};
-ghost use Rattle.member.specs.Record.{leads};
-ghost use Rattle.member.specs.Table.{refused, unless, start-causes, start-row, START-causes, START-row, join-of, count-causes, counting, complete, adopting, JOIN-row, other-vote, PROPOSE-causes, PROPOSE-row, VOTE-row, deliver, sound-step};
+ghost use Rattle.member.specs.Table.{refused, unless, start-causes, start-row, START-causes, START-row, join-of, count-causes, counting, complete, adopting, proposing, JOIN-row, other-vote, PROPOSE-causes, PROPOSE-row, VOTE-row, deliver, sound-step};
 ghost use Rattle.laws.specs.First.{first};
 ghost use Rattle.member.specs.Answers.{outcome, refusal-number, check-number};
 
@@ -33,14 +32,6 @@ pub fn refuse(m: MemberState, k: Refusal) -> Step
     }
 }
 
-// Whether s leads round r.
-fn is_leader(n: u32, s: Member, r: Round) -> bool
-    requires { ⌜ 1 ≤ n ⌝ }
-    ensures { λ b. ⌜ b ≡ leads n s r ⌝ }
-{
-    leader(r, n).0 == s.0
-}
-
 // start(r, offer).
 pub fn on_start_call(m: MemberState, r: Round, offer: u64) -> Step
     requires { ⌜ 1 ≤ m .n ⌝ }
@@ -57,14 +48,14 @@ pub fn on_start_call(m: MemberState, r: Round, offer: u64) -> Step
         return refuse(m, Refusal::NotAboveLed);
     }
     let none = Round(0);
-    let mut next = m;
-    next.led = r;
-    next.phase = 1;
-    next.value = offer;
-    next.source = none;
-    next.flags = [false; 7];
+    let mut leading = m;
+    leading.led = r;
+    leading.phase = 1;
+    leading.value = offer;
+    leading.source = none;
+    leading.flags = [false; 7];
     Step {
-        state: next,
+        state: leading,
         answer: Answer::Sent(Message::Start {
             round: r,
             sender: me,
@@ -103,10 +94,10 @@ fn on_start(m: MemberState, r: Round, s: Member) -> Step
     if r.0 <= m.joined.0 {
         return refuse(m, Refusal::MovedPast);
     }
-    let mut next = m;
-    next.joined = r;
+    let mut joined = m;
+    joined.joined = r;
     Step {
-        state: next,
+        state: joined,
         answer: Answer::Sent(join_message(m, r)),
     }
 }
@@ -136,12 +127,12 @@ fn on_propose(m: MemberState, r: Round, s: Member, v: u64) -> Step
         return refuse(m, Refusal::OtherValue);
     }
     let me = m.me;
-    let mut next = m;
-    next.joined = r;
-    next.voted = r;
-    next.vote = v;
+    let mut voted = m;
+    voted.joined = r;
+    voted.voted = r;
+    voted.vote = v;
     Step {
-        state: next,
+        state: voted,
         answer: Answer::Sent(Message::Vote {
             round: r,
             sender: me,
@@ -203,6 +194,16 @@ fn adopt(m: MemberState, q: Round, w: u64) -> MemberState
     m
 }
 
+// The record in phase 2, its flags cleared for the votes.
+fn to_proposed(m: MemberState) -> MemberState
+    ensures { λ t. ⌜ t ≡ proposing m ⌝ }
+{
+    let mut next = m;
+    next.phase = 2;
+    next.flags = [false; 7];
+    next
+}
+
 // A JOIN that is counted, its vote taken over before.
 fn count_join(m: MemberState, r: Round, s: Member) -> Step
     requires { ⌜ (1 ≤ m .n) × (s .0 < 7) ⌝ }
@@ -217,11 +218,8 @@ fn count_join(m: MemberState, r: Round, s: Member) -> Step
     }
     let me = counted.me;
     let source = counted.source;
-    let mut next = counted;
-    next.phase = 2;
-    next.flags = [false; 7];
     Step {
-        state: next,
+        state: to_proposed(counted),
         answer: Answer::Proposed {
             sent: Message::Propose {
                 round: r,
@@ -275,10 +273,10 @@ fn on_vote(m: MemberState, r: Round, s: Member) -> Step
             answer: Answer::Done,
         };
     }
-    let mut next = counted;
-    next.phase = 3;
+    let mut decided = counted;
+    decided.phase = 3;
     Step {
-        state: next,
+        state: decided,
         answer: Answer::Decided {
             round: r,
             value: counted.value,

@@ -3,12 +3,12 @@ use crate::MemberState;
 use ids::LAST_ROUND;
 use ids::Member;
 use ids::Round;
+use ids::leader;
 ghost use mathlib.Core.Path.{_≡_};
-ghost use mathlib.Core.Bool.{true};
-ghost use Prim.Native.Nat.{_≤_, _<_};
+ghost use Prim.Native.Nat.{_≤_};
 ghost use Rattle.quorum.specs.Count.{count};
 ghost use Rattle.quorum.specs.Quorum.{quorum};
-ghost use Rattle.member.specs.Record.{allowed, flag, flagged, fresh, sound-number, sound-vote, sound-flags, sound-idle, sound-count, sound-leading, sound};
+ghost use Rattle.member.specs.Record.{allowed, leads, flag, flagged, fresh, sound-number, sound-vote, sound-flags, sound-idle, sound-count, sound-leading, sound-lead, sound};
 
 // The quorum of an office of n members: f + 1, where f is (n - 1) / 2.
 pub fn quorum_of(n: u32) -> u32
@@ -82,6 +82,14 @@ pub fn number_sound(me: Member, n: u32) -> bool
     me.0 < n
 }
 
+// Whether s leads round r.
+pub fn is_leader(n: u32, s: Member, r: Round) -> bool
+    requires { ⌜ 1 ≤ n ⌝ }
+    ensures { λ b. ⌜ b ≡ leads n s r ⌝ }
+{
+    leader(r, n).0 == s.0
+}
+
 // V is at most J, J at most the last round, and V is 0 only with W 0.
 fn vote_sound(m: MemberState) -> bool
     ensures { λ b. ⌜ b ≡ sound-vote m ⌝ }
@@ -150,13 +158,26 @@ fn leading_sound(m: MemberState) -> bool
     if LAST_ROUND < m.led.0 {
         return false;
     }
-    if m.led.0 % m.n != m.me.0 {
+    let me = m.me;
+    let led = m.led;
+    if !is_leader(m.n, me, led) {
         return false;
     }
     if m.led.0 <= m.source.0 {
         return false;
     }
     count_sound(m)
+}
+
+// Idle exactly when L is 0.
+fn lead_sound(m: MemberState) -> bool
+    requires { ⌜ 1 ≤ m .n ⌝ }
+    ensures { λ b. ⌜ b ≡ sound-lead m ⌝ }
+{
+    if m.led.0 == 0 {
+        return idle_sound(m);
+    }
+    leading_sound(m)
 }
 
 // Whether a record is sound.
@@ -176,8 +197,5 @@ pub fn sound(m: MemberState) -> bool
     if !flags_sound(m) {
         return false;
     }
-    if m.led.0 == 0 {
-        return idle_sound(m);
-    }
-    leading_sound(m)
+    lead_sound(m)
 }

@@ -3,7 +3,7 @@
 -- are those of that message: its words stand in them, and with the length of the kind they are all that stands there.
 -- Assumes nothing.
 use mathlib.Core.Path.{_≡_, refl, sym, ap, _∙_}
-use mathlib.Core.Bool.{true, false, not, cond}
+use mathlib.Core.Bool.{true, false, not}
 use mathlib.Core.List.{List, [], _∷_, _++_}
 use Prim.Native.Nat.{ℕ, _≤_, _<_}
 use native.Mathlib.Omega.{arith}
@@ -11,7 +11,7 @@ use lib.ListN.{length, take, drop}
 use lib.Seq.{take-at}
 use lib.Dec.{eqb, ltb, leb}
 use borrow.Author.Tests.{not-true, not-false, ne-eqb, eq-eqb, le-ltb, eqb-true}
-use Rattle.laws.specs.Tests.{tests, by-test, impossible, and-left, and-right, or-left, or-right, or-none}
+use Rattle.laws.specs.Tests.{tests, by-test, and-left, and-right, or-left, or-right, or-none}
 use Rattle.laws.specs.First.{first, passed, zero-of}
 use Rattle.laws.specs.Answers.{number-kept}
 use Rattle.ids.specs.declared.Round.{Round}
@@ -23,14 +23,22 @@ use Rattle.xdr.proofs.Laws.{hyper-at-small}
 use Rattle.xdr.proofs.Items.{length-encoded, integer-found, long-found, stands}
 use Rattle.message.specs.declared.Message.{Message}
 use Rattle.message.specs.declared.Message.the-variants.{Start, Join, JoinVoted, Propose, Vote}
-use Rattle.message.specs.declared.Fault.the-variants.{Length, Kind, Field}
-use Rattle.message.specs.declared.Read.the-variants.{Got, Refused}
+use Rattle.message.specs.declared.Read.the-variants.{Got}
 use Rattle.message.specs.Fields.{head-in-range, vote-in-range, in-range}
-use Rattle.message.specs.Layout.{head, words, bytes, byte-count, Held}
-use Rattle.message.specs.Reading.{under-4, no-kind, wrong-length, kind, round, sender, presence, voted, is-join, wrong-presence, inexact, size, decoded, row, answer, read-number, read}
-use Rattle.message.specs.declared.Written.the-variants.{Sent, ShortBuffer, OutOfRange}
-use Rattle.message.specs.Writing.{causes, answer-of, written, written-number, left, in-front}
+use Rattle.message.specs.Layout.{head, words, bytes, byte-count, kind, round, sender, presence, voted, voted-value, proposed, Held}
+use Rattle.message.specs.Reading.{under-4, no-kind, wrong-length, is-join, wrong-presence, inexact, size, decoded, message-row, answer, read-number, read}
+use Rattle.message.specs.declared.Written.the-variants.{Sent}
+use Rattle.message.specs.Writing.{writer-row, answer-of, written, written-number, buffer-after, in-front}
 use Rattle.message.proofs.Checks.{size-least, size-join-least, size-join, size-join-voted, size-propose, size-other, decoded-start, decoded-join, decoded-join-voted, decoded-propose, decoded-vote}
+
+-- an answer has the number of the first cause of its row
+pub read-numbered : (s : List ℕ) → read-number (read s) ≡ first (message-row s)
+unfolding read
+read-numbered s = number-kept read-number (λ n. answer n (decoded s)) (message-row s) (refl, (refl, (refl, (refl, (refl, (refl, refl))))))
+
+pub written-numbered : (m : Message) (old : List ℕ) → written-number (written m old) ≡ first (writer-row m old)
+unfolding written
+written-numbered m old = number-kept written-number (λ n. answer-of n m) (writer-row m old) (refl, (refl, refl))
 
 -- a round in range is a word
 round-small : (r : Round) (s : Member) → head-in-range r s ≡ true → r .0 < 4294967296
@@ -84,26 +92,16 @@ whole-read s m w e h =
     by-test (is-join s)
     (λ j. rw j (le-ltb (length s) 16 (omega (arith, size-join-least s (eqb-true (kind s) 2 j)))))
     (λ j. rw j sized) in
-    ap (λ (n : ℕ). answer n (decoded s)) (zero-of (row s) (long-enough, (known, (length-right, (w .present, (sized, (ranged, tt))))))) ∙ ap Got e
-
-answer-got : (n : ℕ) (a m : Message) → answer n a ≡ Got m → (n ≡ 0) × (a ≡ m)
-answer-got n a m h =
-    by-test (eqb n 0)
-    (λ t. let g : Got a ≡ Got m = rw t at h in (eqb-true n 0 t, cc))
-    (λ t. let g : cond (eqb n 14) (Refused Length) (cond (eqb n 15) (Refused Kind) (Refused Field)) ≡ Got m = rw t at h in
-    by-test (eqb n 14)
-    (λ u. let z : Refused Length ≡ Got m = rw u at g in impossible (cc))
-    (λ u. let f : cond (eqb n 15) (Refused Kind) (Refused Field) ≡ Got m = rw u at g in
-    by-test (eqb n 15)
-    (λ v. let z : Refused Kind ≡ Got m = rw v at f in impossible (cc))
-    (λ v. let z : Refused Field ≡ Got m = rw v at f in impossible (cc))))
+    ap (λ (n : ℕ). answer n (decoded s)) (zero-of (message-row s) (long-enough, (known, (length-right, (w .present, (sized, (ranged, tt))))))) ∙ ap Got e
 
 -- and nothing else reads as a message
 read-whole : (s : List ℕ) (m : Message) → read s ≡ Got m → Whole s × (decoded s ≡ m) × (in-range m ≡ true)
 unfolding read
 read-whole s m h =
-    let (zero-first, same) = answer-got (first (row s)) (decoded s) m h in
-    let (long-enough, (known, (length-right, (present, (sized, (ranged, end)))))) = passed (row s) refl zero-first in
+    let zero-first : first (message-row s) ≡ 0 = sym (read-numbered s) ∙ ap read-number h in
+    let got : Got (decoded s) ≡ Got m = sym (ap (λ (n : ℕ). answer n (decoded s)) zero-first) ∙ h in
+    let same : decoded s ≡ m = cc in
+    let (long-enough, (known, (length-right, (present, (sized, (ranged, end)))))) = passed (message-row s) refl zero-first in
     let nonzero : eqb (kind s) 0 ≡ false = or-left (eqb (kind s) 0) (ltb 4 (kind s)) known in
     let small : ltb 4 (kind s) ≡ false = or-right (eqb (kind s) 0) (ltb 4 (kind s)) known in
     let whole : Whole s =
@@ -143,10 +141,10 @@ module _ (s : List ℕ) (b : Bytes s) where
       (stood (Join (round s) (sender s)) (k, (refl, (refl, (p, tt)))) (w .exact ∙ size-join s k p), tt))
       (λ k p. let l : length s ≡ 28 = w .exact ∙ size-join-voted s k p in
       rw (← e, decoded-join-voted s k p)
-      (stood (JoinVoted (round s) (sender s) (voted s) (hyper-at s 20)) (k, (refl, (refl, (p, (refl, (refl, tt)))))) l, hyper-at-small 20 s b (omega arith)))
+      (stood (JoinVoted (round s) (sender s) (voted s) (voted-value s)) (k, (refl, (refl, (p, (refl, (refl, tt)))))) l, hyper-at-small 20 s b (omega arith)))
       (λ k. let l : length s ≡ 20 = w .exact ∙ size-propose s k in
       rw (← e, decoded-propose s k)
-      (stood (Propose (round s) (sender s) (hyper-at s 12)) (k, (refl, (refl, (refl, tt)))) l, hyper-at-small 12 s b (omega arith)))
+      (stood (Propose (round s) (sender s) (proposed s)) (k, (refl, (refl, (refl, tt)))) l, hyper-at-small 12 s b (omega arith)))
       (λ k. rw (← e, decoded-vote s k)
       (stood (Vote (round s) (sender s)) (k, (refl, (refl, tt))) (w .exact ∙ size-other s (λ z. omega arith) (λ z. omega arith)), tt))
 
@@ -224,32 +222,16 @@ pub in-range-written : (m : Message) (old : List ℕ) → 28 ≤ length old → 
 unfolding written
 in-range-written m old l h = simp (le-ltb (length old) 28 l, h, length-bytes m)
 
-answer-sent : (k : ℕ) (m : Message) (n : ℕ) → answer-of k m ≡ Sent n → (k ≡ 0) × (length (bytes m) ≡ n)
-answer-sent k m n h =
-    by-test (eqb k 0)
-    (λ t. let g : Sent (length (bytes m)) ≡ Sent n = rw t at h in (eqb-true k 0 t, cc))
-    (λ t. let g : cond (eqb k 18) ShortBuffer OutOfRange ≡ Sent n = rw t at h in
-    by-test (eqb k 18)
-    (λ u. let z : ShortBuffer ≡ Sent n = rw u at g in impossible (cc))
-    (λ u. let z : OutOfRange ≡ Sent n = rw u at g in impossible (cc)))
-
 -- a message that the writer took stands at the front of the buffer, is in range, and reads back
-pub written-reads-back : (m : Message) (old : List ℕ) (n : ℕ) → Held m → written m old ≡ Sent n → (in-range m ≡ true) × (read (take n (left m old)) ≡ Got m)
-unfolding written left in-front
+pub written-reads-back : (m : Message) (old : List ℕ) (n : ℕ) → Held m → written m old ≡ Sent n → (in-range m ≡ true) × (read (take n (buffer-after m old)) ≡ Got m)
+unfolding written buffer-after in-front
 written-reads-back m old n v h =
-    let (ok, size) = answer-sent (first (causes m old)) m n h in
-    let (room, (ranged, end)) = passed (causes m old) refl ok in
+    let ok : first (writer-row m old) ≡ 0 = sym (written-numbered m old) ∙ ap written-number h in
+    let sent : Sent (length (bytes m)) ≡ Sent n = sym (ap (λ (k : ℕ). answer-of k m) ok) ∙ h in
+    let size : length (bytes m) ≡ n = cc in
+    let (room, (ranged, end)) = passed (writer-row m old) refl ok in
     let fits : in-range m ≡ true = not-false (in-range m) ranged in
     (fits, simp (room, fits, take-at (bytes m) (drop (length (bytes m)) old) n size) (reads-back m v fits))
-
--- an answer has the number of the first cause of its row
-pub read-row : (s : List ℕ) → read-number (read s) ≡ first (row s)
-unfolding read
-read-row s = number-kept read-number (λ n. answer n (decoded s)) (row s) (refl, (refl, (refl, (refl, (refl, (refl, refl))))))
-
-pub written-row : (m : Message) (old : List ℕ) → written-number (written m old) ≡ first (causes m old)
-unfolding written
-written-row m old = number-kept written-number (λ n. answer-of n m) (causes m old) (refl, (refl, refl))
 
 -- P12 of 01: JOIN words 2, 5, 0 get 14; 2, 5, 0, 0 are accepted
 pub p12 : (read-number (read (encoded (integer 2 ∷ integer 5 ∷ integer 0 ∷ []))) ≡ 14) ×

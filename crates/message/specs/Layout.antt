@@ -1,8 +1,9 @@
--- The layout of a message (01, "Messages"): its words in order.
+-- The layout of a message (01, "Messages"): its words in order, their number of bytes, and their places.
 use mathlib.Core.List.{List, [], _∷_, _++_}
 use Prim.Native.Nat.{ℕ, _<_}
 use Rattle.ids.specs.declared.Round.{Round}
 use Rattle.ids.specs.declared.Member.{Member}
+use Rattle.xdr.specs.Words.{word-at, hyper-at}
 use Rattle.xdr.specs.Items.{Item, integer, long, encoded}
 use Rattle.message.specs.declared.Message.{Message}
 use Rattle.message.specs.declared.Message.the-variants.{Start, Join, JoinVoted, Propose, Vote}
@@ -30,6 +31,28 @@ byte-count (Join r s) = 16
 byte-count (JoinVoted r s q w) = 28
 byte-count (Propose r s v) = 20
 byte-count (Vote r s) = 12
+
+-- the same words as places in bytes
+abbrev pub kind : List ℕ → ℕ
+kind s = word-at s 0
+
+abbrev pub round : List ℕ → Round
+round s = record { 0 = word-at s 4 }
+
+abbrev pub sender : List ℕ → Member
+sender s = record { 0 = word-at s 8 }
+
+abbrev pub presence : List ℕ → ℕ
+presence s = word-at s 12
+
+abbrev pub voted : List ℕ → Round
+voted s = record { 0 = word-at s 16 }
+
+abbrev pub voted-value : List ℕ → ℕ
+voted-value s = hyper-at s 20
+
+abbrev pub proposed : List ℕ → ℕ
+proposed s = hyper-at s 12
 
 -- a value is a 64-bit number, as its type in the code says
 abbrev pub Held : Message → Type 0

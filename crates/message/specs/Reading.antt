@@ -5,9 +5,6 @@ use Prim.Native.Nat.{ℕ}
 use lib.ListN.{length}
 use lib.Dec.{ltb, eqb}
 use Rattle.laws.specs.First.{Cause, _gives_, first}
-use Rattle.ids.specs.declared.Round.{Round}
-use Rattle.ids.specs.declared.Member.{Member}
-use Rattle.xdr.specs.Words.{word-at, hyper-at}
 use Rattle.message.specs.declared.Message.{Message}
 use Rattle.message.specs.declared.Message.the-variants.{Start, Join, JoinVoted, Propose, Vote}
 use Rattle.message.specs.declared.Fault.{Fault}
@@ -15,6 +12,7 @@ use Rattle.message.specs.declared.Fault.the-variants.{Length, Kind, Fiel
 use Rattle.message.specs.declared.Read.{Read}
 use Rattle.message.specs.declared.Read.the-variants.{Got, Refused}
 use Rattle.message.specs.Fields.{in-range}
+use Rattle.message.specs.Layout.{kind, round, sender, presence, voted, voted-value, proposed, byte-count}
 
 -- 01's number of a fault
 abbrev pub fault-number : Fault → ℕ
@@ -27,36 +25,20 @@ abbrev pub read-number : Read → ℕ
 read-number (Got m) = 0
 read-number (Refused f) = fault-number f
 
--- the words where the layout has them
-abbrev pub kind : List ℕ → ℕ
-kind s = word-at s 0
-
-abbrev pub round : List ℕ → Round
-round s = record { 0 = word-at s 4 }
-
-abbrev pub sender : List ℕ → Member
-sender s = record { 0 = word-at s 8 }
-
-abbrev pub presence : List ℕ → ℕ
-presence s = word-at s 12
-
-abbrev pub voted : List ℕ → Round
-voted s = record { 0 = word-at s 16 }
-
 abbrev pub is-join : List ℕ → Bool
 is-join s = eqb (kind s) 2
 
--- the length of a message of this kind and presence
-unfoldable pub size : List ℕ → ℕ
-size s = cond (is-join s) (cond (eqb (presence s) 1) 28 16) (cond (eqb (kind s) 3) 20 12)
-
--- the message that bytes of that length spell
+-- the message that bytes of the length of their kind spell
 unfoldable pub decoded : List ℕ → Message
 decoded s =
     cond (eqb (kind s) 1) (Start (round s) (sender s))
-    (cond (is-join s) (cond (eqb (presence s) 1) (JoinVoted (round s) (sender s) (voted s) (hyper-at s 20)) (Join (round s) (sender s)))
-    (cond (eqb (kind s) 3) (Propose (round s) (sender s) (hyper-at s 12))
+    (cond (is-join s) (cond (eqb (presence s) 1) (JoinVoted (round s) (sender s) (voted s) (voted-value s)) (Join (round s) (sender s)))
+    (cond (eqb (kind s) 3) (Propose (round s) (sender s) (proposed s))
     (Vote (round s) (sender s))))
+
+-- the length of a message of this kind and presence
+unfoldable pub size : List ℕ → ℕ
+size s = byte-count (decoded s)
 
 abbrev pub under-4 : List ℕ → Bool
 under-4 s = ltb (length s) 4
@@ -82,9 +64,9 @@ unfoldable pub rest : List ℕ → List Cause
 rest s = inexact s gives 14 ∷ not (in-range (decoded s)) gives 16 ∷ []
 
 -- the message row: a cause and its number, in 01's order
-unfoldable pub row : List ℕ → List Cause
+unfoldable pub message-row : List ℕ → List Cause
 unfolding rest
-row s =
+message-row s =
     under-4 s gives 14 ∷
     no-kind s gives 15 ∷
     wrong-length s gives 14 ∷
@@ -101,5 +83,5 @@ unfolding rest
 read-rest s = answer (first (rest s)) (decoded s)
 
 unfoldable pub read : List ℕ → Read
-unfolding row
-read s = answer (first (row s)) (decoded s)
+unfolding message-row
+read s = answer (first (message-row s)) (decoded s)

@@ -18,36 +18,30 @@ written-number (Sent n) = 0
 written-number ShortBuffer = 18
 written-number OutOfRange = 16
 
--- the sent length; a refusal's is 0
-abbrev pub sent-length : Written → ℕ
-sent-length (Sent n) = n
-sent-length ShortBuffer = 0
-sent-length OutOfRange = 0
-
 -- a reply buffer has room for the longest message
 abbrev pub short-buffer : List ℕ → Bool
 short-buffer old = ltb (length old) 28
 
 -- the buffer's cause and then that of the fields
-abbrev pub causes : Message → List ℕ → List Cause
-causes m old = short-buffer old gives 18 ∷ not (in-range m) gives 16 ∷ []
+abbrev pub writer-row : Message → List ℕ → List Cause
+writer-row m old = short-buffer old gives 18 ∷ not (in-range m) gives 16 ∷ []
 
 -- the answer of a number; 0 comes with the sent length
 abbrev pub answer-of : ℕ → Message → Written
 answer-of n m = cond (eqb n 0) (Sent (length (bytes m))) (cond (eqb n 18) ShortBuffer OutOfRange)
 
 unfoldable pub written : Message → List ℕ → Written
-written m old = answer-of (first (causes m old)) m
+written m old = answer-of (first (writer-row m old)) m
 
 -- the message at the front, and the bytes behind it as they were
 unfoldable pub in-front : Message → List ℕ → List ℕ
 in-front m old = bytes m ++ drop (length (bytes m)) old
 
 -- a refusal leaves the buffer as it was
-unfoldable pub left : Message → List ℕ → List ℕ
-left m old = cond (eqb (first (causes m old)) 0) (in-front m old) old
+unfoldable pub buffer-after : Message → List ℕ → List ℕ
+buffer-after m old = cond (eqb (first (writer-row m old)) 0) (in-front m old) old
 
 -- the writer's answer and the buffer after it
 pub record Writes (m : Message) (old : List ℕ) (r : Written) (new : List ℕ) : Type 0 where
   pub answer : r ≡ written m old
-  pub buffer : new ≡ left m old
+  pub buffer : new ≡ buffer-after m old

@@ -1,11 +1,11 @@
 -- Laws of counts over 0 to n-1, each by recursion on n. Assumes nothing.
-use mathlib.Core.Path.{_≡_, refl, sym, ap, _∙_}
-use mathlib.Core.Bool.{Bool, true, false, cond, _||_}
+use mathlib.Core.Path.{_≡_, refl, ap}
+use mathlib.Core.Bool.{Bool, true, false}
 use mathlib.Core.Logic.{_≢_}
 use Prim.Native.Nat.{ℕ, zero, suc, _+_, _<_, _≤_}
 use native.Mathlib.Omega.{arith}
 use lib.Dec.{eqb}
-use Rattle.laws.specs.Tests.{tests, by-test, clash, or-left, or-right, or-none}
+use Rattle.laws.specs.Tests.{tests, by-test, or-left, or-right, or-none}
 use Rattle.quorum.specs.Count.{count, some}
 
 -- two counts that share no member are at most n together

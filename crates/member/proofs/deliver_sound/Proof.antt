@@ -1,6 +1,5 @@
 -- `member::deliver_sound` meets its contract: the row, and that steps keep soundness; that the flags are seven is their type. Assumes nothing.
-use mathlib.Core.Path.{_≡_, refl}
-use mathlib.Core.Bool.{true}
+use mathlib.Core.Path.{_≡_}
 use native.Mathlib.Omega.{arith}
 use lib.ListN.{length, length-map}
 use Rattle.member.proofs.Sound.{sound-size}
@@ -14,8 +13,10 @@ on-message-requires c κs = let (low, high) = sound-size (c .args .m) (c .pre .0
 
 returns : tie.Need-returns
 returns c =
-    let seven : length (c .before .args .m .flags) ≡ 7 = simp length-map at (c .before .good .0 .1 .1 .1 .1 .1 .1 .1 .1 .1 .1 .1 .0 .1 .0 .1) in
-    record { equals = c .on-message .ensures; kept = rw (c .on-message .ensures) (step-kept (c .before .args .m) (deliver (c .before .args .g)) seven (c .before .pre .0) (c .before .pre .1)) }
+    let args = c .before .args in
+    let pre′ = c .before .pre in
+    let seven : length (args .m .flags) ≡ 7 = simp length-map at (c .before .good .0 .1 .1 .1 .1 .1 .1 .1 .1 .1 .1 .1 .0 .1 .0 .1) in
+    record { equals = c .on-message .ensures; kept = rw (c .on-message .ensures) (step-kept (args .m) (deliver (args .g)) seven (pre′ .0) (pre′ .1)) }
 
 pub deliver-sound-spec : {M : Type 1} → statement M
 deliver-sound-spec = tie.close (tie.spec on-message-requires returns)

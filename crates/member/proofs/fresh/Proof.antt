@@ -16,7 +16,13 @@ refuse-requires c κs = search needs
 
 returns : tie.Need-returns
 unfolding fresh-step
-returns c = rw (← c .before .before .number-sound .ensures, not-true (c .before .before .number-sound .result) (c .before .if1 .taken), ← c .before .before .before .blank .ensures) (c .refuse .ensures)
+returns c =
+    let number-sound = c .before .before .number-sound in
+    rw (
+      ← number-sound .ensures,
+      not-true (number-sound .result) (c .before .if1 .taken),
+      ← c .before .before .before .blank .ensures,
+    ) (c .refuse .ensures)
 
 returns-2 : tie.Need-returns-2
 unfolding fresh-step

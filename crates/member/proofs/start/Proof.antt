@@ -7,22 +7,26 @@ use borrow.Author.Needs.{needs}
 use Rattle.member.proofs.start.Statement.{statement}
 use Rattle.member.proofs.start.Tie as tie
 
-sound-requires : tie.Need-sound-requires
-sound-requires c κs = search needs
+is-sound-requires : tie.Need-is-sound-requires
+is-sound-requires c κs = search needs
 
 refuse-requires : tie.Need-refuse-requires
 refuse-requires c κs = search needs
 
 returns : tie.Need-returns
 unfolding step
-returns c = rw (← c .before .before .sound .ensures, not-true (c .before .before .sound .result) (c .before .if1 .taken)) (c .refuse .ensures)
+returns c = rw (← c .before .before .is-sound .ensures, not-true (c .before .before .is-sound .result) (c .before .if1 .taken)) (c .refuse .ensures)
 
 start-sound-requires : tie.Need-start-sound-requires
-start-sound-requires c κs = sym (c .before .sound .ensures) ∙ not-false (c .before .sound .result) (c .if1 .left)
+start-sound-requires c κs = sym (c .before .is-sound .ensures) ∙ not-false (c .before .is-sound .result) (c .if1 .left)
 
 returns-2 : tie.Need-returns-2
-returns-2 c = c .start-sound .ensures .equals ∙ sym (step-of-sound (c .before .before .before .args .m) (start (c .before .before .before .args .r) (c .before .before .before .args .offer)) (sym (c .before .before .sound .ensures) ∙ not-false (c .before .before .sound .result) (c .before .if1 .left)) refl)
+returns-2 c =
+    let args = c .before .before .before .args in
+    let is-sound = c .before .before .is-sound in
+    c .start-sound .ensures .equals ∙
+    sym (step-of-sound (args .m) (start (args .r) (args .offer)) (sym (is-sound .ensures) ∙ not-false (is-sound .result) (c .before .if1 .left)) refl)
 
 pub start-spec : {M : Type 1} → statement M
 start-spec =
-    tie.close (tie.spec sound-requires refuse-requires returns start-sound-requires returns-2)
+    tie.close (tie.spec is-sound-requires refuse-requires returns start-sound-requires returns-2)

@@ -1,6 +1,5 @@
 -- `member::start_sound` meets its contract: the row, and that steps keep soundness; that the flags are seven is their type. Assumes nothing.
 use mathlib.Core.Path.{_≡_, refl}
-use mathlib.Core.Bool.{true}
 use native.Mathlib.Omega.{arith}
 use lib.ListN.{length, length-map}
 use Rattle.member.proofs.Sound.{sound-size}
@@ -15,8 +14,9 @@ on-start-call-requires c κs = omega (arith, sound-size (c .args .m) (c .pre))
 returns : tie.Need-returns
 unfolding sound-step
 returns c =
-    let seven : length (c .before .args .m .flags) ≡ 7 = simp length-map at (c .before .good .0 .1 .1 .1 .1 .1 .1 .1 .1 .1 .1 .1 .0 .1 .0 .1) in
-    record { equals = c .on-start-call .ensures; kept = rw (c .on-start-call .ensures) (step-kept (c .before .args .m) (start (c .before .args .r) (c .before .args .offer)) seven (c .before .pre) refl) }
+    let args = c .before .args in
+    let seven : length (args .m .flags) ≡ 7 = simp length-map at (c .before .good .0 .1 .1 .1 .1 .1 .1 .1 .1 .1 .1 .1 .0 .1 .0 .1) in
+    record { equals = c .on-start-call .ensures; kept = rw (c .on-start-call .ensures) (step-kept (args .m) (start (args .r) (args .offer)) seven (c .before .pre) refl) }
 
 pub start-sound-spec : {M : Type 1} → statement M
 start-sound-spec = tie.close (tie.spec on-start-call-requires returns)

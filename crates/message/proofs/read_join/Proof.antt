@@ -2,15 +2,15 @@
 use mathlib.Core.Path.{sym, _∙_}
 use native.Mathlib.Omega.{arith}
 use borrow.Author.Tests.{lt-ltb, le-ltb}
+use denote.Ref.{now}
 use Rattle.message.specs.Reading.{read}
-use Rattle.message.proofs.Checks.{size-join, size-join-voted, join-rest}
+use Rattle.message.proofs.Checks.{join-short, size-join, size-join-voted, join-rest}
 use borrow.Author.Needs.{needs}
 use Rattle.message.proofs.read_join.Statement.{statement}
 use Rattle.message.proofs.read_join.Tie as tie
 
 returns : tie.Need-returns
-unfolding read
-returns c = simp (c .before .before .pre .1, le-ltb _ _ (c .before .before .pre .0), lt-ltb _ _ (c .if1 .taken))
+returns c = sym (join-short (now (c .before .before .args .s)) (c .before .before .pre .1) (c .before .before .pre .0) (omega arith))
 
 word-at-requires : tie.Need-word-at-requires
 word-at-requires c κs = search needs

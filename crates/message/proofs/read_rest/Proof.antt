@@ -1,5 +1,8 @@
 -- `message::read_rest` meets its contract: each return goes by the tests that led there. Assumes nothing.
 use mathlib.Core.Path.{sym, _∙_}
+use native.Mathlib.Omega.{arith}
+use lib.ListN.{length}
+use denote.Ref.{now}
 use borrow.Author.Tests.{eq-eqb, ne-eqb}
 use Rattle.message.specs.Reading.{read-rest}
 use borrow.Author.Needs.{needs}
@@ -8,7 +11,7 @@ use Rattle.message.proofs.read_rest.Tie as tie
 
 returns : tie.Need-returns
 unfolding read-rest
-returns c = simp (sym (c .before .before .pre), ne-eqb _ _ (c .if1 .taken))
+returns c = simp (sym (c .before .before .pre), ne-eqb (length (now (c .before .before .args .s))) (c .before .before .args .n) (λ e. omega arith))
 
 decode-requires : tie.Need-decode-requires
 decode-requires c κs = search needs

@@ -3,7 +3,6 @@ use mathlib.Core.Path.{_∙_}
 use native.Mathlib.Omega.{arith}
 use Rattle.member.specs.Table.{count-causes, JOIN-row}
 use Rattle.member.proofs.Checks.{check-refused, check-passed, check-sender}
-use borrow.Author.Tests.{eq-eqb, ne-eqb, lt-ltb, le-ltb, le-leb, lt-leb, not-true, not-false}
 use borrow.Author.Needs.{needs}
 use Rattle.member.proofs.rows.on_join.Statement.{statement}
 use Rattle.member.proofs.rows.on_join.Tie as tie
@@ -18,16 +17,28 @@ refuse-requires : tie.Need-refuse-requires
 refuse-requires c κs = search needs
 
 returns : tie.Need-returns
-returns c = c .refuse .ensures ∙ check-refused (count-causes 1 (c .before .before .before .before .before .args .m) (c .before .before .before .before .before .args .r) (c .before .before .before .before .before .args .s)) (c .before .before .before .before .before .args .m) (JOIN-row (c .before .before .before .before .before .args .m) (c .before .before .before .before .before .args .r) (c .before .before .before .before .before .args .s)) (c .before .before .before .before .awaited .result) (c .before .before .check .given .0 .0) (c .before .before .before .before .awaited .ensures) (c .before .before .check .given .1)
+returns c =
+    let args = c .before .before .before .before .before .args in
+    let awaited = c .before .before .before .before .awaited in
+    let check = c .before .before .check in
+    c .refuse .ensures ∙
+    check-refused (count-causes 1 (args .m) (args .r) (args .s)) (args .m) (JOIN-row (args .m) (args .r) (args .s)) (awaited .result) (check .given .0 .0) (awaited .ensures) (check .given .1)
 
 enum-told : tie.Need-enum-told
 enum-told c = search needs
 
 count-join-requires : tie.Need-count-join-requires
-count-join-requires c κs = (omega arith, omega (arith, check-sender 1 (c .before .before .before .args .m) (c .before .before .before .args .r) (c .before .before .before .args .s) (c .before .before .awaited .result) (c .before .before .awaited .ensures) (c .enum-told .given .1)))
+count-join-requires c κs =
+    let args = c .before .before .before .args in
+    let awaited = c .before .before .awaited in
+    (omega arith, omega (arith, check-sender 1 (args .m) (args .r) (args .s) (awaited .result) (awaited .ensures) (c .enum-told .given .1)))
 
 returns-2 : tie.Need-returns-2
-returns-2 c = c .count-join .ensures ∙ check-passed (count-causes 1 (c .before .before .before .before .args .m) (c .before .before .before .before .args .r) (c .before .before .before .before .args .s)) (c .before .before .before .before .args .m) (JOIN-row (c .before .before .before .before .args .m) (c .before .before .before .before .args .r) (c .before .before .before .before .args .s)) (c .before .before .before .awaited .result) (c .before .before .before .awaited .ensures) (c .before .enum-told .given .1)
+returns-2 c =
+    let args = c .before .before .before .before .args in
+    let awaited = c .before .before .before .awaited in
+    c .count-join .ensures ∙
+    check-passed (count-causes 1 (args .m) (args .r) (args .s)) (args .m) (JOIN-row (args .m) (args .r) (args .s)) (awaited .result) (awaited .ensures) (c .before .enum-told .given .1)
 
 pub on-join-spec : {M : Type 1} → statement M
 on-join-spec =

@@ -17,7 +17,12 @@ refuse-requires : tie.Need-refuse-requires
 refuse-requires c κs = search needs
 
 returns : tie.Need-returns
-returns c = c .refuse .ensures ∙ check-refused (count-causes 1 (c .before .before .before .before .before .args .m) (c .before .before .before .before .before .args .r) (c .before .before .before .before .before .args .s)) (c .before .before .before .before .before .args .m) (JOIN-row (adopting (c .before .before .before .before .before .args .m) (c .before .before .before .before .before .args .q) (c .before .before .before .before .before .args .w)) (c .before .before .before .before .before .args .r) (c .before .before .before .before .before .args .s)) (c .before .before .before .before .awaited .result) (c .before .before .check .given .0 .0) (c .before .before .before .before .awaited .ensures) (c .before .before .check .given .1)
+returns c =
+    let args = c .before .before .before .before .before .args in
+    let awaited = c .before .before .before .before .awaited in
+    let check = c .before .before .check in
+    c .refuse .ensures ∙
+    check-refused (count-causes 1 (args .m) (args .r) (args .s)) (args .m) (JOIN-row (adopting (args .m) (args .q) (args .w)) (args .r) (args .s)) (awaited .result) (check .given .0 .0) (awaited .ensures) (check .given .1)
 
 enum-told : tie.Need-enum-told
 enum-told c = search needs
@@ -26,10 +31,19 @@ adopt-requires : tie.Need-adopt-requires
 adopt-requires c κs = search needs
 
 count-join-requires : tie.Need-count-join-requires
-count-join-requires c κs = (rw (c .adopt .ensures, adopting-size) (omega arith), omega (arith, check-sender 1 (c .before .before .before .before .args .m) (c .before .before .before .before .args .r) (c .before .before .before .before .args .s) (c .before .before .before .awaited .result) (c .before .before .before .awaited .ensures) (c .before .enum-told .given .1)))
+count-join-requires c κs =
+    let args = c .before .before .before .before .args in
+    let awaited = c .before .before .before .awaited in
+    (rw (c .adopt .ensures, adopting-size) (omega arith), omega (arith, check-sender 1 (args .m) (args .r) (args .s) (awaited .result) (awaited .ensures) (c .before .enum-told .given .1)))
 
 returns-2 : tie.Need-returns-2
-returns-2 c = rw (c .before .adopt .ensures) at (c .count-join .ensures) ∙ check-passed (count-causes 1 (c .before .before .before .before .before .args .m) (c .before .before .before .before .before .args .r) (c .before .before .before .before .before .args .s)) (c .before .before .before .before .before .args .m) (JOIN-row (adopting (c .before .before .before .before .before .args .m) (c .before .before .before .before .before .args .q) (c .before .before .before .before .before .args .w)) (c .before .before .before .before .before .args .r) (c .before .before .before .before .before .args .s)) (c .before .before .before .before .awaited .result) (c .before .before .before .before .awaited .ensures) (c .before .before .enum-told .given .1)
+returns-2 c =
+    let args = c .before .before .before .before .before .args in
+    let awaited = c .before .before .before .before .awaited in
+    rw (
+    c .before .adopt .ensures
+    ) at (c .count-join .ensures) ∙
+    check-passed (count-causes 1 (args .m) (args .r) (args .s)) (args .m) (JOIN-row (adopting (args .m) (args .q) (args .w)) (args .r) (args .s)) (awaited .result) (awaited .ensures) (c .before .before .enum-told .given .1)
 
 pub on-join-voted-spec : {M : Type 1} → statement M
 on-join-voted-spec =

@@ -17,7 +17,13 @@ refuse-requires-2 : tie.Need-refuse-requires-2
 refuse-requires-2 c κs = search needs
 
 returns-2 : tie.Need-returns-2
-returns-2 c = rw (← c .before .before .before .before .before .is-leader .ensures, not-false (c .before .before .before .before .before .is-leader .result) (c .before .before .before .before .if1 .left), lt-ltb _ _ (c .before .if2 .taken)) (c .refuse2 .ensures)
+returns-2 c =
+    let is-leader = c .before .before .before .before .before .is-leader in
+    rw (
+      ← is-leader .ensures,
+      not-false (is-leader .result) (c .before .before .before .before .if1 .left),
+      lt-ltb _ _ (c .before .if2 .taken),
+    ) (c .refuse2 .ensures)
 
 voted-otherwise-requires : tie.Need-voted-otherwise-requires
 voted-otherwise-requires c κs = search needs
@@ -26,10 +32,26 @@ refuse-requires-3 : tie.Need-refuse-requires-3
 refuse-requires-3 c κs = search needs
 
 returns-3 : tie.Need-returns-3
-returns-3 c = rw (← c .before .before .before .before .before .before .before .is-leader .ensures, not-false (c .before .before .before .before .before .before .before .is-leader .result) (c .before .before .before .before .before .before .if1 .left), le-ltb _ _ (c .before .before .before .if2 .left), ← c .before .before .voted-otherwise .ensures, c .before .if3 .taken) (c .refuse3 .ensures)
+returns-3 c =
+    let is-leader = c .before .before .before .before .before .before .before .is-leader in
+    rw (
+      ← is-leader .ensures,
+      not-false (is-leader .result) (c .before .before .before .before .before .before .if1 .left),
+      le-ltb _ _ (c .before .before .before .if2 .left),
+      ← c .before .before .voted-otherwise .ensures,
+      c .before .if3 .taken,
+    ) (c .refuse3 .ensures)
 
 returns-4 : tie.Need-returns-4
-returns-4 c = rw (← c .before .before .before .before .before .before .before .is-leader .ensures, not-false (c .before .before .before .before .before .before .before .is-leader .result) (c .before .before .before .before .before .before .if1 .left), le-ltb _ _ (c .before .before .before .if2 .left), ← c .before .before .voted-otherwise .ensures, c .before .if3 .left)
+returns-4 c =
+    let is-leader = c .before .before .before .before .before .before .before .is-leader in
+    rw (
+      ← is-leader .ensures,
+      not-false (is-leader .result) (c .before .before .before .before .before .before .if1 .left),
+      le-ltb _ _ (c .before .before .before .if2 .left),
+      ← c .before .before .voted-otherwise .ensures,
+      c .before .if3 .left,
+    )
 
 pub on-propose-spec : {M : Type 1} → statement M
 on-propose-spec =

@@ -17,13 +17,26 @@ refuse-requires-2 : tie.Need-refuse-requires-2
 refuse-requires-2 c κs = search needs
 
 returns-2 : tie.Need-returns-2
-returns-2 c = rw (← c .before .before .before .before .before .is-leader .ensures, not-false (c .before .before .before .before .before .is-leader .result) (c .before .before .before .before .if1 .left), le-leb _ _ (c .before .if2 .taken)) (c .refuse2 .ensures)
+returns-2 c =
+    let is-leader = c .before .before .before .before .before .is-leader in
+    rw (
+      ← is-leader .ensures,
+      not-false (is-leader .result) (c .before .before .before .before .if1 .left),
+      le-leb _ _ (c .before .if2 .taken),
+    ) (c .refuse2 .ensures)
 
 join-message-requires : tie.Need-join-message-requires
 join-message-requires c κs = search needs
 
 returns-3 : tie.Need-returns-3
-returns-3 c = rw (← c .before .before .before .before .before .is-leader .ensures, not-false (c .before .before .before .before .before .is-leader .result) (c .before .before .before .before .if1 .left), lt-leb _ _ (c .before .if2 .left), c .join-message .ensures)
+returns-3 c =
+    let is-leader = c .before .before .before .before .before .is-leader in
+    rw (
+      ← is-leader .ensures,
+      not-false (is-leader .result) (c .before .before .before .before .if1 .left),
+      lt-leb _ _ (c .before .if2 .left),
+      c .join-message .ensures,
+    )
 
 pub on-start-spec : {M : Type 1} → statement M
 on-start-spec =

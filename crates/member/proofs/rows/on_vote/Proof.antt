@@ -17,22 +17,42 @@ refuse-requires : tie.Need-refuse-requires
 refuse-requires c κs = search needs
 
 returns : tie.Need-returns
-returns c = c .refuse .ensures ∙ check-refused (count-causes 2 (c .before .before .before .before .before .args .m) (c .before .before .before .before .before .args .r) (c .before .before .before .before .before .args .s)) (c .before .before .before .before .before .args .m) (VOTE-row (c .before .before .before .before .before .args .m) (c .before .before .before .before .before .args .r) (c .before .before .before .before .before .args .s)) (c .before .before .before .before .awaited .result) (c .before .before .check .given .0 .0) (c .before .before .before .before .awaited .ensures) (c .before .before .check .given .1)
+returns c =
+    let args = c .before .before .before .before .before .args in
+    let awaited = c .before .before .before .before .awaited in
+    let check = c .before .before .check in
+    c .refuse .ensures ∙
+    check-refused (count-causes 2 (args .m) (args .r) (args .s)) (args .m) (VOTE-row (args .m) (args .r) (args .s)) (awaited .result) (check .given .0 .0) (awaited .ensures) (check .given .1)
 
 enum-told : tie.Need-enum-told
 enum-told c = search needs
 
 flag-sender-requires : tie.Need-flag-sender-requires
-flag-sender-requires c κs = omega (arith, check-sender 2 (c .before .before .before .args .m) (c .before .before .before .args .r) (c .before .before .before .args .s) (c .before .before .awaited .result) (c .before .before .awaited .ensures) (c .enum-told .given .1))
+flag-sender-requires c κs =
+    let args = c .before .before .before .args in
+    let awaited = c .before .before .awaited in
+    omega (arith, check-sender 2 (args .m) (args .r) (args .s) (awaited .result) (awaited .ensures) (c .enum-told .given .1))
 
 is-complete-requires : tie.Need-is-complete-requires
 is-complete-requires c κs = rw (c .flag-sender .ensures) (omega arith)
 
 returns-2 : tie.Need-returns-2
-returns-2 c = short (λ k. decides k (c .before .before .before .before .before .before .args .r)) (counting (c .before .before .before .before .before .before .args .m) (c .before .before .before .before .before .before .args .s)) (c .before .before .flag-sender .result) (c .before .is-complete .result) (c .before .before .flag-sender .ensures) (c .before .is-complete .ensures) (c .if1 .taken) ∙ check-passed (count-causes 2 (c .before .before .before .before .before .before .args .m) (c .before .before .before .before .before .before .args .r) (c .before .before .before .before .before .before .args .s)) (c .before .before .before .before .before .before .args .m) (VOTE-row (c .before .before .before .before .before .before .args .m) (c .before .before .before .before .before .before .args .r) (c .before .before .before .before .before .before .args .s)) (c .before .before .before .before .before .awaited .result) (c .before .before .before .before .before .awaited .ensures) (c .before .before .before .enum-told .given .1)
+returns-2 c =
+    let args = c .before .before .before .before .before .before .args in
+    let awaited = c .before .before .before .before .before .awaited in
+    let flag-sender = c .before .before .flag-sender in
+    let is-complete = c .before .is-complete in
+    short (λ k. decides k (args .r)) (counting (args .m) (args .s)) (flag-sender .result) (is-complete .result) (flag-sender .ensures) (is-complete .ensures) (c .if1 .taken) ∙
+    check-passed (count-causes 2 (args .m) (args .r) (args .s)) (args .m) (VOTE-row (args .m) (args .r) (args .s)) (awaited .result) (awaited .ensures) (c .before .before .before .enum-told .given .1)
 
 returns-3 : tie.Need-returns-3
-returns-3 c = reached (λ k. decides k (c .before .before .before .before .before .before .args .r)) (counting (c .before .before .before .before .before .before .args .m) (c .before .before .before .before .before .before .args .s)) (c .before .before .flag-sender .result) (c .before .is-complete .result) (c .before .before .flag-sender .ensures) (c .before .is-complete .ensures) (c .if1 .left) ∙ check-passed (count-causes 2 (c .before .before .before .before .before .before .args .m) (c .before .before .before .before .before .before .args .r) (c .before .before .before .before .before .before .args .s)) (c .before .before .before .before .before .before .args .m) (VOTE-row (c .before .before .before .before .before .before .args .m) (c .before .before .before .before .before .before .args .r) (c .before .before .before .before .before .before .args .s)) (c .before .before .before .before .before .awaited .result) (c .before .before .before .before .before .awaited .ensures) (c .before .before .before .enum-told .given .1)
+returns-3 c =
+    let args = c .before .before .before .before .before .before .args in
+    let awaited = c .before .before .before .before .before .awaited in
+    let flag-sender = c .before .before .flag-sender in
+    let is-complete = c .before .is-complete in
+    reached (λ k. decides k (args .r)) (counting (args .m) (args .s)) (flag-sender .result) (is-complete .result) (flag-sender .ensures) (is-complete .ensures) (c .if1 .left) ∙
+    check-passed (count-causes 2 (args .m) (args .r) (args .s)) (args .m) (VOTE-row (args .m) (args .r) (args .s)) (awaited .result) (awaited .ensures) (c .before .before .before .enum-told .given .1)
 
 pub on-vote-spec : {M : Type 1} → statement M
 on-vote-spec =

@@ -14,7 +14,12 @@ count-below-requires-2 : tie.Need-count-below-requires-2
 count-below-requires-2 c κs = search needs
 
 returns : tie.Need-returns
-returns c = rw (c .before .count-below .ensures, c .count-below2 .ensures) (counts-agree (c .before .before .before .before .args .m .n) (c .before .before .before .before .args .m .flags) (c .before .before .before .before .pre))
+returns c =
+    let args = c .before .before .before .before .args in
+    rw (
+      c .before .count-below .ensures,
+      c .count-below2 .ensures,
+    ) (counts-agree (args .m .n) (args .m .flags) (c .before .before .before .before .pre))
 
 pub flags-sound-spec : {M : Type 1} → statement M
 flags-sound-spec = tie.close (tie.spec cast-n count-below-requires count-below-requires-2 returns)

@@ -17,7 +17,13 @@ count-flags-requires : tie.Need-count-flags-requires
 count-flags-requires c κs = search needs
 
 returns-4 : tie.Need-returns-4
-returns-4 c = simp (eq-eqb _ _ (c .before .before .before .before .before .before .if1 .left), eq-eqb _ _ (c .before .before .before .before .if2 .left), eq-eqb _ _ (c .before .before .if3 .left), c .count-flags .ensures)
+returns-4 c =
+    simp (
+      eq-eqb _ _ (c .before .before .before .before .before .before .if1 .left),
+      eq-eqb _ _ (c .before .before .before .before .if2 .left),
+      eq-eqb _ _ (c .before .before .if3 .left),
+      c .count-flags .ensures,
+    )
 
 pub idle-sound-spec : {M : Type 1} → statement M
 idle-sound-spec = tie.close (tie.spec returns returns-2 returns-3 count-flags-requires returns-4)

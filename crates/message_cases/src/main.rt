@@ -1,0 +1,172 @@
+// Writes a message of each kind and some with fields out of range, prints the bytes, and reads them back; then reads damaged bytes.
+// A line has bytes in hex and what they read as; of a refused message it has the number and the buffer as that left it.
+use ids::Member;
+use ids::Round;
+use libc::STDOUT_FILENO;
+use message::Message;
+use message::Read;
+use message::Written;
+
+fn print_byte(b: u8) {
+    io::print_hex(STDOUT_FILENO, b as u64, 2);
+}
+
+fn print_bytes(s: &[u8]) {
+    let mut i = 0;
+    while i < s.len() {
+        print_byte(s[i]);
+        i += 1;
+    }
+}
+
+fn print_number(n: u64) {
+    io::print_decimal(STDOUT_FILENO, n);
+    io::write_all(STDOUT_FILENO, b" ");
+}
+
+fn print_head(round: Round, sender: Member) {
+    print_number(round.0 as u64);
+    print_number(sender.0 as u64);
+}
+
+fn print_message(m: Message) {
+    match m {
+        Message::Start { round, sender } => {
+            io::write_all(STDOUT_FILENO, b"START ");
+            print_head(round, sender);
+        }
+        Message::Join { round, sender } => {
+            io::write_all(STDOUT_FILENO, b"JOIN ");
+            print_head(round, sender);
+        }
+        Message::JoinVoted {
+            round,
+            sender,
+            voted,
+            value,
+        } => {
+            io::write_all(STDOUT_FILENO, b"JOIN ");
+            print_head(round, sender);
+            print_number(voted.0 as u64);
+            print_number(value);
+        }
+        Message::Propose {
+            round,
+            sender,
+            value,
+        } => {
+            io::write_all(STDOUT_FILENO, b"PROPOSE ");
+            print_head(round, sender);
+            print_number(value);
+        }
+        Message::Vote { round, sender } => {
+            io::write_all(STDOUT_FILENO, b"VOTE ");
+            print_head(round, sender);
+        }
+    }
+}
+
+// What bytes read as: the message, or the number of the fault.
+fn show_read(s: &[u8]) {
+    print_bytes(s);
+    io::write_all(STDOUT_FILENO, b" ");
+    match message::read_message(s) {
+        Read::Got(m) => print_message(m),
+        Read::Refused(f) => print_number(message::number(f) as u64),
+    }
+    io::write_all(STDOUT_FILENO, b"\n");
+}
+
+fn show_front(s: &[u8], n: usize) {
+    if n <= s.len() {
+        show_read(&s[0..n]);
+    }
+}
+
+// What the writer makes of a message in a buffer of 28 bytes.
+fn show_written(m: Message) {
+    let mut buf = [255u8; 28];
+    match message::write_message(m, &mut buf) {
+        Written::Sent(n) => show_front(&buf, n),
+        Written::ShortBuffer => show_refused(18, &buf),
+        Written::OutOfRange => show_refused(16, &buf),
+    }
+}
+
+fn show_refused(number: u64, s: &[u8]) {
+    print_number(number);
+    print_bytes(s);
+    io::write_all(STDOUT_FILENO, b"\n");
+}
+
+// Each kind, with fields whose bytes are all different.
+fn each_kind() {
+    let round = Round(66051);
+    let sender = Member(6);
+    let value = 72623859790382856;
+    show_written(Message::Start { round, sender });
+    show_written(Message::Join { round, sender });
+    show_written(Message::JoinVoted {
+        round,
+        sender,
+        voted: Round(1),
+        value,
+    });
+    show_written(Message::Propose {
+        round,
+        sender,
+        value,
+    });
+    show_written(Message::Vote { round, sender });
+}
+
+// A vote of its own round, one of round 0, a round of 0, a round past the last, a sender of 7.
+fn out_of_range() {
+    let sender = Member(0);
+    show_written(Message::JoinVoted {
+        round: Round(2),
+        sender,
+        voted: Round(2),
+        value: 0,
+    });
+    show_written(Message::JoinVoted {
+        round: Round(2),
+        sender,
+        voted: Round(0),
+        value: 0,
+    });
+    show_written(Message::Start {
+        round: Round(0),
+        sender,
+    });
+    show_written(Message::Start {
+        round: Round(1000001),
+        sender,
+    });
+    show_written(Message::Vote {
+        round: Round(1000000),
+        sender: Member(7),
+    });
+}
+
+// Under 4 bytes; a kind of 0 and of 5; a JOIN of 12 bytes and of 16; one with presence 2, of 16 and of 17 bytes; one with presence 1 that ends
+// there; trailing bytes; the low byte first.
+fn damaged() {
+    show_read(&[0, 0, 0]);
+    show_read(&[0, 0, 0, 0]);
+    show_read(&[0, 0, 0, 5, 0, 0, 0, 5, 0, 0, 0, 0]);
+    show_read(&[0, 0, 0, 2, 0, 0, 0, 5, 0, 0, 0, 0]);
+    show_read(&[0, 0, 0, 2, 0, 0, 0, 5, 0, 0, 0, 0, 0, 0, 0, 0]);
+    show_read(&[0, 0, 0, 2, 0, 0, 0, 5, 0, 0, 0, 0, 0, 0, 0, 2]);
+    show_read(&[0, 0, 0, 2, 0, 0, 0, 5, 0, 0, 0, 0, 0, 0, 0, 2, 0]);
+    show_read(&[0, 0, 0, 2, 0, 0, 0, 5, 0, 0, 0, 0, 0, 0, 0, 1]);
+    show_read(&[0, 0, 0, 2, 0, 0, 0, 5, 0, 0, 0, 0, 0, 0, 0, 0, 0]);
+    show_read(&[0, 0, 0, 1, 0, 0, 0, 5, 0, 0, 0, 0, 0]);
+    show_read(&[1, 0, 0, 0, 5, 0, 0, 0, 0, 0, 0, 0]);
+}
+
+fn main() {
+    each_kind();
+    out_of_range();
+    damaged();
+}
