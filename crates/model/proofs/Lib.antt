@@ -6,3 +6,5 @@ pub mod Made
 pub mod Invariant
 pub mod Grows
 pub mod Meeting
+pub mod Counts
+pub mod Rows
