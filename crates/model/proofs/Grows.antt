@@ -53,6 +53,13 @@ join-sender r₁ s₁ (JoinVoted r s q w) h = h .1
 join-sender r₁ s₁ (Propose r s v) h = absurd h
 join-sender r₁ s₁ (Vote r s) h = absurd h
 
+pub join-reached : (r t j v l : ℕ) (g : Message) → JoinOf r t g → Reached j v l g → r ≤ j
+join-reached r t j v l (Start r₁ s) o h = absurd o
+join-reached r t j v l (Join r₁ s) o h = omega (arith, o .0)
+join-reached r t j v l (JoinVoted r₁ s q w) o h = omega (arith, o .0)
+join-reached r t j v l (Propose r₁ s x) o h = absurd o
+join-reached r t j v l (Vote r₁ s) o h = absurd o
+
 -- a member other than the sender said nothing new
 pub spoken-other : {sent : List Message} {t j v l : ℕ} (gs : List Message) → ((g : Message) → g ∈ gs → sender g ≢ t) → Spoken sent t j v l → Spoken (sent ++ gs) t j v l
 spoken-other {sent} {t} gs f S = record {
