@@ -181,11 +181,15 @@ fresh-at n k zero i x h = absurd (omega arith)
 fresh-at n k (suc d) zero x h = let e : k + 0 ≡ k = omega arith in rw e refl
 fresh-at n k (suc d) (suc i) x h = let e : k + suc i ≡ suc k + i = omega arith in rw e (fresh-at n (suc k) d i x (omega arith))
 
+pub first-member : (z : Sizes) (t : ℕ) → t < z .n → member-at z (first-office (z .n)) t ≡ fresh (member-number t) (z .n)
+unfolding first-office
+first-member z t l = let e : 0 + t ≡ t = omega arith in rw (fresh-at (z .n) 0 (z .n) t (fresh (member-number t) (z .n)) l, e) refl
+
 pub first-kept : (z : Sizes) → allowed (z .n) ≡ true → KeptOffice z (first-office (z .n))
 unfolding first-office
 first-kept z h = record {
   count = length-fresh (z .n) 0 (z .n);
-  each = λ t l. let e : 0 + t ≡ t = omega arith in rw (fresh-at (z .n) 0 (z .n) t (fresh (member-number t) (z .n)) l, e) (fresh-kept t l);
+  each = λ t l. rw (first-member z t l) (fresh-kept t l);
   ranged = λ g i. elim i [ ];
   senders = λ g i. elim i [ ];
   fits = omega arith;

@@ -8,3 +8,5 @@ pub mod Grows
 pub mod Meeting
 pub mod Counts
 pub mod Rows
+pub mod Events
+pub mod Demanded
