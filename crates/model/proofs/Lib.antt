@@ -10,3 +10,4 @@ pub mod Counts
 pub mod Rows
 pub mod Events
 pub mod Demanded
+pub mod Committed
