@@ -11,3 +11,5 @@ pub mod Rows
 pub mod Events
 pub mod Demanded
 pub mod Committed
+pub mod Fold
+pub mod Tree
