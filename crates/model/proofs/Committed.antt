@@ -1,17 +1,16 @@
 -- How many nodes of a tree are COMMITTED: an accepted add leaves their number, an accepted commit makes one more. Rounds are distinct, so
 -- one node takes the new status. Assumes nothing.
-use mathlib.Core.Path.{_≡_, refl, sym, ap, _∙_}
-use mathlib.Core.Bool.{Bool, true, false, cond, _&&_}
+use mathlib.Core.Path.{_≡_, refl, ap}
+use mathlib.Core.Bool.{Bool, true, false}
 use mathlib.Core.List.{List, [], _∷_, _++_, map, List·Memᴰ·head as here, List·Memᴰ·tail as there}
-use Prim.Native.Nat.{ℕ, zero, suc, _+_, _<_}
+use Prim.Native.Nat.{ℕ, suc, _+_, _<_}
 use native.Mathlib.Omega.{arith}
-use lib.ListN.{length}
 use lib.Dec.{eqb}
 use borrow.Author.Tests.{not-false, eq-eqb}
 use Rattle.laws.specs.Tests.{tests, by-test, clash, and-left, or-left, or-right}
 use Rattle.laws.specs.Lists.{_∈_, any, any-none, none-any, cut}
 use Rattle.laws.specs.First.{passed}
-use Rattle.quorum_tree.specs.Machine.{Call, add, commit, Node, ADDED, GHOST, COMMITTED, fresh, has-round, present, find, above, strikes, struck, new-node, committed, causes, answer, change, step, after, answers}
+use Rattle.quorum_tree.specs.Machine.{Call, add, commit, Node, ADDED, COMMITTED, has-round, present, find, above, strikes, struck, new-node, committed, causes, answer, change, step, after, answers}
 use Rattle.quorum_tree.proofs.Grown.{Grown, placed-cut}
 use Rattle.quorum_tree.proofs.History.{step-ok}
 use Rattle.quorum_tree.proofs.Steps.{step-grown}

@@ -1,15 +1,15 @@
 -- A leader that counts JOINs or VOTEs: its flags with one more, and the quorum that they are when the count is complete. What a
 -- member said, with what it says now. Assumes nothing.
-use mathlib.Core.Path.{_≡_, refl, sym, _∙_}
+use mathlib.Core.Path.{_≡_, _∙_}
 use mathlib.Core.Bool.{Bool, true, false, not}
-use mathlib.Core.List.{List, [], _∷_, _++_, List·Memᴰ·append-cases}
+use mathlib.Core.List.{List, _++_, List·Memᴰ·append-cases}
 use mathlib.Core.Logic.{_≢_, ⊎-elim}
 use Prim.Native.Nat.{ℕ, _<_, _≤_, _%_}
 use native.Mathlib.Omega.{arith}
-use lib.ListN.{length, getD, set, replicate, getD-replicate, List·getD-eq-default}
+use lib.ListN.{length, set, replicate, getD-replicate, List·getD-eq-default}
 use lib.Seq.{getD-set-other}
-use lib.Dec.{ltb, leb, eqb}
-use Rattle.laws.specs.Tests.{tests, by-test, clash}
+use lib.Dec.{ltb, eqb}
+use Rattle.laws.specs.Tests.{tests, by-test}
 use Rattle.laws.specs.Lists.{_∈_}
 use Rattle.ids.specs.declared.Round.{Round}
 use Rattle.ids.specs.declared.Member.{Member}
@@ -24,7 +24,6 @@ use Rattle.member.specs.Table.{counting, complete, adopted}
 use Rattle.member.proofs.Sound.{parts, sound-size}
 use Rattle.member.proofs.Flags.{counts-agree, set-from}
 use Rattle.model.specs.Model.{Sizes, member-number}
-use Rattle.model.proofs.Senders.{sender}
 use Rattle.model.proofs.Kept.{KeptMember, own-round, led-ranged, source-lower}
 use Rattle.model.proofs.Invariant.{JoinOf, carried, Voted, Reached, Spoken}
 use Rattle.model.proofs.Grows.{reached-rises}

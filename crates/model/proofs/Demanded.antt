@@ -1,10 +1,9 @@
 -- The third demand: of any list of events, whatever is lost, repeated, late or out of order. The proposals and decisions made have the
 -- four properties, so the tree says OK to each; decided values are those of COMMITTED nodes of one tree. Assumes nothing.
-use mathlib.Core.Path.{_≡_, refl, sym, subst, _∙_}
+use mathlib.Core.Path.{_≡_, refl, sym, _∙_}
 use mathlib.Core.Bool.{true}
-use mathlib.Core.List.{List, [], _∷_, List·Memᴰ·tail as there}
+use mathlib.Core.List.{List, List·Memᴰ·tail as there}
 use Prim.Native.Nat.{ℕ, _<_}
-use native.Mathlib.Omega.{arith}
 use borrow.Author.Tests.{eqb-true}
 use Rattle.laws.specs.Lists.{_∈_}
 use Rattle.quorum_tree.specs.Machine.{Call, Node, COMMITTED, fresh, after}
@@ -16,10 +15,10 @@ use Rattle.quorum_tree.proofs.FourProperties.{told-ok, ok-exactly}
 use Rattle.quorum_tree.proofs.Agreement.{agreement}
 use Rattle.member.specs.Record.{allowed}
 use Rattle.member.specs.Table.{decision}
-use Rattle.model.specs.Model.{Sizes, Event, Office, first-office, offered}
+use Rattle.model.specs.Model.{Sizes, Event, first-office, offered}
 use Rattle.model.specs.Demand.{calls, ended, Demand}
 use Rattle.model.proofs.Made.{adds-in-calls, proposal-call, decision-call}
-use Rattle.model.proofs.Invariant.{Added, MadeSo, Invariant}
+use Rattle.model.proofs.Invariant.{Added, MadeSo}
 use Rattle.model.proofs.Events.{holds}
 
 module _ (z : Sizes) (es : List Event) (ok : allowed (z .n) ≡ true) where

@@ -1,6 +1,6 @@
 -- The invariant holds after any list of events: of the first office, and every event keeps it. Assumes nothing.
-use mathlib.Core.Path.{_≡_, refl, sym, ap, subst, _∙_}
-use mathlib.Core.Bool.{Bool, true, false, cond, _&&_, not}
+use mathlib.Core.Path.{_≡_, refl, ap, subst}
+use mathlib.Core.Bool.{true, false, cond, not}
 use mathlib.Core.List.{List, [], _∷_, _++_, append-nil, append-assoc}
 use Prim.Native.Nat.{ℕ, suc, _+_, _<_, _≤_}
 use native.Mathlib.Omega.{arith}
@@ -17,12 +17,12 @@ use Rattle.message.specs.declared.Message.the-variants.{Start, Join, JoinVoted,
 use Rattle.message.specs.Fields.{in-range, head-in-range, vote-in-range}
 use Rattle.member.specs.declared.MemberState.{MemberState}
 use Rattle.member.specs.Record.{allowed, fresh, round}
-use Rattle.member.specs.Table.{Outcome, nothing, START-causes, start-causes, count-causes, PROPOSE-causes, awaits, adopted, adopting, JOIN-row, VOTE-row, causes, row}
-use Rattle.member.specs.Table.{Event as MemberEvent, start as starts, deliver as delivers}
-use Rattle.model.specs.Model.{Sizes, Event, start, deliver, Office, member-number, first-office, member-at, message-at, at-member, event-of, outcome, proposes-one, proposals, answer, taken, next, after, offer-of, offered}
+use Rattle.member.specs.Table.{START-causes, start-causes, count-causes, PROPOSE-causes, awaits, adopted, adopting, JOIN-row, causes, row}
+use Rattle.member.specs.Table.{deliver as delivers}
+use Rattle.model.specs.Model.{Sizes, Event, start, deliver, Office, member-number, first-office, member-at, message-at, at-member, outcome, proposes-one, proposals, answer, next, after, offer-of, offered}
 use Rattle.model.specs.Demand.{calls, ended}
 use Rattle.model.proofs.Kept.{KeptMember, KeptOffice, Accepted, accepted, message-in, accepted-row, sent-by, next-kept, first-member, first-kept}
-use Rattle.model.proofs.Invariant.{join-quorum, vote-quorum, JoinOf, carried, Joined, Voted, Stands, MadeSo, Invariant}
+use Rattle.model.proofs.Invariant.{join-quorum, vote-quorum, JoinOf, carried, Joined, Stands, Invariant}
 use Rattle.model.proofs.Grows.{New, keep}
 use Rattle.model.proofs.Meeting.{allowed-meets}
 use Rattle.model.proofs.Counts.{Counts, counts-of, counts-adopted}

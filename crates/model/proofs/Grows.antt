@@ -1,24 +1,23 @@
 -- What holds stays so as messages, proposals and offers go behind the others: of members that did not take the step, and of the whole.
 -- `keep` asks of an accepted step only what is new. Assumes nothing.
-use mathlib.Core.Path.{_≡_, refl, sym, _∙_, ap}
-use mathlib.Core.Bool.{Bool, true}
-use mathlib.Core.List.{List, [], _∷_, _++_, append-nil, List·Memᴰ·append-cases, Memᴰ·append-left}
+use mathlib.Core.Path.{_≡_, refl, sym, _∙_}
+use mathlib.Core.Bool.{Bool}
+use mathlib.Core.List.{List, [], _++_, append-nil, List·Memᴰ·append-cases, Memᴰ·append-left}
 use mathlib.Core.Logic.{_≢_, ⊎-elim}
 use Prim.Native.Nat.{ℕ, _<_, _≤_, _%_}
 use native.Mathlib.Omega.{arith}
-use lib.ListN.{length, set}
+use lib.ListN.{set}
 use Rattle.laws.specs.Lists.{_∈_}
 use Rattle.laws.specs.Elements.{set-each}
 use Rattle.quorum.proofs.Meet.{wider}
 use Rattle.message.specs.declared.Message.{Message}
 use Rattle.message.specs.declared.Message.the-variants.{Start, Join, JoinVoted, Propose, Vote}
-use Rattle.member.specs.declared.MemberState.{MemberState}
 use Rattle.member.specs.Record.{fresh}
 use Rattle.member.specs.Table.{Outcome, Named, nothing, proposal, decision}
 use Rattle.model.specs.Model.{Sizes, Office, member-number, member-at, made-by}
 use Rattle.model.proofs.Senders.{sender}
-use Rattle.model.proofs.Kept.{KeptMember, KeptOffice, own-round}
-use Rattle.model.proofs.Invariant.{JoinOf, carried, Joined, Voted, Added, Reached, Spoken, Leading, Stands, FromLeader, Backed, MadeSo, Invariant}
+use Rattle.model.proofs.Kept.{KeptOffice, own-round}
+use Rattle.model.proofs.Invariant.{JoinOf, Joined, Added, Reached, Spoken, Leading, Stands, FromLeader, Backed, MadeSo, Invariant}
 
 abbrev pub round-named : Named → ℕ
 round-named nothing = 0

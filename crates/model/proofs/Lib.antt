@@ -13,3 +13,4 @@ pub mod Demanded
 pub mod Committed
 pub mod Fold
 pub mod Tree
+pub mod Numbers

@@ -1,14 +1,13 @@
 -- Each row of the member table keeps the invariant: what is new of the member, of what it sends and of what is made. Assumes nothing.
-use mathlib.Core.Path.{_≡_, refl, sym, ap, subst, _∙_}
-use mathlib.Core.Bool.{Bool, true, false, cond, not}
-use mathlib.Core.List.{List, [], _∷_, _++_, append-nil, List·Memᴰ·head as here, List·Memᴰ·eq-of-singleton, List·Memᴰ·append-cases, Memᴰ·append-left}
-use mathlib.Core.Logic.{_≢_, ⊎-elim}
+use mathlib.Core.Path.{_≡_, refl, sym, ap, _∙_}
+use mathlib.Core.Bool.{true, false, not}
+use mathlib.Core.List.{List, [], _∷_, _++_, append-nil, List·Memᴰ·eq-of-singleton, List·Memᴰ·append-cases, Memᴰ·append-left}
+use mathlib.Core.Logic.{⊎-elim}
 use Prim.Native.Nat.{ℕ, suc, _+_, _<_, _≤_, _%_}
 use native.Mathlib.Omega.{arith}
-use lib.ListN.{set}
-use lib.Dec.{ltb, leb, eqb}
+use lib.Dec.{ltb, eqb}
 use borrow.Author.Tests.{not-false}
-use Rattle.laws.specs.Tests.{tests, by-test, clash, impossible, and-left, and-right}
+use Rattle.laws.specs.Tests.{tests, by-test, clash, impossible}
 use Rattle.laws.specs.Lists.{_∈_, by-last, in-last}
 use Rattle.laws.specs.First.{Passed}
 use Rattle.ids.specs.declared.Round.{Round}
@@ -18,15 +17,15 @@ use Rattle.quorum_tree.proofs.Calls.{adds-elim, committed-added}
 use Rattle.message.specs.declared.Message.{Message}
 use Rattle.message.specs.declared.Message.the-variants.{Start, Join, JoinVoted, Propose, Vote}
 use Rattle.member.specs.declared.MemberState.{MemberState}
-use Rattle.member.specs.Record.{leads, flag, no-flags, round}
-use Rattle.member.specs.Table.{Outcome, Named, nothing, proposal, decision, silent, start-causes, leading, start-row, START-causes, joining, join-of, START-row, awaits, count-causes, counting, complete, at-quorum, adopted, adopting, proposing, proposes, JOIN-row, PROPOSE-causes, voting, PROPOSE-row, deciding, decides, VOTE-row}
-use Rattle.model.specs.Model.{Sizes, Office, member-number, made-by, proposals, proposes-one}
+use Rattle.member.specs.Record.{leads, round}
+use Rattle.member.specs.Table.{proposal, decision, silent, start-causes, leading, start-row, START-causes, join-of, START-row, counting, complete, proposes, JOIN-row, PROPOSE-causes, PROPOSE-row, decides, VOTE-row}
+use Rattle.model.specs.Model.{Sizes, Office, member-number, proposals, proposes-one}
 use Rattle.model.specs.Demand.{calls}
 use Rattle.model.proofs.Made.{decision-call, call-proposal}
-use Rattle.model.proofs.Senders.{sender, only}
-use Rattle.model.proofs.Kept.{KeptMember, KeptOffice, vote-lower}
-use Rattle.model.proofs.Invariant.{join-quorum, vote-quorum, JoinOf, carried, Joined, Voted, Added, Reached, Spoken, Leading, Stands, FromLeader, Backed, MadeSo, Invariant}
-use Rattle.model.proofs.Grows.{round-named, join-sender, join-reached, added-grows, joined-grows, leading-grows, made-calm, New}
+use Rattle.model.proofs.Senders.{only}
+use Rattle.model.proofs.Kept.{KeptMember, vote-lower}
+use Rattle.model.proofs.Invariant.{join-quorum, vote-quorum, JoinOf, carried, Joined, Voted, Reached, Leading, Stands, FromLeader, Backed, Invariant}
+use Rattle.model.proofs.Grows.{join-sender, join-reached, added-grows, joined-grows, leading-grows, made-calm, New}
 use Rattle.model.proofs.Meeting.{Pasts, proposes-so, decides-so}
 use Rattle.model.proofs.Counts.{Counts, counts-of, flag-set, no-flag, flagged-quorum, spoken-new, spoken-quiet}
 
@@ -167,7 +166,6 @@ module _ (z : Sizes) (o : Office) (offers : List ℕ) (I : Invariant z o offers)
   proposes-new : k .phase ≡ 1 → Joined (o .sent) (k .led .0) (k .source .0) (s .0) → complete (counting k s) ≡ true → suc (proposals (o .made)) < z .table →
       New z o offers t (proposes (counting k s) (k .led)) []
   proposes-new now join full row =
-      let x : ℕ = k .value in
       record {
         stands = record {
           spoken = spoken-quiet (o .sent) (Propose (k .led) (k .me) (k .value) ∷ []) t (k .joined .0) (k .voted .0) (k .led .0) (k .joined .0) (k .voted .0) (k .led .0)

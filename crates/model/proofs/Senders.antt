@@ -2,7 +2,7 @@
 -- most, has its own number as sender. Row by row. Assumes nothing.
 use mathlib.Core.Path.{_≡_, refl}
 use mathlib.Core.Bool.{Bool, true, false, cond}
-use mathlib.Core.List.{List, [], _∷_, List·Memᴰ·eq-of-singleton}
+use mathlib.Core.List.{[], _∷_, List·Memᴰ·eq-of-singleton}
 use Prim.Native.Nat.{ℕ, _≤_}
 use native.Mathlib.Omega.{arith}
 use lib.ListN.{length}
@@ -14,7 +14,7 @@ use Rattle.ids.specs.declared.Member.{Member}
 use Rattle.message.specs.declared.Message.{Message}
 use Rattle.message.specs.declared.Message.the-variants.{Start, Join, JoinVoted, Propose, Vote}
 use Rattle.member.specs.declared.MemberState.{MemberState}
-use Rattle.member.specs.Table.{Outcome, refused, silent, counting, complete, adopting, adopted, proposes, decides, Event, start, deliver, join-of, joining, causes, row, unfit, sound-step, step}
+use Rattle.member.specs.Table.{Outcome, refused, silent, counting, complete, adopting, adopted, proposes, decides, Event, start, deliver, join-of, causes, row, unfit, sound-step, step}
 
 abbrev pub sender : Message → ℕ
 sender (Start r s) = s .0

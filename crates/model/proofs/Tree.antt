@@ -1,12 +1,12 @@
 -- The tree event after event: it says OK to what each accepted event proposes or decides, that call makes the tree of the office after
 -- the event, and the tree's nodes are counted by the proposals and decisions made. Assumes nothing.
-use mathlib.Core.Path.{_≡_, refl, sym, ap, subst, _∙_}
+use mathlib.Core.Path.{_≡_, refl, ap, subst}
 use mathlib.Core.Bool.{true}
-use mathlib.Core.List.{List, [], _∷_, _++_, append-nil}
-use Prim.Native.Nat.{ℕ, suc, _+_, _<_, _≤_}
+use mathlib.Core.List.{List, [], _∷_, _++_}
+use Prim.Native.Nat.{ℕ, suc, _<_}
 use native.Mathlib.Omega.{arith}
 use lib.ListN.{length}
-use Rattle.quorum_tree.specs.Machine.{Call, add, commit, Node, fresh, step}
+use Rattle.quorum_tree.specs.Machine.{Call, add, commit, fresh, step}
 use Rattle.quorum_tree.specs.Machine.{answer as answer-call, after as after-calls}
 use Rattle.quorum_tree.specs.Properties.{Properties, InRange, adds-in}
 use Rattle.quorum_tree.proofs.Rebuilt.{length-added}
@@ -82,5 +82,7 @@ module _ (z : Sizes) (es : List Event) (ok : allowed (z .n) ≡ true) (rows : 0 
   pub committed-counted : committed-nodes (tree z (ended z es)) ≡ suc (decisions (ended z es .made))
   unfolding committed-nodes
   committed-counted =
-      rw (committed-count true (z .table) fresh (calls (ended z es .made)) rows (told-grown true (z .table) [] fresh (told-fresh true (z .table))) (all-ok z es ok rows),
-      commits-in-calls (ended z es .made)) (omega arith)
+      rw (
+        committed-count true (z .table) fresh (calls (ended z es .made)) rows (told-grown true (z .table) [] fresh (told-fresh true (z .table))) (all-ok z es ok rows),
+        commits-in-calls (ended z es .made),
+      ) (omega arith)
