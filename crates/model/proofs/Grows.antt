@@ -1,24 +1,23 @@
 -- What holds stays so as messages, proposals and offers go behind the others: of members that did not take the step, and of the whole.
 -- `keep` asks of an accepted step only what is new. Assumes nothing.
-use mathlib.Core.Path.{_≡_, refl, sym, _∙_, ap}
-use mathlib.Core.Bool.{Bool, true}
-use mathlib.Core.List.{List, [], _∷_, _++_, append-nil, List·Memᴰ·append-cases, Memᴰ·append-left}
+use mathlib.Core.Path.{_≡_, refl, sym, _∙_}
+use mathlib.Core.Bool.{Bool}
+use mathlib.Core.List.{List, [], _++_, append-nil, List·Memᴰ·append-cases, Memᴰ·append-left}
 use mathlib.Core.Logic.{_≢_, ⊎-elim}
 use Prim.Native.Nat.{ℕ, _<_, _≤_, _%_}
 use native.Mathlib.Omega.{arith}
-use lib.ListN.{length, set}
+use lib.ListN.{set}
 use Rattle.laws.specs.Lists.{_∈_}
 use Rattle.laws.specs.Elements.{set-each}
 use Rattle.quorum.proofs.Meet.{wider}
 use Rattle.message.specs.declared.Message.{Message}
 use Rattle.message.specs.declared.Message.the-variants.{Start, Join, JoinVoted, Propose, Vote}
-use Rattle.member.specs.declared.MemberState.{MemberState}
 use Rattle.member.specs.Record.{fresh}
 use Rattle.member.specs.Table.{Outcome, Named, nothing, proposal, decision}
 use Rattle.model.specs.Model.{Sizes, Office, member-number, member-at, made-by}
 use Rattle.model.proofs.Senders.{sender}
-use Rattle.model.proofs.Kept.{KeptMember, KeptOffice, own-round}
-use Rattle.model.proofs.Invariant.{JoinOf, carried, Joined, Voted, Added, Reached, Spoken, Leading, Stands, FromLeader, Backed, MadeSo, Invariant}
+use Rattle.model.proofs.Kept.{KeptOffice, own-round}
+use Rattle.model.proofs.Invariant.{JoinOf, Joined, Added, Reached, Spoken, Leading, Stands, FromLeader, Backed, MadeSo, Invariant}
 
 abbrev pub round-named : Named → ℕ
 round-named nothing = 0
@@ -52,6 +51,13 @@ join-sender r₁ s₁ (Join r s) h = h .1
 join-sender r₁ s₁ (JoinVoted r s q w) h = h .1
 join-sender r₁ s₁ (Propose r s v) h = absurd h
 join-sender r₁ s₁ (Vote r s) h = absurd h
+
+pub join-reached : (r t j v l : ℕ) (g : Message) → JoinOf r t g → Reached j v l g → r ≤ j
+join-reached r t j v l (Start r₁ s) o h = absurd o
+join-reached r t j v l (Join r₁ s) o h = omega (arith, o .0)
+join-reached r t j v l (JoinVoted r₁ s q w) o h = omega (arith, o .0)
+join-reached r t j v l (Propose r₁ s x) o h = absurd o
+join-reached r t j v l (Vote r₁ s) o h = absurd o
 
 -- a member other than the sender said nothing new
 pub spoken-other : {sent : List Message} {t j v l : ℕ} (gs : List Message) → ((g : Message) → g ∈ gs → sender g ≢ t) → Spoken sent t j v l → Spoken (sent ++ gs) t j v l

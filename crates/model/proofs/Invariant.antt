@@ -11,7 +11,7 @@ use Rattle.message.specs.declared.Message.{Message}
 use Rattle.message.specs.declared.Message.the-variants.{Start, Join, JoinVoted, Propose, Vote}
 use Rattle.member.specs.declared.MemberState.{MemberState}
 use Rattle.member.specs.Record.{flag, round}
-use Rattle.member.specs.Table.{Named, nothing, proposal, decision}
+use Rattle.member.specs.Table.{Named, proposal, decision}
 use Rattle.model.specs.Model.{Sizes, Office, member-number, member-at, proposals}
 use Rattle.model.specs.Demand.{calls}
 use Rattle.model.proofs.Senders.{sender}

@@ -2,13 +2,13 @@
 -- message sent is in range, its sender is a member, and the messages fit the store. So each step of the model is the step of a sound
 -- record at a message within its ranges, and 17 and 16 never occur. Assumes nothing.
 use mathlib.Core.Path.{_≡_, refl, sym, ap, _∙_, subst}
-use mathlib.Core.Bool.{Bool, true, false, cond, _&&_, _||_, not}
-use mathlib.Core.List.{List, [], _∷_, _++_, List·Memᴰ·append-cases}
-use mathlib.Core.Logic.{_≢_, ⊎-elim}
+use mathlib.Core.Bool.{true, false, _&&_, _||_}
+use mathlib.Core.List.{List, [], _∷_, List·Memᴰ·append-cases}
+use mathlib.Core.Logic.{⊎-elim}
 use Prim.Native.Nat.{ℕ, zero, suc, _+_, _<_, _≤_, _%_}
 use native.Mathlib.Omega.{arith}
-use lib.ListN.{length, getD, set, length-set, length-append}
-use lib.Dec.{ltb, leb, eqb}
+use lib.ListN.{length, getD, length-set, length-append}
+use lib.Dec.{leb, eqb}
 use borrow.Author.Tests.{not-true, lt-ltb}
 use Rattle.laws.specs.Tests.{tests, by-test, clash, or-left, or-right, or-none, and-left, and-cases, and-intro}
 use Rattle.laws.specs.Lists.{_∈_}
@@ -18,12 +18,12 @@ use Rattle.ids.specs.Ranges.{above-range, out-of-range}
 use Rattle.message.specs.declared.Message.{Message}
 use Rattle.message.specs.Fields.{in-range}
 use Rattle.member.specs.declared.MemberState.{MemberState}
-use Rattle.member.specs.Record.{allowed, fresh, sound, sound-number}
-use Rattle.member.specs.Table.{Outcome, Named, step, sound-step, fitting, causes, row, refused}
+use Rattle.member.specs.Record.{allowed, fresh, sound}
+use Rattle.member.specs.Table.{sound-step, fitting, causes, row}
 use Rattle.member.specs.Kept.{Kept}
 use Rattle.member.proofs.Sound.{Sound, parts, votes, leading-parts, Leading as MemberLeads}
 use Rattle.member.proofs.Keeping.{step-kept, fresh-sound, step-of-sound}
-use Rattle.model.specs.Model.{Sizes, Event, start, deliver, Office, member-number, fresh-members, first-office, member-at, message-at, at-member, unsent, event-of, outcome, sends-one, proposes-one, proposals, event-causes, answer, taken, next, after}
+use Rattle.model.specs.Model.{Sizes, Event, start, deliver, Office, member-number, fresh-members, first-office, member-at, message-at, at-member, unsent, event-of, outcome, sends-one, proposes-one, proposals, answer, taken, next, after}
 use Rattle.model.proofs.Senders.{sender, Own, own-step}
 
 pub record KeptMember (z : Sizes) (t : ℕ) (m : MemberState) : Type 0 where
@@ -181,11 +181,15 @@ fresh-at n k zero i x h = absurd (omega arith)
 fresh-at n k (suc d) zero x h = let e : k + 0 ≡ k = omega arith in rw e refl
 fresh-at n k (suc d) (suc i) x h = let e : k + suc i ≡ suc k + i = omega arith in rw e (fresh-at n (suc k) d i x (omega arith))
 
+pub first-member : (z : Sizes) (t : ℕ) → t < z .n → member-at z (first-office (z .n)) t ≡ fresh (member-number t) (z .n)
+unfolding first-office
+first-member z t l = let e : 0 + t ≡ t = omega arith in rw (fresh-at (z .n) 0 (z .n) t (fresh (member-number t) (z .n)) l, e) refl
+
 pub first-kept : (z : Sizes) → allowed (z .n) ≡ true → KeptOffice z (first-office (z .n))
 unfolding first-office
 first-kept z h = record {
   count = length-fresh (z .n) 0 (z .n);
-  each = λ t l. let e : 0 + t ≡ t = omega arith in rw (fresh-at (z .n) 0 (z .n) t (fresh (member-number t) (z .n)) l, e) (fresh-kept t l);
+  each = λ t l. rw (first-member z t l) (fresh-kept t l);
   ranged = λ g i. elim i [ ];
   senders = λ g i. elim i [ ];
   fits = omega arith;

@@ -1,19 +1,19 @@
 -- A proposal or a decision more. Where a join quorum and a vote quorum meet, a member voted for c and joined r with a vote at most b, so
 -- the edge (r, b) doesn't cross c: the four properties stay. Assumes nothing.
-use mathlib.Core.Path.{_≡_, refl, sym, subst, _∙_}
+use mathlib.Core.Path.{_≡_, refl}
 use mathlib.Core.Bool.{true, false}
 use mathlib.Core.List.{List, [], _∷_, _++_, Memᴰ·append-left}
 use Prim.Native.Nat.{ℕ, suc, _+_, _*_, _<_, _≤_}
 use native.Mathlib.Omega.{arith}
 use lib.Dec.{ltb, eqb}
 use Rattle.laws.specs.Tests.{tests, by-test, impossible, or-cases, and-left, and-right}
-use Rattle.laws.specs.Lists.{_∈_, by-last, in-last, every-snoc, none-any}
+use Rattle.laws.specs.Lists.{_∈_, by-last, every-snoc, none-any}
 use Rattle.ids.specs.Ranges.{out-of-range}
-use Rattle.quorum.specs.Quorum.{Quorum, quorum}
+use Rattle.quorum.specs.Quorum.{Quorum}
 use Rattle.quorum.proofs.Meet.{wider, both, of-odd}
 use Rattle.quorum_tree.specs.Machine.{Call, add, commit, crosses}
-use Rattle.quorum_tree.specs.Properties.{Properties, InRange, round-of, adds, commits, edge-crosses}
-use Rattle.quorum_tree.proofs.Calls.{Next, grow, adds-elim, adds-intro, adds-with-intro}
+use Rattle.quorum_tree.specs.Properties.{round-of, adds, commits, edge-crosses}
+use Rattle.quorum_tree.proofs.Calls.{Next, grow, adds-intro, adds-with-intro}
 use Rattle.message.specs.declared.Message.{Message}
 use Rattle.member.specs.Record.{allowed}
 use Rattle.member.specs.Table.{Named, proposal, decision}

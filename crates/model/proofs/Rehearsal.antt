@@ -4,8 +4,8 @@ use mathlib.Core.Path.{_≡_, refl}
 use mathlib.Core.List.{List, [], _∷_}
 use Prim.Native.Nat.{ℕ}
 use Rattle.quorum.specs.Count.{some}
-use Rattle.quorum_tree.specs.Machine.{Call, add, commit}
-use Rattle.model.specs.Model.{Sizes, Event, start, deliver, Office, first-office, after, answers, offered}
+use Rattle.quorum_tree.specs.Machine.{add, commit}
+use Rattle.model.specs.Model.{Sizes, Event, start, deliver, first-office, after, answers, offered}
 use Rattle.model.specs.Demand.{calls, ended}
 
 abbrev sizes : ℕ → ℕ → Sizes
@@ -39,10 +39,15 @@ record Numbers : Type 0 where
   -- the store is full: a step that sends is refused, one that doesn't is not; the refused START leaves the member as it was
   full : answered (sizes 3 9) (start 1 1 5 ∷ deliver 0 0 ∷ deliver 0 2 ∷ deliver 0 1 ∷ deliver 0 1 ∷ deliver 1 1 ∷ deliver 2 1 ∷ []) ≡
       0 ∷ 0 ∷ 0 ∷ 30 ∷ 30 ∷ 0 ∷ 30 ∷ []
-  -- no row beside the root: a step that proposes is refused with 9, after 30
+  -- no row beside the root: a step that proposes is refused with 9
   rowless : answered (sizes 9 1) (start 1 1 5 ∷ deliver 0 0 ∷ deliver 0 1 ∷ deliver 1 1 ∷ deliver 2 1 ∷ []) ≡ 0 ∷ 0 ∷ 0 ∷ 0 ∷ 9 ∷ []
+  -- one row beside the root: the first proposal takes it
+  last-row : answered (sizes 9 2) (start 1 1 5 ∷ deliver 0 0 ∷ deliver 0 1 ∷ deliver 1 1 ∷ deliver 2 1 ∷ []) ≡ 0 ∷ 0 ∷ 0 ∷ 0 ∷ 0 ∷ []
+  -- 30 before 9
   both : answered (sizes 3 1) (start 1 1 5 ∷ deliver 0 0 ∷ deliver 0 1 ∷ deliver 1 1 ∷ deliver 2 1 ∷ []) ≡ 0 ∷ 0 ∷ 0 ∷ 0 ∷ 30 ∷ []
+  -- the offer of a refused start isn't offered
+  offers : offered (sizes 9 9) (first-office 3) (start 1 2 5 ∷ start 1 1 6 ∷ start 1 1 7 ∷ []) ≡ 6 ∷ []
 
 numbers : Numbers
-unfolding answers first-office some
-numbers = record { starts = refl; absent = refl; late = refl; full = refl; rowless = refl; both = refl }
+unfolding answers offered first-office some
+numbers = record { starts = refl; absent = refl; late = refl; full = refl; rowless = refl; last-row = refl; both = refl; offers = refl }

@@ -2,7 +2,7 @@
 -- most, has its own number as sender. Row by row. Assumes nothing.
 use mathlib.Core.Path.{_≡_, refl}
 use mathlib.Core.Bool.{Bool, true, false, cond}
-use mathlib.Core.List.{List, [], _∷_, List·Memᴰ·eq-of-singleton}
+use mathlib.Core.List.{[], _∷_, List·Memᴰ·eq-of-singleton}
 use Prim.Native.Nat.{ℕ, _≤_}
 use native.Mathlib.Omega.{arith}
 use lib.ListN.{length}
@@ -14,7 +14,7 @@ use Rattle.ids.specs.declared.Member.{Member}
 use Rattle.message.specs.declared.Message.{Message}
 use Rattle.message.specs.declared.Message.the-variants.{Start, Join, JoinVoted, Propose, Vote}
 use Rattle.member.specs.declared.MemberState.{MemberState}
-use Rattle.member.specs.Table.{Outcome, refused, silent, counting, complete, adopting, adopted, proposes, decides, Event, start, deliver, join-of, joining, causes, row, unfit, sound-step, step}
+use Rattle.member.specs.Table.{Outcome, refused, silent, counting, complete, adopting, adopted, proposes, decides, Event, start, deliver, join-of, causes, row, unfit, sound-step, step}
 
 abbrev pub sender : Message → ℕ
 sender (Start r s) = s .0
@@ -37,8 +37,9 @@ either m false u v p q = q
 own-refused : (m : MemberState) (k : ℕ) → Own m (refused k m)
 own-refused m k = record { number = refl; size = refl; from = λ g i. elim i [ ]; one = omega arith }
 
-one-from : (s : ℕ) (x : Message) → sender x ≡ s → (g : Message) → g ∈ x ∷ [] → sender g ≡ s
-one-from s x h g i = rw (List·Memᴰ·eq-of-singleton i) h
+-- what holds of the one message sent
+pub only : (P : Message → Type 0) (x : Message) → P x → (g : Message) → g ∈ x ∷ [] → P g
+only P x h g i = rw (List·Memᴰ·eq-of-singleton i) h
 
 own-join : (m : MemberState) (r : Round) → sender (join-of m r) ≡ m .me .0
 own-join m r = pick (ltb 0 (m .voted .0))
@@ -55,7 +56,7 @@ own-JOIN : (m k : MemberState) (r : Round) (s : Member) → k .me ≡ m .me → 
     Own m (cond (complete (counting k s)) (proposes (counting k s) r) (silent (counting k s)))
 own-JOIN m k r s p q =
     own-counted m k s (proposes (counting k s) r) p q
-    (record { number = p; size = q; from = one-from (m .me .0) (Propose r (k .me) (k .value)) (rw p refl); one = omega arith })
+    (record { number = p; size = q; from = only (λ g. sender g ≡ m .me .0) (Propose r (k .me) (k .value)) (rw p refl); one = omega arith })
 
 own-adopting : (m : MemberState) (b : Bool) (q : Round) (w : ℕ) → (cond b (adopted m q w) m .me ≡ m .me) × (cond b (adopted m q w) m .n ≡ m .n)
 own-adopting m true q w = (refl, refl)
@@ -63,12 +64,12 @@ own-adopting m false q w = (refl, refl)
 
 pub own-row : (m : MemberState) (e : Event) → Own m (row m e)
 unfolding row
-own-row m (start r offer) = record { number = refl; size = refl; from = one-from (m .me .0) (Start r (m .me)) refl; one = omega arith }
-own-row m (deliver (Start r s)) = record { number = refl; size = refl; from = one-from (m .me .0) (join-of m r) (own-join m r); one = omega arith }
+own-row m (start r offer) = record { number = refl; size = refl; from = only (λ g. sender g ≡ m .me .0) (Start r (m .me)) refl; one = omega arith }
+own-row m (deliver (Start r s)) = record { number = refl; size = refl; from = only (λ g. sender g ≡ m .me .0) (join-of m r) (own-join m r); one = omega arith }
 own-row m (deliver (Join r s)) = own-JOIN m m r s refl refl
 own-row m (deliver (JoinVoted r s q w)) =
     let (p, c) = own-adopting m (ltb (m .source .0) (q .0)) q w in own-JOIN m (adopting m q w) r s p c
-own-row m (deliver (Propose r s v)) = record { number = refl; size = refl; from = one-from (m .me .0) (Vote r (m .me)) refl; one = omega arith }
+own-row m (deliver (Propose r s v)) = record { number = refl; size = refl; from = only (λ g. sender g ≡ m .me .0) (Vote r (m .me)) refl; one = omega arith }
 own-row m (deliver (Vote r s)) =
     own-counted m m s (decides (counting m s) r) refl refl (record { number = refl; size = refl; from = λ g i. elim i [ ]; one = omega arith })
 

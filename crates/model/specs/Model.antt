@@ -5,7 +5,6 @@ use Prim.Native.Nat.{ℕ, zero, suc}
 use lib.ListN.{length, getD, set}
 use lib.Dec.{leb, eqb}
 use Rattle.laws.specs.First.{Cause, _gives_, first}
-use Rattle.ids.specs.declared.Round.{Round}
 use Rattle.ids.specs.declared.Member.{Member}
 use Rattle.message.specs.declared.Message.{Message}
 use Rattle.message.specs.declared.Message.the-variants.{Start}
@@ -111,10 +110,11 @@ made-by (decision r x) = decision r x ∷ []
 unfoldable pub taken : Sizes → Office → Event → Office
 unfolding outcome
 taken z o e =
-    record
-      { members = set (o .members) (at-member e) (outcome z o e .state);
-        sent = o .sent ++ outcome z o e .sent;
-        made = o .made ++ made-by (outcome z o e .named) }
+    record {
+      members = set (o .members) (at-member e) (outcome z o e .state);
+      sent = o .sent ++ outcome z o e .sent;
+      made = o .made ++ made-by (outcome z o e .named);
+    }
 
 -- a refused event changes nothing
 unfoldable pub next : Sizes → Office → Event → Office
