@@ -7,3 +7,4 @@ pub mod Answers
 pub mod Conjunction
 pub mod Elements
 pub mod Numbers
+pub mod Zeros
