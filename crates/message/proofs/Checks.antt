@@ -28,13 +28,20 @@ module _ (s : List ℕ) where
   unfolding size
   size-other j p = rw (ne-eqb (kind s) 2 j, ne-eqb (kind s) 3 p)
 
+  -- what holds of the four lengths holds of the size
+  size-has : (P : ℕ → Type 0) → P 28 → P 16 → P 20 → P 12 → P (size s)
+  unfolding size
+  size-has P voted join propose other =
+      by-test (is-join s)
+      (λ j. by-test (eqb (presence s) 1) (λ p. rw (j, p) voted) (λ p. rw (j, p) join))
+      (λ j. by-test (eqb (kind s) 3) (λ p. rw (j, p) propose) (λ p. rw (j, p) other))
+
   -- any message has its first three words, and a JOIN has its presence
   pub size-least : 12 ≤ size s
-  unfolding size
-  size-least =
-      by-test (is-join s)
-      (λ j. by-test (eqb (presence s) 1) (λ p. rw (j, p) (omega arith)) (λ p. rw (j, p) (omega arith)))
-      (λ j. by-test (eqb (kind s) 3) (λ p. rw (j, p) (omega arith)) (λ p. rw (j, p) (omega arith)))
+  size-least = size-has (λ (n : ℕ). 12 ≤ n) (omega arith) (omega arith) (omega arith) (omega arith)
+
+  pub size-most : size s ≤ 28
+  size-most = size-has (λ (n : ℕ). n ≤ 28) (omega arith) (omega arith) (omega arith) (omega arith)
 
   pub size-join-least : kind s ≡ 2 → 16 ≤ size s
   unfolding size

@@ -224,6 +224,11 @@ pub in-range-written : (m : Message) (old : List ℕ) → 28 ≤ length old → 
 unfolding written
 in-range-written m old l h = simp (le-ltb (length old) 28 l, h, length-bytes m)
 
+-- and leaves itself at the front of it
+pub left-in-front : (m : Message) (old : List ℕ) → 28 ≤ length old → in-range m ≡ true → left m old ≡ in-front m old
+unfolding left
+left-in-front m old l h = simp (le-ltb (length old) 28 l, h)
+
 answer-sent : (k : ℕ) (m : Message) (n : ℕ) → answer-of k m ≡ Sent n → (k ≡ 0) × (length (bytes m) ≡ n)
 answer-sent k m n h =
     by-test (eqb k 0)
