@@ -21,6 +21,13 @@ count-least (JoinVoted r s q w) = lit≤ tt
 count-least (Propose r s v) = lit≤ tt
 count-least (Vote r s) = lit≤ tt
 
+count-most : (m : Message) → byte-count m ≤ 28
+count-most (Start r s) = lit≤ tt
+count-most (Join r s) = lit≤ tt
+count-most (JoinVoted r s q w) = lit≤ tt
+count-most (Propose r s v) = lit≤ tt
+count-most (Vote r s) = lit≤ tt
+
 module _ (s : List ℕ) where
   pub decoded-start : kind s ≡ 1 → decoded s ≡ Start (round s) (sender s)
   unfolding decoded
@@ -63,6 +70,10 @@ module _ (s : List ℕ) where
   pub size-least : 12 ≤ size s
   unfolding size
   size-least = count-least (decoded s)
+
+  pub size-most : size s ≤ 28
+  unfolding size
+  size-most = count-most (decoded s)
 
   pub size-join-least : kind s ≡ 2 → 16 ≤ size s
   unfolding size decoded

@@ -222,6 +222,11 @@ pub in-range-written : (m : Message) (old : List ℕ) → 28 ≤ length old → 
 unfolding written
 in-range-written m old l h = simp (le-ltb (length old) 28 l, h, length-bytes m)
 
+-- and leaves itself at the front of it
+pub left-in-front : (m : Message) (old : List ℕ) → 28 ≤ length old → in-range m ≡ true → buffer-after m old ≡ in-front m old
+unfolding buffer-after
+left-in-front m old l h = simp (le-ltb (length old) 28 l, h)
+
 -- a message that the writer took stands at the front of the buffer, is in range, and reads back
 pub written-reads-back : (m : Message) (old : List ℕ) (n : ℕ) → Held m → written m old ≡ Sent n → (in-range m ≡ true) × (read (take n (buffer-after m old)) ≡ Got m)
 unfolding written buffer-after in-front
