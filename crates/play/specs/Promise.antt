@@ -34,14 +34,14 @@ sizes-of list store ws = record { n = members-of list; store = length store / 28
 -- how many are zero
 unfoldable pub zeros : List ℕ → ℕ
 zeros [] = 0
-zeros (a ∷ as) = cond (eqb a 0) (suc (zeros as)) (zeros as)
+zeros (a ∷ rest) = cond (eqb a 0) (suc (zeros rest)) (zeros rest)
 
 -- how many nodes are COMMITTED
 unfoldable pub committed-nodes : List Node → ℕ
 committed-nodes [] = 0
 committed-nodes (n ∷ ns) = cond (eqb (n .status) COMMITTED) (suc (committed-nodes ns)) (committed-nodes ns)
 
--- A list that play takes. `as` are the answer bytes after it, `store′` and `ws′` store and table after it.
+-- A list that play takes. `answered′`, `store′` and `ws′` are the answer bytes, the store and the table after it.
 pub record Played (list store ws answered : List ℕ) (accepted messages proposals decisions : ℕ) (store′ ws′ answered′ : List ℕ) : Type 0 where
   -- one answer byte per event, as the model answers; bytes past the count stay
   pub answers-are : answered′ ≡ answers (sizes-of list store ws) (first-office (members-of list)) (events-of list) ++ drop (count-of list) answered
