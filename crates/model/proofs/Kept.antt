@@ -24,6 +24,7 @@ use Rattle.member.specs.Kept.{Kept}
 use Rattle.member.proofs.Sound.{Sound, parts, votes, leading-parts, Leading as MemberLeads}
 use Rattle.member.proofs.Keeping.{step-kept, fresh-sound, step-of-sound}
 use Rattle.model.specs.Model.{Sizes, Event, start, deliver, Office, member-number, fresh-members, first-office, member-at, message-at, at-member, unsent, event-of, outcome, absent, no-store-row, no-table-row, sends-one, proposes-one, proposals, answer, taken, next, after}
+use Rattle.model.specs.Demand.{ended}
 use Rattle.model.proofs.Senders.{sender, Own, own-step}
 
 pub record KeptMember (z : Sizes) (t : ℕ) (m : MemberState) : Type 0 where
@@ -203,8 +204,11 @@ first-kept z h = record {
       size = refl;
     }
 
--- after any list of events
+-- from there on, after any list of events
 pub all-kept : (z : Sizes) (o : Office) (es : List Event) → KeptOffice z o → KeptOffice z (after z o es)
 unfolding after
 all-kept z o [] K = K
 all-kept z o (e ∷ es) K = all-kept z (next z o e) es (next-kept z o K e)
+
+pub ended-kept : (z : Sizes) (es : List Event) → allowed (z .n) ≡ true → KeptOffice z (ended z es)
+ended-kept z es ok = all-kept z (first-office (z .n)) es (first-kept z ok)

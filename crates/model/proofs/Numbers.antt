@@ -26,7 +26,7 @@ use Rattle.model.specs.Model.{Sizes, Event, start, deliver, Office, firs
 use Rattle.model.specs.Demand.{calls, ended}
 use Rattle.model.specs.Counts.{tree}
 use Rattle.model.proofs.Made.{proposal-call}
-use Rattle.model.proofs.Kept.{KeptMember, KeptOffice, message-in, step-is-sound, first-kept, all-kept}
+use Rattle.model.proofs.Kept.{KeptMember, KeptOffice, message-in, step-is-sound, ended-kept}
 use Rattle.model.proofs.Invariant.{Added, Stands, Invariant}
 use Rattle.model.proofs.Events.{holds}
 use Rattle.model.proofs.Tree.{nodes-counted}
@@ -180,16 +180,13 @@ module _ (z : Sizes) (o : Office) (offers : List ℕ) (K : KeptOffice z o) (I : 
       (λ d. absurd (omega (arith, rw (c, d) at q))))
 
 module _ (z : Sizes) (es : List Event) (e : Event) (ok : allowed (z .n) ≡ true) where
-  kept : KeptOffice z (ended z es)
-  kept = all-kept z (first-office (z .n)) es (first-kept z ok)
-
   -- an event after any list gets one of these numbers
   pub numbers : answer z (ended z es) e ∈ event-numbers
-  numbers = answer-numbers z (ended z es) (offered z (first-office (z .n)) es) kept (holds z ok es) e
+  numbers = answer-numbers z (ended z es) (offered z (first-office (z .n)) es) (ended-kept z es ok) (holds z ok es) e
 
   -- 30 only where no store row is free, and 9 only where no table row is
   pub store-full : answer z (ended z es) e ≡ 30 → length (ended z es .sent) ≡ z .store
-  store-full = thirty-full z (ended z es) (offered z (first-office (z .n)) es) kept (holds z ok es) e
+  store-full = thirty-full z (ended z es) (offered z (first-office (z .n)) es) (ended-kept z es ok) (holds z ok es) e
 
   pub table-full : 0 < z .table → answer z (ended z es) e ≡ 9 → length (tree z (ended z es)) ≡ z .table
   table-full rows h =
@@ -197,5 +194,5 @@ module _ (z : Sizes) (es : List Event) (e : Event) (ok : allowed (z .n) ≡ true
         arith,
         nodes-counted z es ok rows,
         holds z ok es .made-so .room rows,
-        nine-full z (ended z es) (offered z (first-office (z .n)) es) kept (holds z ok es) e h,
+        nine-full z (ended z es) (offered z (first-office (z .n)) es) (ended-kept z es ok) (holds z ok es) e h,
       )
