@@ -31,17 +31,17 @@ module _ (z : Sizes) (es : List Event) (ok : allowed (z .n) ≡ true) where
   four = made-holds .properties
 
   -- their rounds are in range
-  pub in-range : InRange (calls (ended z es .made))
-  in-range = made-holds .ranged
+  pub rounds-in-range : InRange (calls (ended z es .made))
+  rounds-in-range = made-holds .ranged
 
   module _ (rows : 0 < z .table) where
     -- there is a row for each add beside the root
-    pub fits : adds-in (calls (ended z es .made)) < z .table
-    fits = rw (adds-in-calls (ended z es .made)) (made-holds .room rows)
+    pub adds-fit : adds-in (calls (ended z es .made)) < z .table
+    adds-fit = rw (adds-in-calls (ended z es .made)) (made-holds .room rows)
 
     -- so the tree says OK to each call
     pub all-ok : AllOk true (z .table) (calls (ended z es .made))
-    all-ok = ok-exactly true (z .table) (calls (ended z es .made)) in-range fits .1 four
+    all-ok = ok-exactly true (z .table) (calls (ended z es .made)) rounds-in-range adds-fit .1 four
 
     -- and the tree that they leave is told by them
     pub tree-told : Told true (z .table) (calls (ended z es .made)) (after true (z .table) fresh (calls (ended z es .made)))

@@ -1,6 +1,6 @@
 -- The invariant holds after any list of events: of the first office, and every event keeps it. Assumes nothing.
-use mathlib.Core.Path.{_≡_, refl, ap, subst}
-use mathlib.Core.Bool.{true, false, cond, not}
+use mathlib.Core.Path.{_≡_, refl, sym, ap, subst}
+use mathlib.Core.Bool.{true, false, not}
 use mathlib.Core.List.{List, [], _∷_, _++_, append-nil, append-assoc}
 use Prim.Native.Nat.{ℕ, suc, _+_, _<_, _≤_}
 use native.Mathlib.Omega.{arith}
@@ -19,7 +19,7 @@ use Rattle.member.specs.declared.MemberState.{MemberState}
 use Rattle.member.specs.Record.{allowed, fresh, round}
 use Rattle.member.specs.Table.{START-causes, start-causes, count-causes, PROPOSE-causes, awaits, adopted, adopting, JOIN-row, causes, row}
 use Rattle.member.specs.Table.{deliver as delivers}
-use Rattle.model.specs.Model.{Sizes, Event, start, deliver, Office, member-number, first-office, member-at, message-at, at-member, outcome, proposes-one, proposals, answer, next, after, offer-of, offered}
+use Rattle.model.specs.Model.{Sizes, Event, start, deliver, Office, member-number, first-office, member-at, message-at, at-member, outcome, proposes-one, proposals, answer, next, after, offer-of, offers-at, offered}
 use Rattle.model.specs.Demand.{calls, ended}
 use Rattle.model.proofs.Kept.{KeptMember, KeptOffice, Accepted, accepted, message-in, accepted-row, sent-by, next-kept, first-member, first-kept}
 use Rattle.model.proofs.Invariant.{join-quorum, vote-quorum, JoinOf, carried, Joined, Stands, Invariant}
@@ -114,20 +114,20 @@ module _ (z : Sizes) (ok : allowed (z .n) ≡ true) where
         rw same (message-new z o offers I (allowed-meets (z .n) ok) k m (K .each k (a .member)) (I .members k (a .member)) (message-at o j) i
         (K .ranged (message-at o j) i) c (rw same at (a .room)))
 
-    pub next-holds : (e : Event) → Invariant z (next z o e) (offers ++ cond (eqb (answer z o e) 0) (offer-of e) [])
+    pub next-holds : (e : Event) → Invariant z (next z o e) (offers ++ offers-at z o e)
     unfolding next
     next-holds e =
         by-test (eqb (answer z o e) 0)
         (λ t. let a : Accepted z o e = accepted z o e (omega tests) in
         rw t (keep z o offers (at-member e) (outcome z o e) (offer-of e) K I (a .member) (sent-by z o K e a) (event-new e a)))
-        (λ t. rw (t, append-nil offers) I)
+        (λ t. rw t (subst (Invariant z o) (sym (append-nil offers)) I))
 
   pub all-hold : (o : Office) (offers : List ℕ) (es : List Event) → KeptOffice z o → Invariant z o offers → Invariant z (after z o es) (offers ++ offered z o es)
   unfolding after offered
   all-hold o offers [] K I = rw (append-nil offers) I
   all-hold o offers (e ∷ es) K I =
-      rw (← append-assoc offers (cond (eqb (answer z o e) 0) (offer-of e) []) (offered z (next z o e) es))
-      (all-hold (next z o e) (offers ++ cond (eqb (answer z o e) 0) (offer-of e) []) es (next-kept z o K e) (next-holds o offers K I e))
+      rw (← append-assoc offers (offers-at z o e) (offered z (next z o e) es))
+      (all-hold (next z o e) (offers ++ offers-at z o e) es (next-kept z o K e) (next-holds o offers K I e))
 
   first-holds : Invariant z (first-office (z .n)) []
   unfolding calls proposals first-office

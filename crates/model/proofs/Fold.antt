@@ -8,7 +8,7 @@ use lib.ListN.{length}
 use lib.Dec.{eqb}
 use borrow.Author.Tests.{eq-eqb}
 use Rattle.laws.specs.Tests.{by-test}
-use Rattle.model.specs.Model.{Sizes, Event, Office, answer, taken, next, after, answers, offer-of, offered}
+use Rattle.model.specs.Model.{Sizes, Event, Office, answer, taken, next, after, answers, offers-at, offered}
 use Rattle.model.specs.Counts.{zeros, accepted-events}
 
 module _ (z : Sizes) where
@@ -42,8 +42,8 @@ module _ (z : Sizes) where
   unfolding offered after
   offered-append o [] fs = refl
   offered-append o (e ∷ es) fs =
-      ap (λ l. cond (eqb (answer z o e) 0) (offer-of e) [] ++ l) (offered-append (next z o e) es fs) ∙
-      sym (append-assoc (cond (eqb (answer z o e) 0) (offer-of e) []) (offered z (next z o e) es) (offered z (after z (next z o e) es) fs))
+      ap (λ l. offers-at z o e ++ l) (offered-append (next z o e) es fs) ∙
+      sym (append-assoc (offers-at z o e) (offered z (next z o e) es) (offered z (after z (next z o e) es) fs))
 
   -- one answer for each event
   pub length-answers : (o : Office) (es : List Event) → length (answers z o es) ≡ length es

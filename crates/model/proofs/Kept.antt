@@ -2,7 +2,7 @@
 -- message sent is in range, its sender is a member, and the messages fit the store. So each step of the model is the step of a sound
 -- record at a message within its ranges, and 17 and 16 never occur. Assumes nothing.
 use mathlib.Core.Path.{_≡_, refl, sym, ap, _∙_, subst}
-use mathlib.Core.Bool.{true, false, _&&_, _||_}
+use mathlib.Core.Bool.{true, false}
 use mathlib.Core.List.{List, [], _∷_, List·Memᴰ·append-cases}
 use mathlib.Core.Logic.{⊎-elim}
 use Prim.Native.Nat.{ℕ, zero, suc, _+_, _<_, _≤_, _%_}
@@ -23,7 +23,8 @@ use Rattle.member.specs.Table.{sound-step, fitting, causes, row}
 use Rattle.member.specs.Kept.{Kept}
 use Rattle.member.proofs.Sound.{Sound, parts, votes, leading-parts, Leading as MemberLeads}
 use Rattle.member.proofs.Keeping.{step-kept, fresh-sound, step-of-sound}
-use Rattle.model.specs.Model.{Sizes, Event, start, deliver, Office, member-number, fresh-members, first-office, member-at, message-at, at-member, unsent, event-of, outcome, sends-one, proposes-one, proposals, answer, taken, next, after}
+use Rattle.model.specs.Model.{Sizes, Event, start, deliver, Office, member-number, fresh-members, first-office, member-at, message-at, at-member, unsent, event-of, outcome, absent, no-store-row, no-table-row, sends-one, proposes-one, proposals, answer, taken, next, after}
+use Rattle.model.specs.Demand.{ended}
 use Rattle.model.proofs.Senders.{sender, Own, own-step}
 
 pub record KeptMember (z : Sizes) (t : ℕ) (m : MemberState) : Type 0 where
@@ -79,12 +80,12 @@ pub record Accepted (z : Sizes) (o : Office) (e : Event) : Type 0 where
 pub accepted : (z : Sizes) (o : Office) (e : Event) → answer z o e ≡ 0 → Accepted z o e
 unfolding answer
 accepted z o e h =
-    by-test (leb (z .n) (at-member e) || unsent o e)
+    by-test (absent z o e)
     (λ a. absurd (omega (arith, rw a at h)))
     (λ a. by-test (eqb (outcome z o e .number) 0)
-    (λ b. by-test (sends-one (outcome z o e .sent) && leb (z .store) (length (o .sent)))
+    (λ b. by-test (no-store-row z o e)
     (λ c. absurd (omega (arith, rw (a, b, c) at h)))
-    (λ c. by-test (proposes-one (outcome z o e .named) && leb (z .table) (suc (proposals (o .made))))
+    (λ c. by-test (no-table-row z o e)
     (λ d. absurd (omega (arith, rw (a, b, c, d) at h)))
     (λ d. record {
       member = omega (tests, or-left (leb (z .n) (at-member e)) (unsent o e) a);
@@ -203,8 +204,11 @@ first-kept z h = record {
       size = refl;
     }
 
--- after any list of events
+-- from there on, after any list of events
 pub all-kept : (z : Sizes) (o : Office) (es : List Event) → KeptOffice z o → KeptOffice z (after z o es)
 unfolding after
 all-kept z o [] K = K
 all-kept z o (e ∷ es) K = all-kept z (next z o e) es (next-kept z o K e)
+
+pub ended-kept : (z : Sizes) (es : List Event) → allowed (z .n) ≡ true → KeptOffice z (ended z es)
+ended-kept z es ok = all-kept z (first-office (z .n)) es (first-kept z ok)

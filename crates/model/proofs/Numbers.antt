@@ -1,7 +1,7 @@
 -- The numbers that an event of a list can get. 17 and 16 don't occur, for members are sound and messages in range; nor does 21, for STARTs
 -- and PROPOSEs come from the leaders of their rounds; nor 23, for a round is proposed with one value. Assumes nothing.
 use mathlib.Core.Path.{_≡_, refl, sym}
-use mathlib.Core.Bool.{Bool, true, false, cond, _&&_, _||_, not}
+use mathlib.Core.Bool.{Bool, true, false, cond, _&&_, not}
 use mathlib.Core.List.{List, [], _∷_, List·Memᴰ·head as here, List·Memᴰ·tail as there}
 use Prim.Native.Nat.{ℕ, suc, _<_, _≤_, _%_}
 use lib.ListN.{length}
@@ -22,11 +22,11 @@ use Rattle.member.specs.declared.MemberState.{MemberState}
 use Rattle.member.specs.Record.{allowed, leads, round}
 use Rattle.member.specs.Table.{Outcome, silent, counting, complete, adopting, proposes, decides, start-causes, START-causes, count-causes, other-vote, PROPOSE-causes, causes, row, sound-step}
 use Rattle.member.specs.Table.{Event as MemberEvent, start as starts, deliver as delivers}
-use Rattle.model.specs.Model.{Sizes, Event, start, deliver, Office, first-office, member-at, message-at, at-member, unsent, event-of, outcome, sends-one, proposes-one, proposals, answer, offered}
+use Rattle.model.specs.Model.{Sizes, Event, start, deliver, Office, first-office, member-at, message-at, at-member, unsent, event-of, outcome, absent, no-store-row, no-table-row, sends-one, proposes-one, proposals, answer, offered}
 use Rattle.model.specs.Demand.{calls, ended}
 use Rattle.model.specs.Counts.{tree}
 use Rattle.model.proofs.Made.{proposal-call}
-use Rattle.model.proofs.Kept.{KeptMember, KeptOffice, message-in, step-is-sound, first-kept, all-kept}
+use Rattle.model.proofs.Kept.{KeptMember, KeptOffice, message-in, step-is-sound, ended-kept}
 use Rattle.model.proofs.Invariant.{Added, Stands, Invariant}
 use Rattle.model.proofs.Events.{holds}
 use Rattle.model.proofs.Tree.{nodes-counted}
@@ -75,8 +75,7 @@ step-number m e =
 -- the row "last" of the place table
 abbrev last-causes : Sizes → Office → Event → List Cause
 last-causes z o e =
-    (sends-one (outcome z o e .sent) && leb (z .store) (length (o .sent))) gives 30 ∷
-    (proposes-one (outcome z o e .named) && leb (z .table) (suc (proposals (o .made)))) gives 9 ∷ []
+    no-store-row z o e gives 30 ∷ no-table-row z o e gives 9 ∷ []
 
 module _ (z : Sizes) (o : Office) (offers : List ℕ) (K : KeptOffice z o) (I : Invariant z o offers) where
   -- a message from the leader of its round
@@ -133,7 +132,7 @@ module _ (z : Sizes) (o : Office) (offers : List ℕ) (K : KeptOffice z o) (I : 
       message-numbers k (member-at z o k) (K .each k l) (I .members k l) (message-at o j) (message-in o j k h)
 
   -- the number of its member's step, where 29 isn't given
-  step-numbered : (e : Event) → (leb (z .n) (at-member e) || unsent o e) ≡ false → outcome z o e .number ∈ step-numbers
+  step-numbered : (e : Event) → absent z o e ≡ false → outcome z o e .number ∈ step-numbers
   step-numbered e h =
       let low : at-member e < z .n = omega (tests, or-left (leb (z .n) (at-member e)) (unsent o e) h) in
       let sent : unsent o e ≡ false = or-right (leb (z .n) (at-member e)) (unsent o e) h in
@@ -142,7 +141,7 @@ module _ (z : Sizes) (o : Office) (offers : List ℕ) (K : KeptOffice z o) (I : 
   pub answer-numbers : (e : Event) → answer z o e ∈ event-numbers
   unfolding answer
   answer-numbers e =
-      by-test (leb (z .n) (at-member e) || unsent o e)
+      by-test (absent z o e)
       (λ a. rw a (among 29 event-numbers refl))
       (λ a. rw a (by-test (eqb (outcome z o e .number) 0)
       (λ b. rw b (first-has (λ k. k ∈ event-numbers) (last-causes z o e) (among 0 event-numbers refl)
@@ -153,7 +152,7 @@ module _ (z : Sizes) (o : Office) (offers : List ℕ) (K : KeptOffice z o) (I : 
   last-number : (e : Event) (k : ℕ) → any (eqb k) (0 ∷ 29 ∷ step-numbers) ≡ false → answer z o e ≡ k → first (last-causes z o e) ≡ k
   unfolding answer
   last-number e k apart h =
-      by-test (leb (z .n) (at-member e) || unsent o e)
+      by-test (absent z o e)
       (λ a. let q : 29 ≡ k = rw a at h in clash (any-intro (eqb k) (0 ∷ 29 ∷ step-numbers) (there (here refl)) (eq-eqb k 29 (sym q))) apart)
       (λ a. by-test (eqb (outcome z o e .number) 0)
       (λ b. rw (a, b) at h)
@@ -164,9 +163,9 @@ module _ (z : Sizes) (o : Office) (offers : List ℕ) (K : KeptOffice z o) (I : 
   pub thirty-full : (e : Event) → answer z o e ≡ 30 → length (o .sent) ≡ z .store
   thirty-full e h =
       let q : first (last-causes z o e) ≡ 30 = last-number e 30 refl h in
-      by-test (sends-one (outcome z o e .sent) && leb (z .store) (length (o .sent)))
+      by-test (no-store-row z o e)
       (λ c. omega (tests, K .fits, and-right (sends-one (outcome z o e .sent)) (leb (z .store) (length (o .sent))) c))
-      (λ c. by-test (proposes-one (outcome z o e .named) && leb (z .table) (suc (proposals (o .made))))
+      (λ c. by-test (no-table-row z o e)
       (λ d. absurd (omega (arith, rw (c, d) at q)))
       (λ d. absurd (omega (arith, rw (c, d) at q))))
 
@@ -174,23 +173,20 @@ module _ (z : Sizes) (o : Office) (offers : List ℕ) (K : KeptOffice z o) (I : 
   pub nine-full : (e : Event) → answer z o e ≡ 9 → z .table ≤ suc (proposals (o .made))
   nine-full e h =
       let q : first (last-causes z o e) ≡ 9 = last-number e 9 refl h in
-      by-test (sends-one (outcome z o e .sent) && leb (z .store) (length (o .sent)))
+      by-test (no-store-row z o e)
       (λ c. absurd (omega (arith, rw c at q)))
-      (λ c. by-test (proposes-one (outcome z o e .named) && leb (z .table) (suc (proposals (o .made))))
+      (λ c. by-test (no-table-row z o e)
       (λ d. omega (tests, and-right (proposes-one (outcome z o e .named)) (leb (z .table) (suc (proposals (o .made)))) d))
       (λ d. absurd (omega (arith, rw (c, d) at q))))
 
 module _ (z : Sizes) (es : List Event) (e : Event) (ok : allowed (z .n) ≡ true) where
-  kept : KeptOffice z (ended z es)
-  kept = all-kept z (first-office (z .n)) es (first-kept z ok)
-
   -- an event after any list gets one of these numbers
   pub numbers : answer z (ended z es) e ∈ event-numbers
-  numbers = answer-numbers z (ended z es) (offered z (first-office (z .n)) es) kept (holds z ok es) e
+  numbers = answer-numbers z (ended z es) (offered z (first-office (z .n)) es) (ended-kept z es ok) (holds z ok es) e
 
   -- 30 only where no store row is free, and 9 only where no table row is
   pub store-full : answer z (ended z es) e ≡ 30 → length (ended z es .sent) ≡ z .store
-  store-full = thirty-full z (ended z es) (offered z (first-office (z .n)) es) kept (holds z ok es) e
+  store-full = thirty-full z (ended z es) (offered z (first-office (z .n)) es) (ended-kept z es ok) (holds z ok es) e
 
   pub table-full : 0 < z .table → answer z (ended z es) e ≡ 9 → length (tree z (ended z es)) ≡ z .table
   table-full rows h =
@@ -198,5 +194,5 @@ module _ (z : Sizes) (es : List Event) (e : Event) (ok : allowed (z .n) ≡ true
         arith,
         nodes-counted z es ok rows,
         holds z ok es .made-so .room rows,
-        nine-full z (ended z es) (offered z (first-office (z .n)) es) kept (holds z ok es) e h,
+        nine-full z (ended z es) (offered z (first-office (z .n)) es) (ended-kept z es ok) (holds z ok es) e h,
       )

@@ -70,30 +70,27 @@ module _ (z : Sizes) (o : Office) (offers : List ℕ) (I : Invariant z o offers)
   }
 
   -- what holds of a JOIN with the member's vote and of one without
-  of-join : (r : Round) (P : Message → Type 0) → P (JoinVoted r (m .me) (m .voted) (m .vote)) → (m .voted .0 ≡ 0 → P (Join r (m .me))) → P (join-of m r)
-  of-join r P f g = by-test (ltb 0 (m .voted .0)) (λ h. rw h f) (λ h. rw h (g (omega tests)))
-
-  of-voted-join : (r : Round) (P : Message → Type 0) → (0 < m .voted .0 → P (JoinVoted r (m .me) (m .voted) (m .vote))) → P (Join r (m .me)) → P (join-of m r)
-  of-voted-join r P f g = by-test (ltb 0 (m .voted .0)) (λ h. rw h (f (omega tests))) (λ h. rw h g)
+  of-join : (r : Round) (P : Message → Type 0) → (0 < m .voted .0 → P (JoinVoted r (m .me) (m .voted) (m .vote))) → (m .voted .0 ≡ 0 → P (Join r (m .me))) → P (join-of m r)
+  of-join r P f g = by-test (ltb 0 (m .voted .0)) (λ h. rw h (f (omega tests))) (λ h. rw h (g (omega tests)))
 
   no-vote : (r : Round) (k : ℕ) → Voted (join-of m r ∷ []) k t → ⊥
   no-vote r k i =
-      of-join r (λ g. Vote (round k) (member-number t) ≡ g → ⊥) (λ e. impossible (cc)) (λ z e. impossible (cc)) (List·Memᴰ·eq-of-singleton i)
+      of-join r (λ g. Vote (round k) (member-number t) ≡ g → ⊥) (λ v e. impossible (cc)) (λ v e. impossible (cc)) (List·Memᴰ·eq-of-singleton i)
 
   pub START-new : (r : Round) (s : Member) → Passed (START-causes m r s) → New z o offers t (START-row m r) []
   START-new r s (leader, (above, end)) = record {
     stands = record {
       spoken = spoken-new (o .sent) (join-of m r ∷ []) t (m .joined .0) (m .voted .0) (m .led .0) (r .0) (m .voted .0) (m .led .0)
           (only (Reached (r .0) (m .voted .0) (m .led .0)) (join-of m r)
-          (of-join r (Reached (r .0) (m .voted .0) (m .led .0)) (omega arith) (λ e. omega arith)))
+          (of-join r (Reached (r .0) (m .voted .0) (m .led .0)) (λ v. omega arith) (λ v. omega arith)))
           (omega tests) (omega arith) (omega arith) (S .spoken)
-          (λ g r₁ k i j w low. only (λ x. k ≤ carried x) (join-of m r) (of-join r (λ x. k ≤ carried x) (lower k w) (λ e. omega (arith, lower k w))) g i)
+          (λ g r₁ k i j w low. only (λ x. k ≤ carried x) (join-of m r) (of-join r (λ x. k ≤ carried x) (λ v. lower k w) (λ v. omega (arith, lower k w))) g i)
           (λ g r₁ k i j w low. absurd (no-vote r k w));
       leading = leading-calm (join-of m r ∷ []) [];
       vote-added = λ h. added-grows [] (S .vote-added h);
     };
-    leaders = only (FromLeader (z .n)) (join-of m r) (of-join r (FromLeader (z .n)) tt (λ e. tt));
-    backed = only (Backed (o .made ++ [])) (join-of m r) (of-voted-join r (Backed (o .made ++ [])) (λ h. added-grows [] (S .vote-added h)) tt);
+    leaders = only (FromLeader (z .n)) (join-of m r) (of-join r (FromLeader (z .n)) (λ v. tt) (λ v. tt));
+    backed = only (Backed (o .made ++ [])) (join-of m r) (of-join r (Backed (o .made ++ [])) (λ h. added-grows [] (S .vote-added h)) (λ v. tt));
     names = λ a i. elim i [ ];
     made-so = made-calm (join-of m r ∷ []) [] (I .made-so);
   }

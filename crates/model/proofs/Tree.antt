@@ -19,7 +19,7 @@ use Rattle.model.specs.Model.{Sizes, Event, Office, first-office, outcom
 use Rattle.model.specs.Demand.{calls, ended}
 use Rattle.model.specs.Counts.{tree, decisions, committed-nodes}
 use Rattle.model.proofs.Made.{calls-append, adds-in-calls}
-use Rattle.model.proofs.Demanded.{four, in-range, fits, all-ok, tree-told}
+use Rattle.model.proofs.Demanded.{four, rounds-in-range, adds-fit, all-ok, tree-told}
 use Rattle.model.proofs.Committed.{commits-in, committed-count}
 use Rattle.model.proofs.Fold.{next-taken, after-last}
 
@@ -63,8 +63,8 @@ module _ (z : Sizes) (es : List Event) (ok : allowed (z .n) ≡ true) (rows : 0 
     takes : (n : Named) (c : Call) → outcome z (ended z es) e .named ≡ n → calls (made-by n) ≡ c ∷ [] → answer-call true (z .table) (tree z (ended z es)) c ≡ 0
     takes n c h s =
         let q : calls (ended z (es ++ e ∷ []) .made) ≡ calls (ended z es .made) ++ c ∷ [] = last-calls n c h s in
-        next-ok true (z .table) (calls (ended z es .made)) c (subst (Properties true) q (four z (es ++ e ∷ []) ok)) (subst InRange q (in-range z (es ++ e ∷ []) ok))
-        (subst (λ l. adds-in l < z .table) q (fits z (es ++ e ∷ []) ok rows))
+        next-ok true (z .table) (calls (ended z es .made)) c (subst (Properties true) q (four z (es ++ e ∷ []) ok)) (subst InRange q (rounds-in-range z (es ++ e ∷ []) ok))
+        (subst (λ l. adds-in l < z .table) q (adds-fit z (es ++ e ∷ []) ok rows))
 
     pub takes-proposal : (r x b : ℕ) → outcome z (ended z es) e .named ≡ proposal r x b → answer-call true (z .table) (tree z (ended z es)) (add r x b) ≡ 0
     unfolding calls

@@ -86,15 +86,26 @@ proposals (nothing ∷ ns) = proposals ns
 proposals (proposal r x b ∷ ns) = suc (proposals ns)
 proposals (decision r x ∷ ns) = proposals ns
 
--- The numbers of the place table without its add and commit rows: 29; the member's own; 30 if it would send and the messages sent fill the
--- store; 9 if it would propose and there are as many proposals as table rows beside the root.
+-- its member is N or above, or its message isn't among those sent
+abbrev pub absent : Sizes → Office → Event → Bool
+absent z o e = leb (z .n) (at-member e) || unsent o e
+
+-- it would send, and the messages sent fill the store
+abbrev pub no-store-row : Sizes → Office → Event → Bool
+no-store-row z o e = sends-one (outcome z o e .sent) && leb (z .store) (length (o .sent))
+
+-- it would propose, and there are as many proposals as table rows beside the root
+abbrev pub no-table-row : Sizes → Office → Event → Bool
+no-table-row z o e = proposes-one (outcome z o e .named) && leb (z .table) (suc (proposals (o .made)))
+
+-- the numbers of the place table without its add and commit rows: 29, the member's own, 30, 9
 unfoldable pub event-causes : Sizes → Office → Event → List Cause
 unfolding outcome proposals
 event-causes z o e =
-    (leb (z .n) (at-member e) || unsent o e) gives 29 ∷
+    absent z o e gives 29 ∷
     not (eqb (outcome z o e .number) 0) gives (outcome z o e .number) ∷
-    (sends-one (outcome z o e .sent) && leb (z .store) (length (o .sent))) gives 30 ∷
-    (proposes-one (outcome z o e .named) && leb (z .table) (suc (proposals (o .made)))) gives 9 ∷ []
+    no-store-row z o e gives 30 ∷
+    no-table-row z o e gives 9 ∷ []
 
 unfoldable pub answer : Sizes → Office → Event → ℕ
 unfolding event-causes
@@ -137,8 +148,12 @@ abbrev pub offer-of : Event → List ℕ
 offer-of (start m r x) = x ∷ []
 offer-of (deliver k m) = []
 
+-- what an event offers: its offer, if it is an accepted start
+abbrev pub offers-at : Sizes → Office → Event → List ℕ
+offers-at z o e = cond (eqb (answer z o e) 0) (offer-of e) []
+
 -- the offers of the accepted starts of a list
 unfoldable pub offered : Sizes → Office → List Event → List ℕ
 unfolding answer next
 offered z o [] = []
-offered z o (e ∷ es) = cond (eqb (answer z o e) 0) (offer-of e) [] ++ offered z (next z o e) es
+offered z o (e ∷ es) = offers-at z o e ++ offered z (next z o e) es
