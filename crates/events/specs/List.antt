@@ -18,7 +18,7 @@ body list = drop 8 list
 
 -- an event of this kind with at least so many bytes stands at the front
 abbrev pub stands : ℕ → ℕ → List ℕ → Bool
-stands kind bytes s = leb bytes (length s) && eqb (word-at s 0) kind
+stands kind bytes s = eqb (word-at s 0) kind && leb bytes (length s)
 
 -- how many bytes the event at the front takes: 20 for kind 1, 12 for kind 2; 0 where none stands there
 unfoldable pub event-size : List ℕ → ℕ

@@ -1,0 +1,2 @@
+-- Theorems about event lists.
+pub mod Sizes
