@@ -1,15 +1,16 @@
 -- The lengths and the messages of the kinds, and where only the rest of the message row is open. Each goes by the tests on kind and presence. Assumes nothing.
-use mathlib.Core.Path.{_≡_, sym}
-use mathlib.Core.List.{List}
+use mathlib.Core.Path.{_≡_, refl, sym}
+use mathlib.Core.List.{List, _++_}
 use Prim.Native.Nat.{ℕ, _≤_}
 use native.Mathlib.Omega.{arith}
 use lib.ListN.{length}
 use lib.Dec.{eqb}
-use borrow.Author.Tests.{ne-eqb, le-ltb}
+use borrow.Author.Tests.{ne-eqb, le-ltb, eqb-true}
 use Rattle.laws.specs.Tests.{by-test}
 use Rattle.message.specs.Reading.{kind, round, sender, presence, voted, is-join, inexact, size, decoded, read, read-rest}
 use Rattle.message.specs.declared.Message.the-variants.{Start, Join, JoinVoted, Propose, Vote}
 use Rattle.xdr.specs.Words.{hyper-at}
+use Rattle.xdr.proofs.Laws.{word-at-front}
 
 module _ (s : List ℕ) where
   pub size-join : kind s ≡ 2 → presence s ≡ 0 → size s ≡ 16
@@ -46,6 +47,16 @@ module _ (s : List ℕ) where
   pub size-join-least : kind s ≡ 2 → 16 ≤ size s
   unfolding size
   size-join-least k = by-test (eqb (presence s) 1) (λ p. rw (k, p) (omega arith)) (λ p. rw (k, p) (omega arith))
+
+  -- the size of a whole message, whatever comes behind it
+  pub size-front : (behind : List ℕ) → length s ≡ size s → size (s ++ behind) ≡ size s
+  unfolding size
+  size-front behind e =
+      let least : 12 ≤ length s = omega (arith, size-least) in
+      let first = word-at-front s behind 0 (omega arith) in
+      by-test (is-join s)
+      (λ j. let room : 16 ≤ length s = omega (arith, size-join-least (eqb-true (kind s) 2 j)) in rw (first, word-at-front s behind 12 room) refl)
+      (λ j. rw (first, j) refl)
 
   -- of a JOIN with its presence word the rest is open where that is 0 or 1
   pub join-rest : kind s ≡ 2 → 16 ≤ length s → presence s ≤ 1 → read s ≡ read-rest s

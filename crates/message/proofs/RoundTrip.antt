@@ -30,7 +30,7 @@ use Rattle.message.specs.Layout.{head, words, bytes, byte-count, Held}
 use Rattle.message.specs.Reading.{under-4, no-kind, wrong-length, kind, round, sender, presence, voted, is-join, wrong-presence, inexact, size, decoded, row, answer, read-number, read}
 use Rattle.message.specs.declared.Written.the-variants.{Sent, ShortBuffer, OutOfRange}
 use Rattle.message.specs.Writing.{causes, answer-of, written, written-number, left, in-front}
-use Rattle.message.proofs.Checks.{size-least, size-join-least, size-join, size-join-voted, size-propose, size-other, decoded-start, decoded-join, decoded-join-voted, decoded-propose, decoded-vote}
+use Rattle.message.proofs.Checks.{size-least, size-front, size-join-least, size-join, size-join-voted, size-propose, size-other, decoded-start, decoded-join, decoded-join-voted, decoded-propose, decoded-vote}
 
 -- a round in range is a word
 round-small : (r : Round) (s : Member) → head-in-range r s ≡ true → r .0 < 4294967296
@@ -143,10 +143,10 @@ module _ (s : List ℕ) (b : Bytes s) where
       (stood (Join (round s) (sender s)) (k, (refl, (refl, (p, tt)))) (w .exact ∙ size-join s k p), tt))
       (λ k p. let l : length s ≡ 28 = w .exact ∙ size-join-voted s k p in
       rw (← e, decoded-join-voted s k p)
-      (stood (JoinVoted (round s) (sender s) (voted s) (hyper-at s 20)) (k, (refl, (refl, (p, (refl, (refl, tt)))))) l, hyper-at-small 20 s b (omega arith)))
+      (stood (JoinVoted (round s) (sender s) (voted s) (hyper-at s 20)) (k, (refl, (refl, (p, (refl, (refl, tt)))))) l, hyper-at-small 20 s b))
       (λ k. let l : length s ≡ 20 = w .exact ∙ size-propose s k in
       rw (← e, decoded-propose s k)
-      (stood (Propose (round s) (sender s) (hyper-at s 12)) (k, (refl, (refl, (refl, tt)))) l, hyper-at-small 12 s b (omega arith)))
+      (stood (Propose (round s) (sender s) (hyper-at s 12)) (k, (refl, (refl, (refl, tt)))) l, hyper-at-small 12 s b))
       (λ k. rw (← e, decoded-vote s k)
       (stood (Vote (round s) (sender s)) (k, (refl, (refl, tt))) (w .exact ∙ size-other s (λ z. omega arith) (λ z. omega arith)), tt))
 
@@ -218,6 +218,12 @@ spelt (Vote r s) v h =
 -- each message that the writer takes reads back as itself
 pub reads-back : (m : Message) → Held m → in-range m ≡ true → read (bytes m) ≡ Got m
 reads-back m v h = let (w, e) = spelt m v h in whole-read (bytes m) m w e h
+
+-- whatever comes behind it
+pub reads-back-front : (m : Message) (behind : List ℕ) → Held m → in-range m ≡ true → read (take (size (bytes m ++ behind)) (bytes m ++ behind)) ≡ Got m
+reads-back-front m behind v h =
+    let e : length (bytes m) ≡ size (bytes m) = spelt m v h .0 .exact in
+    rw (size-front (bytes m) behind e, take-at (bytes m) behind (size (bytes m)) e) (reads-back m v h)
 
 -- every message in range is written, with the length of its kind, into a buffer that has room for any
 pub in-range-written : (m : Message) (old : List ℕ) → 28 ≤ length old → in-range m ≡ true → written m old ≡ Sent (byte-count m)
