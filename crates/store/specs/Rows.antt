@@ -36,5 +36,4 @@ row-at s k = take 28 (drop (28 * k) s)
 
 -- what is read of the message at the front of row k: its own length, and not the whole row
 unfoldable pub read-at : List ℕ → ℕ → Read
-unfolding read size
 read-at s k = read (take (size (row-at s k)) (row-at s k))
