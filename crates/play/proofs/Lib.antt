@@ -1,2 +1,4 @@
 -- Laws for play.
 pub mod Settling
+pub mod Memory
+pub mod Arms

