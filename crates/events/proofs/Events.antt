@@ -5,13 +5,11 @@ use mathlib.Core.Bool.{true, not}
 use mathlib.Core.List.{List, [], _∷_, _++_, List·Memᴰ·head as here, List·Memᴰ·tail as there, Memᴰ·append-right}
 use Prim.Native.Nat.{ℕ, zero, suc, _+_, _≤_, _<_}
 use native.Mathlib.Omega.{arith}
-use lib.ListN.{length, drop, take-append-drop, take}
+use lib.ListN.{length, take, drop, take-append-drop}
 use lib.Dec.{eqb}
 use Rattle.laws.specs.Tests.{by-test, clash, and-right}
-use Rattle.laws.specs.Lists.{_∈_}
 use Rattle.xdr.specs.Words.{Bytes, word-at}
 use Rattle.xdr.proofs.Laws.{hyper-at-small}
-use Rattle.model.specs.Model.{Event}
 use Rattle.events.specs.List.{event-size, event-at, rest, behind, events-in, exact, Offer, Offers}
 use Rattle.events.proofs.Sizes.{size-within, exact-stop}
 

@@ -1,17 +1,17 @@
 -- How many bytes an event takes, by its kind and by what is left, and what that says of a list filled exactly. Each law goes by the tests of
 -- the size. Assumes nothing.
 use mathlib.Core.Path.{_≡_, refl}
-use mathlib.Core.Bool.{true, false}
+use mathlib.Core.Bool.{false}
 use mathlib.Core.List.{List}
 use Prim.Native.Nat.{ℕ, zero, suc, _-_, _≤_, _<_}
 use native.Mathlib.Omega.{arith}
-use lib.ListN.{length, drop, getD, drop-of-length-le}
+use lib.ListN.{length, drop, drop-of-length-le}
 use lib.Seq.{drop-cons}
 use lib.Dec.{leb, eqb}
-use borrow.Author.Tests.{le-leb, lt-leb, ne-eqb, eqb-true}
-use Rattle.laws.specs.Tests.{tests, by-test, and-left, and-right, and-cases}
+use borrow.Author.Tests.{le-leb, lt-leb, ne-eqb}
+use Rattle.laws.specs.Tests.{tests, by-test}
 use Rattle.xdr.specs.Words.{word-at}
-use Rattle.events.specs.List.{stands, event-size, rest, empty, exact}
+use Rattle.events.specs.List.{event-size, rest, exact}
 
 module _ (s : List ℕ) where
   pub size-start : word-at s 0 ≡ 1 → 20 ≤ length s → event-size s ≡ 20

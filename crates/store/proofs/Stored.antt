@@ -42,7 +42,7 @@ zeros-cut n a b e = ap zeros e ∙ sym (replicate-append-replicate a b 0)
 
 pub length-row : (g : Message) → length (row-of g) ≡ 28
 unfolding row-of
-length-row g = rw (length-append (bytes g) (zeros (28 - length (bytes g))), length-zeros (28 - length (bytes g))) (omega (arith, longest g))
+length-row g = simp (length-append, length-replicate) (omega (arith, longest g))
 
 pub length-rows : (gs : List Message) → length (rows-of gs) ≡ 28 * length gs
 unfolding rows-of

@@ -81,7 +81,7 @@ pub fn fetch(s: &[u8], k: usize) -> Read
     requires { ⌜ 28 * k + 28 ≤ length (now s) ⌝ }
     ensures { λ r. ⌜ r ≡ read-at (now (s .entry)) k ⌝ }
 {
-    let a = ROW * k;
-    let e = a + ROW;
-    read_row(&s[a..e])
+    let start = ROW * k;
+    let end = start + ROW;
+    read_row(&s[start..end])
 }

@@ -7,11 +7,11 @@ use Rattle.store.specs.Rows.{read-at}
 use Rattle.store.proofs.fetch.Statement.{statement}
 use Rattle.store.proofs.fetch.Tie as tie
 
-mul-a : tie.Need-mul-a
-mul-a c = search needs
+mul-start : tie.Need-mul-start
+mul-start c = search needs
 
-add-e : tie.Need-add-e
-add-e c = search needs
+add-end : tie.Need-add-end
+add-end c = search needs
 
 sub-read-row : tie.Need-sub-read-row
 sub-read-row c = search needs
@@ -36,8 +36,8 @@ pub fetch-spec : {M : Type 1} → statement M
 fetch-spec =
     tie.close
     (tie.spec
-    mul-a
-    add-e
+    mul-start
+    add-end
     sub-read-row
     part-read-row-start
     part-read-row-end

@@ -1,5 +1,5 @@
 -- `store::message_size` meets its contract: each return goes by the tests that led there. Assumes nothing.
-use mathlib.Core.Path.{_≡_, sym, _∙_}
+use mathlib.Core.Path.{sym, _∙_}
 use borrow.Author.Needs.{needs}
 use borrow.Author.Tests.{ne-eqb}
 use Rattle.message.specs.Reading.{size, decoded}

@@ -1,12 +1,12 @@
 -- `store::read_row` meets its contract: no message is longer than a row. Assumes nothing.
-use mathlib.Core.Path.{_≡_, sym, ap, _∙_}
+use mathlib.Core.Path.{sym, ap, _∙_}
 use Prim.Native.Nat.{ℕ}
 use native.Mathlib.Omega.{arith}
 use lib.ListN.{take}
 use lib.Seq.{length-take-le}
 use borrow.Author.Needs.{needs}
 use denote.Ref.{now}
-use Rattle.message.specs.Reading.{size, read}
+use Rattle.message.specs.Reading.{read}
 use Rattle.message.proofs.Checks.{size-most}
 use Rattle.store.proofs.read_row.Statement.{statement}
 use Rattle.store.proofs.read_row.Tie as tie
@@ -17,7 +17,7 @@ message-size-requires c κs = search needs
 slice-aggregate-read-message : tie.Need-slice-aggregate-read-message
 slice-aggregate-read-message c =
     let row = now (c .before .before .before .args .row) in
-    rw (c .before .message-size .ensures) (sym (length-take-le (size row) row (omega (arith, size-most row))))
+    sym (length-take-le _ row (omega (arith, size-most row)))
 
 read-message-requires : tie.Need-read-message-requires
 read-message-requires c κs = search needs
