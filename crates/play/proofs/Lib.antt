@@ -2,3 +2,5 @@
 pub mod Settling
 pub mod Memory
 pub mod Arms
+pub mod Facing
+pub mod Working

@@ -6,43 +6,43 @@ use Rattle.play.proofs.office.work.Lts as lts
 use Rattle.play.proofs.office.work_deliver.Reads as work-deliver-reads
 use Rattle.play.proofs.office.work_start.Reads as work-start-reads
 
--- src/office.rt:187:13
+-- src/office.rt:186:13
 enum-known-e : tie.Need-enum-known-e
 enum-known-e c = search needs
 
--- src/office.rt:190:14
+-- src/office.rt:189:14
 work-start-requires : tie.Need-work-start-requires
 work-start-requires c κs = search needs
 
--- src/office.rt:191:26
+-- src/office.rt:190:26
 enum-known-e-2 : tie.Need-enum-known-e-2
 enum-known-e-2 c = search needs
 
--- src/office.rt:191:47
+-- src/office.rt:190:47
 work-deliver-requires : tie.Need-work-deliver-requires
 work-deliver-requires c κs = search needs
 
--- src/office.rt:181:1
+-- src/office.rt:180:1
 same-length : tie.Need-same-length
 same-length c = search needs
 
--- src/office.rt:181:1
+-- src/office.rt:180:1
 same-length-2 : tie.Need-same-length-2
 same-length-2 c = search needs
 
--- src/office.rt:181:1
+-- src/office.rt:180:1
 returns : tie.Need-returns
 returns c = ?
 
--- src/office.rt:181:1
+-- src/office.rt:180:1
 same-length-3 : tie.Need-same-length-3
 same-length-3 c = search needs
 
--- src/office.rt:181:1
+-- src/office.rt:180:1
 same-length-4 : tie.Need-same-length-4
 same-length-4 c = search needs
 
--- src/office.rt:181:1
+-- src/office.rt:180:1
 returns-2 : tie.Need-returns-2
 returns-2 c = ?
 

@@ -1,80 +1,105 @@
+-- `play::office::work_deliver` meets its contract: 29, or the step of the model's member at the message of that row, settled. Assumes nothing.
+use mathlib.Core.Path.{_≡_, refl}
+use native.Mathlib.Omega.{arith}
+use denote.Ref.{now}
+use Rattle.model.specs.Model.{deliver}
+use Rattle.play.proofs.Working.{no-member, no-message, below-seven, sound-member, row-within, read-here, never-refused, took-deliver, fault-small}
 use borrow.Author.Needs.{needs}
 use Rattle.play.proofs.office.work_deliver.Statement.{statement}
 use Rattle.play.proofs.office.work_deliver.Tie as tie
-use Rattle.play.proofs.office.work_deliver.Reads as reads
-use Rattle.play.proofs.office.work_deliver.Lts as lts
-use Rattle.member.proofs.deliver_sound.Reads as deliver-sound-reads
-use Rattle.message.proofs.number.Reads as number-reads
-use Rattle.play.proofs.office.settle.Reads as settle-reads
-use Rattle.store.proofs.fetch.Reads as fetch-reads
 
--- src/office.rt:159:9
 returns : tie.Need-returns
-returns c = ?
+returns c =
+    λ z o L R S.
+      let s = c .before .before .before .before in
+      let a = s .args in
+      no-member z o (a .t1) (now (a .messages)) (now (a .nodes)) L R S (deliver (a .message) (a .member .0)) (c .if1 .taken)
 
--- src/office.rt:163:9
 returns-2 : tie.Need-returns-2
-returns-2 c = ?
+returns-2 c =
+    λ z o L R S.
+      let s = c .before .before .before .before .before in
+      let a = s .args in
+      no-message z o (a .t1) (now (a .messages)) (now (a .nodes)) L R S (a .message) (a .member .0) (c .before .if1 .left) (c .if2 .taken)
 
--- src/office.rt:165:9
 fetch-requires : tie.Need-fetch-requires
-fetch-requires c κs = ?
+fetch-requires c κs =
+    let s = c .before .before .before .before .before .before in
+    let a = s .args in
+    let G = s .pre in
+    row-within (G .z) (G .o) (a .t1) (now (a .messages)) (now (a .nodes)) (G .lent) (G .reached) (G .stands) (a .message) (c .before .if2 .left)
 
--- src/office.rt:167:23
 enum-known-got : tie.Need-enum-known-got
 enum-known-got c = search needs
 
--- src/office.rt:169:21
 number-requires : tie.Need-number-requires
 number-requires c κs = search needs
 
--- src/office.rt:169:21
 cast-t24 : tie.Need-cast-t24
-cast-t24 c = ?
+cast-t24 c =
+    omega (arith, c .number .ensures, fault-small (c .before .before .got .given .0 .0))
 
--- src/office.rt:171:19
 enum-known-got-2 : tie.Need-enum-known-got-2
 enum-known-got-2 c = search needs
 
--- src/office.rt:172:21
 cast-i : tie.Need-cast-i
 cast-i c = search needs
 
--- src/office.rt:173:21
 mul-m : tie.Need-mul-m
 mul-m c = search needs
 
--- src/office.rt:173:21
 element-copy-out-m : tie.Need-element-copy-out-m
-element-copy-out-m c = ?
+element-copy-out-m c =
+    let s = c .before .before .before .before .before .before .before .before .before .before .before in
+    let a = s .args in
+    let G = s .pre in
+    below-seven (G .z) (G .o) (a .t1) (now (a .messages)) (now (a .nodes)) (G .lent) (G .reached) (G .stands) (a .member .0) (c .before .before .before .before .before .before .before .if1 .left)
 
--- src/office.rt:174:17
 deliver-sound-requires : tie.Need-deliver-sound-requires
-deliver-sound-requires c κs = ?
+deliver-sound-requires c κs =
+    let s = c .before .before .before .before .before .before .before .before .before .before .before .before in
+    let a = s .args in
+    let G = s .pre in
+    let read = read-here (G .z) (G .o) (a .t1) (now (a .messages)) (now (a .nodes)) (G .lent) (G .reached) (G .stands) (a .message) (c .before .before .before .before .before .before .before .if2 .left) _ (c .before .before .before .before .before .fetch .ensures) _ (c .before .before .before .got2 .given .1) in
+    (sound-member (G .z) (G .o) (a .t1) (now (a .messages)) (now (a .nodes)) (G .lent) (G .reached) (G .stands) (a .member .0) _ (c .before .before .before .before .before .before .before .before .if1 .left), read .1)
 
--- src/office.rt:175:13
 settle-requires : tie.Need-settle-requires
-settle-requires c κs = ?
+settle-requires c κs =
+    let s = c .before .before .before .before .before .before .before .before .before .before .before .before .before .before .before in
+    let a = s .args in
+    let G = s .pre in
+    let read = read-here (G .z) (G .o) (a .t1) (now (a .messages)) (now (a .nodes)) (G .lent) (G .reached) (G .stands) (a .message) (c .before .before .before .before .before .before .before .before .before .before .if2 .left) _ (c .before .before .before .before .before .before .before .before .fetch .ensures) _ (c .before .before .before .before .before .before .got2 .given .1) in
+    record
+      { standing = G;
+        e = deliver (a .message) (a .member .0);
+        took = took-deliver (G .z) (G .o) (a .t1) (now (a .messages)) (now (a .nodes)) (G .lent) (G .reached) (G .stands) (a .message) (a .member .0) _ _ _ (c .before .before .before .before .before .before .before .before .before .before .before .if1 .left) (c .before .before .before .before .before .before .before .before .before .before .if2 .left) (read .0) (c .before .before .deliver-sound .ensures) }
 
--- src/office.rt:154:1
 same-length : tie.Need-same-length
 same-length c = search needs
 
--- src/office.rt:154:1
 returns-3 : tie.Need-returns-3
-returns-3 c = ?
+returns-3 c =
+    λ z o L R S.
+      let s = c .before .before .before .before .before .before .before .before .before .before .before in
+      let a = s .args in
+      let f = c .before .before .before .before in
+      never-refused z o (a .t1) (now (a .messages)) (now (a .nodes)) L R S (a .message) (c .before .before .before .before .before .before .if2 .left) _ (f .fetch .ensures) _ (c .before .before .got .given .1)
 
--- src/office.rt:154:1
 same-length-2 : tie.Need-same-length-2
 same-length-2 c = search needs
 
--- src/office.rt:154:1
 same-length-3 : tie.Need-same-length-3
 same-length-3 c = search needs
 
--- src/office.rt:154:1
 returns-4 : tie.Need-returns-4
-returns-4 c = ?
+returns-4 c =
+    λ z o L R S.
+      let s = c .before .before .before .before .before .before .before .before .before .before .before .before .before .before .before .before .before .before .before .before in
+      let a = s .args in
+      let t = c .before .before .before .before in
+      let read = read-here z o (a .t1) (now (a .messages)) (now (a .nodes)) L R S (a .message) (c .before .before .before .before .before .before .before .before .before .before .before .before .before .before .before .if2 .left) _ (c .before .before .before .before .before .before .before .before .before .before .before .before .before .fetch .ensures) _ (c .before .before .before .before .before .before .before .before .before .before .before .got2 .given .1) in
+      t .settle .ensures z o (deliver (a .message) (a .member .0)) L R S
+      (took-deliver z o (a .t1) (now (a .messages)) (now (a .nodes)) L R S (a .message) (a .member .0) _ _ _ (c .before .before .before .before .before .before .before .before .before .before .before .before .before .before .before .before .if1 .left) (c .before .before .before .before .before .before .before .before .before .before .before .before .before .before .before .if2 .left) (read .0) (c .before .before .before .before .before .before .before .deliver-sound .ensures))
 
 pub work-deliver-spec : {M : Type 1} → statement M
 work-deliver-spec =

@@ -1,46 +1,63 @@
+-- `play::office::work_start` meets its contract: 29, or the step of the model's member, settled. Assumes nothing.
+use mathlib.Core.Path.{_≡_, refl}
+use denote.Ref.{now}
+use Rattle.model.specs.Model.{start}
+use Rattle.play.proofs.Working.{no-member, below-seven, sound-member, took-start}
 use borrow.Author.Needs.{needs}
 use Rattle.play.proofs.office.work_start.Statement.{statement}
 use Rattle.play.proofs.office.work_start.Tie as tie
-use Rattle.play.proofs.office.work_start.Reads as reads
-use Rattle.play.proofs.office.work_start.Lts as lts
-use Rattle.member.proofs.start_sound.Reads as start-sound-reads
-use Rattle.play.proofs.office.settle.Reads as settle-reads
 
--- src/office.rt:145:9
 returns : tie.Need-returns
-returns c = ?
+returns c =
+    λ z o L R S.
+      let s = c .before .before .before .before in
+      let a = s .args in
+      no-member z o (a .t1) (now (a .messages)) (now (a .nodes)) L R S (start (a .member .0) (a .round .0) (a .offer)) (c .if1 .taken)
 
--- src/office.rt:147:13
 cast-i : tie.Need-cast-i
 cast-i c = search needs
 
--- src/office.rt:148:13
 mul-m : tie.Need-mul-m
 mul-m c = search needs
 
--- src/office.rt:148:13
 element-copy-out-m : tie.Need-element-copy-out-m
-element-copy-out-m c = ?
+element-copy-out-m c =
+    let s = c .before .before .before .before .before in
+    let a = s .args in
+    let G = s .pre in
+    below-seven (G .z) (G .o) (a .t1) (now (a .messages)) (now (a .nodes)) (G .lent) (G .reached) (G .stands) (a .member .0) (c .before .if1 .left)
 
--- src/office.rt:149:9
 start-sound-requires : tie.Need-start-sound-requires
-start-sound-requires c κs = ?
+start-sound-requires c κs =
+    let s = c .before .before .before .before .before .before in
+    let a = s .args in
+    let G = s .pre in
+    sound-member (G .z) (G .o) (a .t1) (now (a .messages)) (now (a .nodes)) (G .lent) (G .reached) (G .stands) (a .member .0) _ (c .before .before .if1 .left)
 
--- src/office.rt:150:5
 settle-requires : tie.Need-settle-requires
-settle-requires c κs = ?
+settle-requires c κs =
+    let s = c .before .before .before .before .before .before .before .before .before in
+    let a = s .args in
+    let G = s .pre in
+    record
+      { standing = G;
+        e = start (a .member .0) (a .round .0) (a .offer);
+        took = took-start (G .z) (G .o) (a .t1) (now (a .messages)) (now (a .nodes)) (G .lent) (G .reached) (G .stands) (a .member .0) (a .round .0) (a .offer) _ _ (c .before .before .before .before .before .if1 .left) (c .before .before .start-sound .ensures) }
 
--- src/office.rt:140:1
 same-length : tie.Need-same-length
 same-length c = search needs
 
--- src/office.rt:140:1
 same-length-2 : tie.Need-same-length-2
 same-length-2 c = search needs
 
--- src/office.rt:140:1
 returns-2 : tie.Need-returns-2
-returns-2 c = ?
+returns-2 c =
+    λ z o L R S.
+      let s = c .before .before .before .before .before .before .before .before .before .before .before .before .before .before in
+      let a = s .args in
+      let t = c .before .before .before .before in
+      t .settle .ensures z o (start (a .member .0) (a .round .0) (a .offer)) L R S
+      (took-start z o (a .t1) (now (a .messages)) (now (a .nodes)) L R S (a .member .0) (a .round .0) (a .offer) _ _ (c .before .before .before .before .before .before .before .before .before .before .if1 .left) (c .before .before .before .before .before .before .before .start-sound .ensures))
 
 pub work-start-spec : {M : Type 1} → statement M
 work-start-spec =
