@@ -43,7 +43,7 @@ due-stands k d s h p =
     (λ e. clash (exact-behind k d s h) (exact-stop d (behind k s) p e), size-within (behind k s))
 
 -- what is left of bytes is bytes
-bytes-left : (n : ℕ) (s : List ℕ) → Bytes s → Bytes (drop n s)
+pub bytes-left : (n : ℕ) (s : List ℕ) → Bytes s → Bytes (drop n s)
 bytes-left n s k b m = k b (rw (take-append-drop n s) at (Memᴰ·append-right (take n s) m))
 
 event-offer : (s : List ℕ) → Bytes s → Offer (event-at s)

@@ -4,3 +4,4 @@ pub mod Memory
 pub mod Arms
 pub mod Facing
 pub mod Working
+pub mod Running
