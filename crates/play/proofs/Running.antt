@@ -14,19 +14,20 @@ use Rattle.laws.specs.Lists.{_∈_}
 use Rattle.laws.specs.Parts.{to-end}
 use Rattle.xdr.specs.Words.{Bytes}
 use Rattle.quorum_tree.specs.Machine.{after}
-use Rattle.quorum_tree.specs.Table.{sized}
+use Rattle.quorum_tree.specs.Table.{sized, table}
 use Rattle.member.specs.Record.{fresh as fresh-member}
 use Rattle.model.specs.Model.{Sizes, Event, member-number, fresh-members, first-office, answer, answers, next, proposals}
 use Rattle.model.specs.Model.{after as ended-from}
 use Rattle.model.specs.Demand.{calls, ended}
 use Rattle.model.specs.Counts.{tree, zeros, decisions}
 use Rattle.model.proofs.Fold.{after-last, answers-last, length-answers, zeros-append}
-use Rattle.events.specs.List.{members-of, count-of, body, list-fits, exact, events-in, event-at, event-size, behind, rest}
+use Rattle.events.specs.List.{members-of, count-of, body, list-fits, exact, events-in, events-of, event-at, event-size, behind, rest}
 use Rattle.events.proofs.Events.{events-suc, behind-suc, length-events, due-stands, offers-small, bytes-left}
 use Rattle.store.specs.Rows.{store-sized, stored}
 use Rattle.play.specs.declared.office.Office.{Office}
 use Rattle.play.specs.Standing.{Lent, Reached, Stands, Standing, Works, Next, fresh-office}
-use Rattle.play.specs.Promise.{sizes-of, one, Ready}
+use Rattle.play.specs.Promise.{sizes-of, one, Ready, Worked}
+use Rattle.play.proofs.Memory.{sent-few, proposals-few, decisions-few}
 use Rattle.play.proofs.Facing.{allowed-seven}
 
 -- elements below 256 are bytes
@@ -147,10 +148,10 @@ module _ (list store₀ ws₀ answered₀ : List ℕ) (count : ℕ) (store ws an
   answer-room h = omega (arith, G .answers-long, G .ready .room, G .count-is)
 
   -- the next event
-  pub running-next : k < count → (office′ : Office) (number : ℕ) (store′ ws′ : List ℕ) → length store′ ≡ length store → length ws′ ≡ length ws →
+  after-event : k < count → (office′ : Office) (number : ℕ) (store′ ws′ : List ℕ) → length store′ ≡ length store → length ws′ ≡ length ws →
       Works office (event-at (drop at list)) store ws office′ number store′ ws′ →
       Running list store₀ ws₀ answered₀ count store′ ws′ (set answered k number) office′ (accepted + one number) (at + event-size (drop at list)) (k + 1)
-  running-next h office′ number store′ ws′ ls lw W =
+  after-event h office′ number store′ ws′ ls lw W =
       let z = sizes-of list store₀ ws₀ in
       let o = first-office (members-of list) in
       let es = events-in k (body list) in
@@ -179,3 +180,38 @@ module _ (list store₀ ws₀ answered₀ : List ℕ) (count : ℕ) (store ws an
           counted =
             ap (λ n. n + one number) (G .counted) ∙ sym (ap zeros along ∙ zeros-append A (number ∷ []) ∙ ap (λ n. zeros A + n) (zeros-one number));
           few = omega (arith, G .few, one-most number) }
+
+  -- the same of what the turn read: the rest of the list, its event's size, and 1 or 0
+  pub running-next : k < count → (r : List ℕ) → r ≡ drop at list → (office′ : Office) (number n m : ℕ) (store′ ws′ : List ℕ) → n ≡ one number → m ≡ event-size r →
+      length store′ ≡ length store → length ws′ ≡ length ws → Works office (event-at r) store ws office′ number store′ ws′ →
+      Running list store₀ ws₀ answered₀ count store′ ws′ (set answered k number) office′ (accepted + n) (at + m) (k + 1)
+  running-next h r er office′ number n m store′ ws′ en em ls lw W =
+      let em′ : m ≡ event-size (drop at list) = em ∙ ap event-size er in
+      rw (en, em′) (after-event h office′ number store′ ws′ ls lw (subst (λ s. Works office (event-at s) store ws office′ number store′ ws′) er W))
+
+  pub counts-small : (office .sent ≤ 2000) × (office .proposals < 256) × (office .decisions < 256)
+  counts-small =
+      let S = standing in
+      ( sent-few (S .z) (S .o) office store ws (S .lent) (S .reached) (S .stands),
+        proposals-few (S .z) (S .o) office store ws (S .lent) (S .reached) (S .stands),
+        decisions-few (S .z) (S .o) office store ws (S .lent) (S .reached) (S .stands) )
+
+  -- after the last event
+  pub ran : count ≤ k →
+      Worked (sizes-of list store₀ ws₀) (events-of list) store₀ ws₀ answered₀
+      (record { accepted = accepted; messages = office .sent; proposals = office .proposals; decisions = office .decisions }) store ws answered
+  unfolding events-of
+  ran h =
+      let z = sizes-of list store₀ ws₀ in
+      let e : k ≡ count-of list = omega (arith, G .within, G .count-is) in
+      let all : events-in k (body list) ≡ events-in (count-of list) (body list) = ap (λ n. events-in n (body list)) e in
+      let long : length (events-in (count-of list) (body list)) ≡ count-of list = length-events (count-of list) (body list) in
+      let S : Stands z (ended z (events-in (count-of list) (body list))) office store ws = subst (λ l. Stands z (ended z l) office store ws) all (G .stands) in
+      record
+        { answers-are = G .said ∙ ap (λ l. answers z (first-office (members-of list)) l ++ drop k answered₀) all ∙ ap (λ n. answers z (first-office (members-of list)) (events-in (count-of list) (body list)) ++ drop n answered₀) (e ∙ sym long);
+          store-is = S .messages ∙ ap (λ n. stored n (ended z (events-in (count-of list) (body list)) .sent)) (G .store-long);
+          table-is = S .nodes-are ∙ ap (λ n. table n (tree z (ended z (events-in (count-of list) (body list))))) (G .table-long);
+          accepted-is = G .counted ∙ ap (λ l. zeros (answers z (first-office (members-of list)) l)) all;
+          messages-are = S .sent;
+          proposals-made = S .proposed;
+          decisions-made = S .decided }

@@ -1,128 +1,134 @@
+-- `play::run` meets its contract: after k turns the memory stands for the model after k events. Assumes nothing.
+use mathlib.Core.Path.{_≡_, refl, sym, ap, subst, _∙_}
+use Prim.Native.Nat.{_-_, _+_, _≤_, _<_}
+use native.Mathlib.Omega.{arith}
+use lib.ListN.{length, set, drop, take}
+use borrow.Author.Needs.{needs}
+use denote.Ref.{now}
+use Rattle.laws.specs.Parts.{to-end}
+use Rattle.events.specs.List.{event-size, event-at}
+use Rattle.play.specs.Standing.{fresh-office, Works}
+use Rattle.play.specs.Promise.{one}
+use Rattle.play.proofs.Running.{Running, list-parts, bytes-of, running-first, standing, due, at-next, counted-few, answer-room, running-next, counts-small, one-most, ran}
 use Rattle.play.proofs.run.Statement.{statement}
 use Rattle.play.proofs.run.Tie as tie
-use Rattle.play.proofs.run.Reads as reads
-use Rattle.play.proofs.run.Lts as lts
-use Rattle.events.proofs.event_size.Reads as event-size-reads
-use Rattle.play.proofs.office.fresh_office.Reads as fresh-office-reads
-use Rattle.play.proofs.one_if_accepted.Reads as one-if-accepted-reads
-use Rattle.play.proofs.turn.Reads as turn-reads
-use Rattle.xdr.proofs.word_at.Reads as word-at-reads
 
 abbrev Inv-loop : tie.InvT-loop
 Inv-loop list messages₀ nodes₀ answered₀ count office₀ accepted₀ at₀ k₀ messages nodes answered office accepted at k =
-    ?
+    Running list messages₀ nodes₀ answered₀ count messages nodes answered office accepted at k
 
 abbrev μ-loop : tie.MeasureT-loop
 μ-loop list messages₀ nodes₀ answered₀ count office₀ accepted₀ at₀ k₀ messages nodes answered office accepted at k =
-    ?
+    count - k
 
--- src/lib.rt:39:17
 word-at-requires : tie.Need-word-at-requires Inv-loop μ-loop
-word-at-requires c κs = ?
+word-at-requires c κs =
+    let s = c .before .before .before .before in omega (arith, list-parts (now (s .args .list)) (s .pre .fits) .0)
 
--- src/lib.rt:39:17
 cast-count : tie.Need-cast-count Inv-loop μ-loop
-cast-count c = ?
+cast-count c = search needs
 
--- src/lib.rt:40:43
 word-at-requires-2 : tie.Need-word-at-requires-2 Inv-loop μ-loop
-word-at-requires-2 c κs = ?
+word-at-requires-2 c κs =
+    let s = c .before .before .before .before .before in omega (arith, list-parts (now (s .args .list)) (s .pre .fits) .0)
 
--- src/lib.rt:40:9
 fresh-office-requires : tie.Need-fresh-office-requires Inv-loop μ-loop
-fresh-office-requires c κs = ?
+fresh-office-requires c κs = search needs
 
--- src/lib.rt:44:5
 loop-holds : tie.Need-loop-holds Inv-loop μ-loop
-loop-holds c = ?
+loop-holds c =
+    let s = c .before .before .before .before .before .before .before in
+    let a = s .args in
+    running-first (now (a .list)) (now (a .messages)) (now (a .nodes)) (now (a .answered)) (s .pre)
+    (bytes-of (now (a .list)) (λ i. omega (arith, c .before .before .before .before .before .before .shared-slice-known .given i)))
+    _ _ (c .before .before .word-at .ensures) (c .fresh-office .ensures ∙ ap fresh-office (c .before .word-at2 .ensures))
 
--- src/lib.rt:45:22
 sub-turn : tie.Need-sub-turn Inv-loop μ-loop
-sub-turn c = ?
+sub-turn c = omega (arith, c .before .loop .inv .at-within)
 
--- src/lib.rt:45:22
 part-turn-start : tie.Need-part-turn-start Inv-loop μ-loop
-part-turn-start c = ?
+part-turn-start c = omega (arith, c .before .loop .inv .at-within)
 
--- src/lib.rt:45:22
 part-turn-end : tie.Need-part-turn-end Inv-loop μ-loop
-part-turn-end c = ?
+part-turn-end c = omega (arith, c .before .loop .inv .at-within)
 
--- src/lib.rt:45:13
 turn-requires : tie.Need-turn-requires Inv-loop μ-loop
-turn-requires c κs = ?
+turn-requires c κs =
+    let l = c .before .before .before .before .loop in
+    ((λ q. due _ _ _ _ _ _ _ _ _ _ _ _ (l .inv) (c .before .before .before .loop-test .taken) .0 (ap event-size (sym (to-end (l .at) _)) ∙ q)), standing _ _ _ _ _ _ _ _ _ _ _ _ (l .inv))
 
--- src/lib.rt:46:34
 sub-event-size : tie.Need-sub-event-size Inv-loop μ-loop
-sub-event-size c = ?
+sub-event-size c = omega arith
 
--- src/lib.rt:46:34
 part-event-size-start : tie.Need-part-event-size-start Inv-loop μ-loop
-part-event-size-start c = ?
+part-event-size-start c = omega arith
 
--- src/lib.rt:46:34
 part-event-size-end : tie.Need-part-event-size-end Inv-loop μ-loop
-part-event-size-end c = ?
+part-event-size-end c = omega arith
 
--- src/lib.rt:46:15
 event-size-requires : tie.Need-event-size-requires Inv-loop μ-loop
-event-size-requires c κs = ?
+event-size-requires c κs = search needs
 
--- src/lib.rt:46:9
 add-at : tie.Need-add-at Inv-loop μ-loop
-add-at c = ?
+add-at c =
+    let l = c .before .before .before .before .before .before .before .before .before .before .before .loop in
+    let list = now (c .before .before .before .before .before .before .before .before .before .before .before .before .before .before .before .before .before .before .before .args .list) in
+    omega (arith, at-next _ _ _ _ _ _ _ _ _ _ _ _ (l .inv) (c .before .before .before .before .before .before .before .before .before .before .loop-test .taken), c .event-size .ensures, ap event-size (to-end (l .at) list), c .before .before .before .before .before .before .before .before .before .before .before .before .before .before .before .before .before .before .before .good .0 .0)
 
--- src/lib.rt:48:9
 slice-write-answered : tie.Need-slice-write-answered Inv-loop μ-loop
-slice-write-answered c = ?
+slice-write-answered c =
+    let l = c .before .before .before .before .before .before .before .before .before .before .before .before .loop in
+    answer-room _ _ _ _ _ _ _ _ _ _ _ _ (l .inv) (c .before .before .before .before .before .before .before .before .before .before .before .loop-test .taken)
 
--- src/lib.rt:49:21
 one-if-accepted-requires : tie.Need-one-if-accepted-requires Inv-loop μ-loop
-one-if-accepted-requires c κs = ?
+one-if-accepted-requires c κs = search needs
 
--- src/lib.rt:49:9
 add-accepted : tie.Need-add-accepted Inv-loop μ-loop
-add-accepted c = ?
+add-accepted c =
+    let l = c .before .before .before .before .before .before .before .before .before .before .before .before .before .loop in
+    let number = c .before .before .before .before .before .before .before .before .turn .result .number in
+    omega (arith, counted-few _ _ _ _ _ _ _ _ _ _ (l .at) (l .k) (l .inv), c .one-if-accepted .ensures, one-most number)
 
--- src/lib.rt:50:9
 add-k : tie.Need-add-k Inv-loop μ-loop
-add-k c = ?
+add-k c = omega arith
 
--- src/lib.rt:44:5
 loop-less : tie.Need-loop-less Inv-loop μ-loop
-loop-less c = ?
+loop-less c = omega arith
 
--- src/lib.rt:44:5
 loop-again : tie.Need-loop-again Inv-loop μ-loop
-loop-again c = ?
+loop-again c =
+    let l = c .before .before .before .before .before .before .before .before .before .before .before .before .before .loop in
+    let t = c .before .before .before .before .before .before .before .before .turn in
+    running-next _ _ _ _ _ _ _ _ _ _ _ _ (l .inv) (c .before .before .before .before .before .before .before .before .before .before .before .before .loop-test .taken) _ (to-end (l .at) _) _ _ _ _ _ _ (c .one-if-accepted .ensures) (c .before .before .event-size .ensures)
+    (t .kept .1 .1 .0) (t .kept .1 .1 .1 .0) (t .ensures)
 
--- src/lib.rt:54:19
 cast-t11 : tie.Need-cast-t11 Inv-loop μ-loop
-cast-t11 c = ?
+cast-t11 c =
+    let l = c .before .before .loop in
+    omega (arith, counts-small _ _ _ _ _ (l .messages) (l .nodes) (l .answered) (l .office) (l .accepted) (l .at) (l .k) (l .inv) .0)
 
--- src/lib.rt:55:20
 cast-t27 : tie.Need-cast-t27 Inv-loop μ-loop
-cast-t27 c = ?
+cast-t27 c =
+    let l = c .before .before .before .loop in
+    omega (arith, counts-small _ _ _ _ _ (l .messages) (l .nodes) (l .answered) (l .office) (l .accepted) (l .at) (l .k) (l .inv) .1)
 
--- src/lib.rt:56:20
 cast-t28 : tie.Need-cast-t28 Inv-loop μ-loop
-cast-t28 c = ?
+cast-t28 c =
+    let l = c .before .before .before .before .loop in
+    omega (arith, counts-small _ _ _ _ _ (l .messages) (l .nodes) (l .answered) (l .office) (l .accepted) (l .at) (l .k) (l .inv) .2)
 
--- src/lib.rt:35:1
 same-length : tie.Need-same-length Inv-loop μ-loop
-same-length c = ?
+same-length c = c .before .before .before .before .loop .inv .store-long
 
--- src/lib.rt:35:1
 same-length-2 : tie.Need-same-length-2 Inv-loop μ-loop
-same-length-2 c = ?
+same-length-2 c = c .before .before .before .before .loop .inv .table-long
 
--- src/lib.rt:35:1
 same-length-3 : tie.Need-same-length-3 Inv-loop μ-loop
-same-length-3 c = ?
+same-length-3 c = c .before .before .before .before .loop .inv .answers-long
 
--- src/lib.rt:35:1
 returns : tie.Need-returns Inv-loop μ-loop
-returns c = ?
+returns c =
+    let l = c .before .before .before .before .loop in ran _ _ _ _ _ _ _ _ _ _ _ _ (l .inv) (c .before .before .before .loop-test .left)
 
 pub run-spec : {M : Type 1} → statement M
 run-spec =
