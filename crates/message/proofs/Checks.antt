@@ -89,13 +89,13 @@ module _ (s : List ℕ) where
       by-test (eqb (kind s) 1)
       (λ k. rw (first, k) refl)
       (λ k.
-        by-test (eqb (kind s) 2)
-        (λ j.
-          let room : 16 ≤ length s = omega (arith, size-join-least (eqb-true (kind s) 2 j)) in
-          by-test (eqb (presence s) 1)
-          (λ p. rw (first, word-at-front s behind 12 room, k, j, p) refl)
-          (λ p. rw (first, word-at-front s behind 12 room, k, j, p) refl))
-        (λ j. by-test (eqb (kind s) 3) (λ p. rw (first, k, j, p) refl) (λ p. rw (first, k, j, p) refl)))
+      by-test (eqb (kind s) 2)
+      (λ j.
+      let room : 16 ≤ length s = omega (arith, size-join-least (eqb-true (kind s) 2 j)) in
+      by-test (eqb (presence s) 1)
+      (λ p. rw (first, word-at-front s behind 12 room, k, j, p) refl)
+      (λ p. rw (first, word-at-front s behind 12 room, k, j, p) refl))
+      (λ j. by-test (eqb (kind s) 3) (λ p. rw (first, k, j, p) refl) (λ p. rw (first, k, j, p) refl)))
 
   -- a JOIN under 16 has the wrong length, whatever would be its presence
   pub join-short : kind s ≡ 2 → 4 ≤ length s → length s < 16 → read s ≡ Refused Length

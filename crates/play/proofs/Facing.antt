@@ -76,11 +76,12 @@ module _ (k : Office) (i : ℕ) (u : Outcome) (store ws : List ℕ) (F : Faced k
   pub counts-fit : (a b c : ℕ) → a ≤ 1 → b ≤ 1 → c ≤ 1 → (i < 7) × (k .sent + a < 4096) × (k .proposals + b < 4096) × (k .decisions + c < 4096)
   counts-fit a b c p q r =
       let G = F .standing in
-      let seven : G .z .n ≤ 7 = allowed-seven (G .z .n) (G .lent .allowed-size) in
-      ( omega (arith, F .took .at, F .took .member),
+      let seven : G .z .n ≤ 7 = allowed-seven (G .z .n) (G .lent .allowed-size) in (
+        omega (arith, F .took .at, F .took .member),
         omega (arith, sent-few (G .z) (G .o) k store ws (G .lent) (G .reached) (G .stands)),
         omega (arith, faced-proposals),
-        omega (arith, decisions-few (G .z) (G .o) k store ws (G .lent) (G .reached) (G .stands)) )
+        omega (arith, decisions-few (G .z) (G .o) k store ws (G .lent) (G .reached) (G .stands)),
+      )
 
   pub put-room : k .sent < length store / 28 → 28 * k .sent + 28 ≤ length store
   put-room h = omega arith
@@ -96,7 +97,7 @@ module _ (k : Office) (i : ℕ) (u : Outcome) (store ws : List ℕ) (F : Faced k
       let K = office-kept in
       let M = K .each (at-member (F .e)) (T .member) in
       let same : u ≡ sound-step (member-at (G .z) (G .o) (at-member (F .e))) (event-of (G .o) (F .e)) =
-          T .equals ∙ step-is-sound (G .z) (G .o) K (F .e) (T .member) (T .there) in
+      T .equals ∙ step-is-sound (G .z) (G .o) K (F .e) (T .member) (T .there) in
       step-kept (member-at (G .z) (G .o) (at-member (F .e))) (event-of (G .o) (F .e)) (M .seven) (M .is-sound) (event-fits (G .z) (G .o) K (F .e) (T .there)) .sent-in-range g
       (subst (λ (v : Outcome). g ∈ v .sent) same m)
 

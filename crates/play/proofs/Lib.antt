@@ -5,3 +5,4 @@ pub mod Arms
 pub mod Facing
 pub mod Working
 pub mod Running
+pub mod Giving

@@ -76,10 +76,11 @@ pub record Running (list store₀ ws₀ answered₀ : List ℕ) (count : ℕ) (s
 pub list-parts : (list : List ℕ) → list-fits list ≡ true → (8 ≤ length list) × (count-of list ≤ 1000) × (exact (count-of list) (body list) ≡ true)
 unfolding list-fits
 list-parts list h =
-    let r = and-right (leb 8 (length list)) (leb (count-of list) 1000 && exact (count-of list) (body list)) h in
-    ( leb-true 8 (length list) (and-left (leb 8 (length list)) (leb (count-of list) 1000 && exact (count-of list) (body list)) h),
+    let r = and-right (leb 8 (length list)) (leb (count-of list) 1000 && exact (count-of list) (body list)) h in (
+      leb-true 8 (length list) (and-left (leb 8 (length list)) (leb (count-of list) 1000 && exact (count-of list) (body list)) h),
       leb-true (count-of list) 1000 (and-left (leb (count-of list) 1000) (exact (count-of list) (body list)) r),
-      and-right (leb (count-of list) 1000) (exact (count-of list) (body list)) r )
+      and-right (leb (count-of list) 1000) (exact (count-of list) (body list)) r,
+    )
 
 module _ (list store₀ ws₀ answered₀ : List ℕ) (D : Ready list store₀ ws₀ answered₀) where
   -- at first
@@ -87,30 +88,32 @@ module _ (list store₀ ws₀ answered₀ : List ℕ) (D : Ready list store₀ w
       Running list store₀ ws₀ answered₀ count store₀ ws₀ answered₀ k 0 8 0
   unfolding events-in behind first-office ended-from answers zeros fresh-office proposals decisions calls after
   running-first b count k ec ek =
-      record
-        { ready = D;
-          bytes = b;
-          count-is = ec;
-          within = omega arith;
-          at-within = list-parts list (D .fits) .0;
-          place = refl;
-          stands =
+      record {
+        ready = D;
+        bytes = b;
+        count-is = ec;
+        within = omega arith;
+        at-within = list-parts list (D .fits) .0;
+        place = refl;
+        stands =
             subst (λ j. Stands (sizes-of list store₀ ws₀) (first-office (members-of list)) j store₀ ws₀) (sym ek)
-            (record
-              { size = refl;
-                seven = refl;
-                members = fresh-front (members-of list) 0 (members-of list) 7 (allowed-seven (members-of list) (D .members));
-                sent = refl;
-                proposed = refl;
-                decided = refl;
-                messages = D .cleared;
-                nodes-are = D .is-fresh });
-          store-long = refl;
-          table-long = refl;
-          answers-long = refl;
-          said = refl;
-          counted = refl;
-          few = omega arith }
+            (record {
+              size = refl;
+              seven = refl;
+              members = fresh-front (members-of list) 0 (members-of list) 7 (allowed-seven (members-of list) (D .members));
+              sent = refl;
+              proposed = refl;
+              decided = refl;
+              messages = D .cleared;
+              nodes-are = D .is-fresh;
+            });
+        store-long = refl;
+        table-long = refl;
+        answers-long = refl;
+        said = refl;
+        counted = refl;
+        few = omega arith;
+      }
 
 -- in a turn
 module _ (list store₀ ws₀ answered₀ : List ℕ) (count : ℕ) (store ws answered : List ℕ) (office : Office) (accepted at k : ℕ)
@@ -118,12 +121,13 @@ module _ (list store₀ ws₀ answered₀ : List ℕ) (count : ℕ) (store ws an
   lent : Lent (sizes-of list store₀ ws₀) store ws
   lent =
       let D = G .ready in
-      record
-        { allowed-size = D .members;
-          store-length = same-sized store₀ store (sym (G .store-long)) (D .store-length);
-          store-rows = ap (λ n. n / 28) (sym (G .store-long));
-          table-length = same-table ws₀ ws (sym (G .table-long)) (D .table-length);
-          table-rows = ap (λ n. n / 4) (sym (G .table-long)) }
+      record {
+        allowed-size = D .members;
+        store-length = same-sized store₀ store (sym (G .store-long)) (D .store-length);
+        store-rows = ap (λ n. n / 28) (sym (G .store-long));
+        table-length = same-table ws₀ ws (sym (G .table-long)) (D .table-length);
+        table-rows = ap (λ n. n / 4) (sym (G .table-long));
+      }
 
   reached : Reached (sizes-of list store₀ ws₀) (ended (sizes-of list store₀ ws₀) (events-in k (body list)))
   reached = record { events = events-in k (body list); is = refl; offers = offers-small k (body list) (bytes-left 8 list (G .bytes)) }
@@ -161,25 +165,26 @@ module _ (list store₀ ws₀ answered₀ : List ℕ) (count : ℕ) (store ws an
       let A = answers z o es in
       let along : answers z o (events-in (k + 1) (body list)) ≡ A ++ number ∷ [] = ap (answers z o) more ∙ answers-last z o es e ∙ ap (λ n. A ++ n ∷ []) (sym (N .number-is)) in
       let long : length A ≡ k = length-answers z o es ∙ length-events k (body list) in
-      record
-        { ready = G .ready;
-          bytes = G .bytes;
-          count-is = G .count-is;
-          within = omega arith;
-          at-within = at-next h;
-          place =
+      record {
+        ready = G .ready;
+        bytes = G .bytes;
+        count-is = G .count-is;
+        within = omega arith;
+        at-within = at-next h;
+        place =
             sym (drop-drop (event-size (drop at list)) at list) ∙ ap rest (G .place) ∙ sym (behind-suc k (body list)) ∙ ap (λ n. behind n (body list)) (sym (add-one k));
-          stands = subst (λ l. Stands z (ended z l) office′ store′ ws′) (sym more) (subst (λ p. Stands z p office′ store′ ws′) (sym (after-last z o es e)) (N .stands));
-          store-long = ls ∙ G .store-long;
-          table-long = lw ∙ G .table-long;
-          answers-long = length-set answered k number ∙ G .answers-long;
-          said =
+        stands = subst (λ l. Stands z (ended z l) office′ store′ ws′) (sym more) (subst (λ p. Stands z p office′ store′ ws′) (sym (after-last z o es e)) (N .stands));
+        store-long = ls ∙ G .store-long;
+        table-long = lw ∙ G .table-long;
+        answers-long = length-set answered k number ∙ G .answers-long;
+        said =
             ap (λ l. set l k number) (G .said ∙ ap (λ l. A ++ l) (drop-cons answered₀ k 0 (omega (arith, G .ready .room, G .count-is)))) ∙
             set-at A (getD answered₀ k 0) (drop (suc k) answered₀) number k long ∙
             sym (ap (λ l. l ++ drop (k + 1) answered₀) along ∙ append-assoc A (number ∷ []) (drop (k + 1) answered₀) ∙ ap (λ n. A ++ number ∷ drop n answered₀) (add-one k));
-          counted =
+        counted =
             ap (λ n. n + one number) (G .counted) ∙ sym (ap zeros along ∙ zeros-append A (number ∷ []) ∙ ap (λ n. zeros A + n) (zeros-one number));
-          few = omega (arith, G .few, one-most number) }
+        few = omega (arith, G .few, one-most number);
+      }
 
   -- the same of what the turn read: the rest of the list, its event's size, and 1 or 0
   pub running-next : k < count → (r : List ℕ) → r ≡ drop at list → (office′ : Office) (number n m : ℕ) (store′ ws′ : List ℕ) → n ≡ one number → m ≡ event-size r →
@@ -191,10 +196,11 @@ module _ (list store₀ ws₀ answered₀ : List ℕ) (count : ℕ) (store ws an
 
   pub counts-small : (office .sent ≤ 2000) × (office .proposals < 256) × (office .decisions < 256)
   counts-small =
-      let S = standing in
-      ( sent-few (S .z) (S .o) office store ws (S .lent) (S .reached) (S .stands),
+      let S = standing in (
+        sent-few (S .z) (S .o) office store ws (S .lent) (S .reached) (S .stands),
         proposals-few (S .z) (S .o) office store ws (S .lent) (S .reached) (S .stands),
-        decisions-few (S .z) (S .o) office store ws (S .lent) (S .reached) (S .stands) )
+        decisions-few (S .z) (S .o) office store ws (S .lent) (S .reached) (S .stands),
+      )
 
   -- after the last event
   pub ran : count ≤ k →
@@ -207,11 +213,12 @@ module _ (list store₀ ws₀ answered₀ : List ℕ) (count : ℕ) (store ws an
       let all : events-in k (body list) ≡ events-in (count-of list) (body list) = ap (λ n. events-in n (body list)) e in
       let long : length (events-in (count-of list) (body list)) ≡ count-of list = length-events (count-of list) (body list) in
       let S : Stands z (ended z (events-in (count-of list) (body list))) office store ws = subst (λ l. Stands z (ended z l) office store ws) all (G .stands) in
-      record
-        { answers-are = G .said ∙ ap (λ l. answers z (first-office (members-of list)) l ++ drop k answered₀) all ∙ ap (λ n. answers z (first-office (members-of list)) (events-in (count-of list) (body list)) ++ drop n answered₀) (e ∙ sym long);
-          store-is = S .messages ∙ ap (λ n. stored n (ended z (events-in (count-of list) (body list)) .sent)) (G .store-long);
-          table-is = S .nodes-are ∙ ap (λ n. table n (tree z (ended z (events-in (count-of list) (body list))))) (G .table-long);
-          accepted-is = G .counted ∙ ap (λ l. zeros (answers z (first-office (members-of list)) l)) all;
-          messages-are = S .sent;
-          proposals-made = S .proposed;
-          decisions-made = S .decided }
+      record {
+        answers-are = G .said ∙ ap (λ l. answers z (first-office (members-of list)) l ++ drop k answered₀) all ∙ ap (λ n. answers z (first-office (members-of list)) (events-in (count-of list) (body list)) ++ drop n answered₀) (e ∙ sym long);
+        store-is = S .messages ∙ ap (λ n. stored n (ended z (events-in (count-of list) (body list)) .sent)) (G .store-long);
+        table-is = S .nodes-are ∙ ap (λ n. table n (tree z (ended z (events-in (count-of list) (body list))))) (G .table-long);
+        accepted-is = G .counted ∙ ap (λ l. zeros (answers z (first-office (members-of list)) l)) all;
+        messages-are = S .sent;
+        proposals-made = S .proposed;
+        decisions-made = S .decided;
+      }

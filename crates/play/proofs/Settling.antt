@@ -92,15 +92,16 @@ module _ (z : Sizes) (o : ModelOffice) (e : Event) (i : ℕ) (u : Outcome) (T : 
   goes-on k store nodes store′ nodes′ a b c S zero-answer ea eb ec es en =
       let t : eqb (answer z o e) 0 ≡ true = eq-eqb (answer z o e) 0 zero-answer in
       let S′ : Stands z (taken z o e) (counted k i (u .state) a b c) store′ nodes′ =
-          record
-            { size = S .size;
-              seven = length-set (k .members) i (u .state) ∙ S .seven;
-              members =
-                rw (T .at)
-                (take-set-lt (z .n) (k .members) (at-member e) (u .state) (T .member) ∙ rw (S .members, T .equals) refl);
-              sent = rw (← (T .equals)) (ap (λ x. x + a) (S .sent) ∙ rw (← ea) (sym (length-append (o .sent) (u .sent))));
-              proposed = rw (← (T .equals)) (ap (λ x. x + b) (S .proposed) ∙ rw (← eb) (sym (proposals-append (o .made) (made-by (u .named)))));
-              decided = rw (← (T .equals)) (ap (λ x. x + c) (S .decided) ∙ rw (← ec) (sym (decisions-append (o .made) (made-by (u .named)))));
-              messages = rw (← (T .equals)) es;
-              nodes-are = en } in
+      record {
+        size = S .size;
+        seven = length-set (k .members) i (u .state) ∙ S .seven;
+        members =
+            rw (T .at)
+            (take-set-lt (z .n) (k .members) (at-member e) (u .state) (T .member) ∙ rw (S .members, T .equals) refl);
+        sent = rw (← (T .equals)) (ap (λ x. x + a) (S .sent) ∙ rw (← ea) (sym (length-append (o .sent) (u .sent))));
+        proposed = rw (← (T .equals)) (ap (λ x. x + b) (S .proposed) ∙ rw (← eb) (sym (proposals-append (o .made) (made-by (u .named)))));
+        decided = rw (← (T .equals)) (ap (λ x. x + c) (S .decided) ∙ rw (← ec) (sym (decisions-append (o .made) (made-by (u .named)))));
+        messages = rw (← (T .equals)) es;
+        nodes-are = en;
+      } in
       record { number-is = sym zero-answer; stands = rw t S′ }

@@ -72,13 +72,14 @@ module _ (z : Sizes) (o : ModelOffice) (k : Office) (store ws : List ℕ) (L : L
   took e i d v s a l u q P =
       let within : at-member e < z .n = omega (arith, S .size) in
       let here : getD (k .members) i d ≡ member-at z o (at-member e) = ap (λ j. getD (k .members) j d) a ∙ member-held z o k store ws L R S (at-member e) d within in
-      record
-        { at = a;
-          member = within;
-          there = u;
-          equals =
+      record {
+        at = a;
+        member = within;
+        there = u;
+        equals =
             P .equals ∙ ap (λ m. sound-step m v) here ∙ ap (sound-step (member-at z o (at-member e))) q ∙
-            sym (step-is-sound z o (kept z o k store ws L R S) e within u) }
+            sym (step-is-sound z o (kept z o k store ws L R S) e within u);
+      }
 
   pub took-start : (i r x : ℕ) (d : MemberState) (s : Step) → i < k .n → Stepped (getD (k .members) i d) (starts (round r) x) s → Took z o (start i r x) i (step-outcome s)
   took-start i r x d s l P = took (start i r x) i d (starts (round r) x) s refl l refl refl P

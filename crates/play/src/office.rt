@@ -63,7 +63,14 @@ pub fn fresh_office(n: u32) -> Office
 }
 
 // The office with member i's new record, and so much more sent, proposed and decided.
-fn counted(office: Office, i: usize, m: MemberState, sent: usize, proposals: usize, decisions: usize) -> Office
+fn counted(
+    office: Office,
+    i: usize,
+    m: MemberState,
+    sent: usize,
+    proposals: usize,
+    decisions: usize,
+) -> Office
     requires { ⌜ (i < 7) × (office .sent + sent < 4096) × (office .proposals + proposals < 4096) × (office .decisions + decisions < 4096) ⌝ }
     ensures { λ k. ⌜ k ≡ counted office i m sent proposals decisions ⌝ }
 {
@@ -136,7 +143,14 @@ fn settle(office: Office, i: usize, s: Step, messages: &mut [u8], nodes: &mut [u
 }
 
 // A start: 29, or the member's step.
-fn work_start(office: Office, member: Member, round: Round, offer: u64, messages: &mut [u8], nodes: &mut [u64]) -> Worked
+fn work_start(
+    office: Office,
+    member: Member,
+    round: Round,
+    offer: u64,
+    messages: &mut [u8],
+    nodes: &mut [u64],
+) -> Worked
     requires { ⌜ Standing office (now messages) (now nodes) ⌝ }
     ensures { λ w. ⌜ Works office (start (member .0) (round .0) offer) (now (messages .entry)) (now (nodes .entry)) (w .office) (w .number) (now (messages .exit)) (now (nodes .exit)) ⌝ }
 {
@@ -150,7 +164,13 @@ fn work_start(office: Office, member: Member, round: Round, offer: u64, messages
 }
 
 // A delivery: 29, or the member's step at the message of that row.
-fn work_deliver(office: Office, message: u32, member: Member, messages: &mut [u8], nodes: &mut [u64]) -> Worked
+fn work_deliver(
+    office: Office,
+    message: u32,
+    member: Member,
+    messages: &mut [u8],
+    nodes: &mut [u64],
+) -> Worked
     requires { ⌜ Standing office (now messages) (now nodes) ⌝ }
     ensures { λ w. ⌜ Works office (deliver message (member .0)) (now (messages .entry)) (now (nodes .entry)) (w .office) (w .number) (now (messages .exit)) (now (nodes .exit)) ⌝ }
 {
@@ -187,6 +207,12 @@ pub fn work(office: Office, e: Event, messages: &mut [u8], nodes: &mut [u64]) ->
             round,
             offer,
         } => work_start(office, member, round, offer, messages, nodes),
-        Event::Deliver { message, member } => work_deliver(office, message, member, messages, nodes),
+        Event::Deliver { message, member } => work_deliver(
+            office,
+            message,
+            member,
+            messages,
+            nodes,
+        ),
     }
 }

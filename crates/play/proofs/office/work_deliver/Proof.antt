@@ -11,16 +11,16 @@ use Rattle.play.proofs.office.work_deliver.Tie as tie
 returns : tie.Need-returns
 returns c =
     λ z o L R S.
-      let s = c .before .before .before .before in
-      let a = s .args in
-      no-member z o (a .t1) (now (a .messages)) (now (a .nodes)) L R S (deliver (a .message) (a .member .0)) (c .if1 .taken)
+    let s = c .before .before .before .before in
+    let a = s .args in
+    no-member z o (a .t1) (now (a .messages)) (now (a .nodes)) L R S (deliver (a .message) (a .member .0)) (c .if1 .taken)
 
 returns-2 : tie.Need-returns-2
 returns-2 c =
     λ z o L R S.
-      let s = c .before .before .before .before .before in
-      let a = s .args in
-      no-message z o (a .t1) (now (a .messages)) (now (a .nodes)) L R S (a .message) (a .member .0) (c .before .if1 .left) (c .if2 .taken)
+    let s = c .before .before .before .before .before in
+    let a = s .args in
+    no-message z o (a .t1) (now (a .messages)) (now (a .nodes)) L R S (a .message) (a .member .0) (c .before .if1 .left) (c .if2 .taken)
 
 fetch-requires : tie.Need-fetch-requires
 fetch-requires c κs =
@@ -69,10 +69,11 @@ settle-requires c κs =
     let a = s .args in
     let G = s .pre in
     let read = read-here (G .z) (G .o) (a .t1) (now (a .messages)) (now (a .nodes)) (G .lent) (G .reached) (G .stands) (a .message) (c .before .before .before .before .before .before .before .before .before .before .if2 .left) _ (c .before .before .before .before .before .before .before .before .fetch .ensures) _ (c .before .before .before .before .before .before .got2 .given .1) in
-    record
-      { standing = G;
-        e = deliver (a .message) (a .member .0);
-        took = took-deliver (G .z) (G .o) (a .t1) (now (a .messages)) (now (a .nodes)) (G .lent) (G .reached) (G .stands) (a .message) (a .member .0) _ _ _ (c .before .before .before .before .before .before .before .before .before .before .before .if1 .left) (c .before .before .before .before .before .before .before .before .before .before .if2 .left) (read .0) (c .before .before .deliver-sound .ensures) }
+    record {
+      standing = G;
+      e = deliver (a .message) (a .member .0);
+      took = took-deliver (G .z) (G .o) (a .t1) (now (a .messages)) (now (a .nodes)) (G .lent) (G .reached) (G .stands) (a .message) (a .member .0) _ _ _ (c .before .before .before .before .before .before .before .before .before .before .before .if1 .left) (c .before .before .before .before .before .before .before .before .before .before .if2 .left) (read .0) (c .before .before .deliver-sound .ensures);
+    }
 
 same-length : tie.Need-same-length
 same-length c = search needs
@@ -80,10 +81,10 @@ same-length c = search needs
 returns-3 : tie.Need-returns-3
 returns-3 c =
     λ z o L R S.
-      let s = c .before .before .before .before .before .before .before .before .before .before .before in
-      let a = s .args in
-      let f = c .before .before .before .before in
-      never-refused z o (a .t1) (now (a .messages)) (now (a .nodes)) L R S (a .message) (c .before .before .before .before .before .before .if2 .left) _ (f .fetch .ensures) _ (c .before .before .got .given .1)
+    let s = c .before .before .before .before .before .before .before .before .before .before .before in
+    let a = s .args in
+    let f = c .before .before .before .before in
+    never-refused z o (a .t1) (now (a .messages)) (now (a .nodes)) L R S (a .message) (c .before .before .before .before .before .before .if2 .left) _ (f .fetch .ensures) _ (c .before .before .got .given .1)
 
 same-length-2 : tie.Need-same-length-2
 same-length-2 c = search needs
@@ -94,12 +95,12 @@ same-length-3 c = search needs
 returns-4 : tie.Need-returns-4
 returns-4 c =
     λ z o L R S.
-      let s = c .before .before .before .before .before .before .before .before .before .before .before .before .before .before .before .before .before .before .before .before in
-      let a = s .args in
-      let t = c .before .before .before .before in
-      let read = read-here z o (a .t1) (now (a .messages)) (now (a .nodes)) L R S (a .message) (c .before .before .before .before .before .before .before .before .before .before .before .before .before .before .before .if2 .left) _ (c .before .before .before .before .before .before .before .before .before .before .before .before .before .fetch .ensures) _ (c .before .before .before .before .before .before .before .before .before .before .before .got2 .given .1) in
-      t .settle .ensures z o (deliver (a .message) (a .member .0)) L R S
-      (took-deliver z o (a .t1) (now (a .messages)) (now (a .nodes)) L R S (a .message) (a .member .0) _ _ _ (c .before .before .before .before .before .before .before .before .before .before .before .before .before .before .before .before .if1 .left) (c .before .before .before .before .before .before .before .before .before .before .before .before .before .before .before .if2 .left) (read .0) (c .before .before .before .before .before .before .before .deliver-sound .ensures))
+    let s = c .before .before .before .before .before .before .before .before .before .before .before .before .before .before .before .before .before .before .before .before in
+    let a = s .args in
+    let t = c .before .before .before .before in
+    let read = read-here z o (a .t1) (now (a .messages)) (now (a .nodes)) L R S (a .message) (c .before .before .before .before .before .before .before .before .before .before .before .before .before .before .before .if2 .left) _ (c .before .before .before .before .before .before .before .before .before .before .before .before .before .fetch .ensures) _ (c .before .before .before .before .before .before .before .before .before .before .before .got2 .given .1) in
+    t .settle .ensures z o (deliver (a .message) (a .member .0)) L R S
+    (took-deliver z o (a .t1) (now (a .messages)) (now (a .nodes)) L R S (a .message) (a .member .0) _ _ _ (c .before .before .before .before .before .before .before .before .before .before .before .before .before .before .before .before .if1 .left) (c .before .before .before .before .before .before .before .before .before .before .before .before .before .before .before .if2 .left) (read .0) (c .before .before .before .before .before .before .before .deliver-sound .ensures))
 
 pub work-deliver-spec : {M : Type 1} → statement M
 work-deliver-spec =

@@ -10,9 +10,9 @@ use Rattle.play.proofs.office.work_start.Tie as tie
 returns : tie.Need-returns
 returns c =
     λ z o L R S.
-      let s = c .before .before .before .before in
-      let a = s .args in
-      no-member z o (a .t1) (now (a .messages)) (now (a .nodes)) L R S (start (a .member .0) (a .round .0) (a .offer)) (c .if1 .taken)
+    let s = c .before .before .before .before in
+    let a = s .args in
+    no-member z o (a .t1) (now (a .messages)) (now (a .nodes)) L R S (start (a .member .0) (a .round .0) (a .offer)) (c .if1 .taken)
 
 cast-i : tie.Need-cast-i
 cast-i c = search needs
@@ -39,10 +39,11 @@ settle-requires c κs =
     let s = c .before .before .before .before .before .before .before .before .before in
     let a = s .args in
     let G = s .pre in
-    record
-      { standing = G;
-        e = start (a .member .0) (a .round .0) (a .offer);
-        took = took-start (G .z) (G .o) (a .t1) (now (a .messages)) (now (a .nodes)) (G .lent) (G .reached) (G .stands) (a .member .0) (a .round .0) (a .offer) _ _ (c .before .before .before .before .before .if1 .left) (c .before .before .start-sound .ensures) }
+    record {
+      standing = G;
+      e = start (a .member .0) (a .round .0) (a .offer);
+      took = took-start (G .z) (G .o) (a .t1) (now (a .messages)) (now (a .nodes)) (G .lent) (G .reached) (G .stands) (a .member .0) (a .round .0) (a .offer) _ _ (c .before .before .before .before .before .if1 .left) (c .before .before .start-sound .ensures);
+    }
 
 same-length : tie.Need-same-length
 same-length c = search needs
@@ -53,11 +54,11 @@ same-length-2 c = search needs
 returns-2 : tie.Need-returns-2
 returns-2 c =
     λ z o L R S.
-      let s = c .before .before .before .before .before .before .before .before .before .before .before .before .before .before in
-      let a = s .args in
-      let t = c .before .before .before .before in
-      t .settle .ensures z o (start (a .member .0) (a .round .0) (a .offer)) L R S
-      (took-start z o (a .t1) (now (a .messages)) (now (a .nodes)) L R S (a .member .0) (a .round .0) (a .offer) _ _ (c .before .before .before .before .before .before .before .before .before .before .if1 .left) (c .before .before .before .before .before .before .before .start-sound .ensures))
+    let s = c .before .before .before .before .before .before .before .before .before .before .before .before .before .before in
+    let a = s .args in
+    let t = c .before .before .before .before in
+    t .settle .ensures z o (start (a .member .0) (a .round .0) (a .offer)) L R S
+    (took-start z o (a .t1) (now (a .messages)) (now (a .nodes)) L R S (a .member .0) (a .round .0) (a .offer) _ _ (c .before .before .before .before .before .before .before .before .before .before .if1 .left) (c .before .before .before .before .before .before .before .start-sound .ensures))
 
 pub work-start-spec : {M : Type 1} → statement M
 work-start-spec =
