@@ -3,6 +3,8 @@
 use libc::STDIN_FILENO;
 use libc::STDOUT_FILENO;
 use play::answers::PlayAnswer;
+ghost use Prim.Native.Nat.{_+_, _*_, _≤_};
+ghost use lib.ListN.{length};
 
 fn write_number(n: u64) {
     io::print_decimal(STDOUT_FILENO, n);
@@ -30,16 +32,23 @@ fn write_answers(answered: &[u8]) {
     end_line();
 }
 
+// A node on a line.
+fn write_node(nodes: &[u64], i: usize)
+    requires { ⌜ 4 * i + 4 ≤ length (now nodes) ⌝ }
+{
+    write_next(table::round_at(nodes, i), true);
+    write_next(table::parent_at(nodes, i), false);
+    write_next(table::value_at(nodes, i), false);
+    write_next(table::status_at(nodes, i), false);
+    end_line();
+}
+
 // A line for each node.
 fn write_nodes(nodes: &[u64]) {
     let n = table::used_rows(nodes);
     let mut i = 0;
     while i < n {
-        write_next(table::round_at(nodes, i), true);
-        write_next(table::parent_at(nodes, i), false);
-        write_next(table::value_at(nodes, i), false);
-        write_next(table::status_at(nodes, i), false);
-        end_line();
+        write_node(nodes, i);
         i += 1;
     }
 }
@@ -56,7 +65,7 @@ fn rehearse(list: &[u8], messages: &mut [u8], nodes: &mut [u64], answered: &mut 
             if 8 <= list.len() {
                 let count = xdr::word_at(list, 4) as usize;
                 if count <= answered.len() {
-                    write_answers(&answered[..count]);
+                    write_answers(&answered[0..count]);
                     write_nodes(nodes);
                 }
             }
