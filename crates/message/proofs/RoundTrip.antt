@@ -17,7 +17,7 @@ use Rattle.laws.specs.Answers.{number-kept}
 use Rattle.ids.specs.declared.Round.{Round}
 use Rattle.ids.specs.declared.Member.{Member}
 use Rattle.ids.specs.Ranges.{out-of-range, above-range, no-member}
-use Rattle.xdr.specs.Words.{Bytes, word, word-at, hyper-at}
+use Rattle.xdr.specs.Words.{Bytes, word-at, hyper-at}
 use Rattle.xdr.specs.Items.{Item, integer, long, encoded, Stand}
 use Rattle.xdr.proofs.Laws.{hyper-at-small}
 use Rattle.xdr.proofs.Items.{length-encoded, integer-found, long-found, stands}
@@ -243,9 +243,3 @@ written-reads-back m old n v h =
     let (room, (ranged, end)) = passed (writer-row m old) refl ok in
     let fits : in-range m ≡ true = not-false (in-range m) ranged in
     (fits, simp (room, fits, take-at (bytes m) (drop (length (bytes m)) old) n size) (reads-back m v fits))
-
--- P12 of 01: JOIN words 2, 5, 0 get 14; 2, 5, 0, 0 are accepted
-pub p12 : (read-number (read (encoded (integer 2 ∷ integer 5 ∷ integer 0 ∷ []))) ≡ 14) ×
-    (read (encoded (integer 2 ∷ integer 5 ∷ integer 0 ∷ integer 0 ∷ [])) ≡ Got (Join (record { 0 = 5 }) (record { 0 = 0 })))
-unfolding read size decoded encoded word word-at
-p12 = (refl, refl)

@@ -1,4 +1,5 @@
 -- The third demand about the model.
+pub mod Cases
 pub mod Rehearsal
 pub mod Senders
 pub mod Kept

@@ -1,5 +1,4 @@
 -- Theorems about the quorum tree.
-pub mod Rig
 pub mod Nodes
 pub mod Grown
 pub mod Paths
