@@ -2,23 +2,24 @@
 use mathlib.Core.Bool.{not}
 use mathlib.Core.List.{List, [], _∷_, _++_}
 use Prim.Native.Nat.{ℕ}
+use lib.ListN.{length}
+use lib.Dec.{ltb}
 use Rattle.laws.specs.First.{Cause, _gives_}
 use Rattle.ids.specs.declared.Round.{Round}
 use Rattle.ids.specs.declared.Member.{Member}
 use Rattle.message.specs.Reading.{decoded, message-row}
-use Rattle.message.specs.Writing.{short-buffer}
 use Rattle.member.specs.declared.MemberState.{MemberState}
 use Rattle.member.specs.Record.{sound, sound-number}
 use Rattle.member.specs.Record as record-of
 use Rattle.member.specs.Table.{Outcome, unless, silent, start, deliver, sound-step}
 
--- 17 not sound; 18 reply buffer under 28 bytes
-abbrev pub record-row : MemberState → List ℕ → List Cause
-record-row m old = not (sound m) gives 17 ∷ short-buffer old gives 18 ∷ []
+-- 17 not sound; 18 a reply buffer of n bytes is under 28
+abbrev pub record-row : MemberState → ℕ → List Cause
+record-row m n = not (sound m) gives 17 ∷ ltb n 28 gives 18 ∷ []
 
 -- a call with this reply buffer: that row, then further causes; else the step
 abbrev pub call : MemberState → List ℕ → List Cause → Outcome → Outcome
-call m old cs o = unless (record-row m old ++ cs) m o
+call m old cs o = unless (record-row m (length old) ++ cs) m o
 
 -- start(r, offer): the round and start rows are the step's own
 unfoldable pub start-call : MemberState → Round → ℕ → List ℕ → Outcome

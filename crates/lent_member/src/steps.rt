@@ -15,11 +15,12 @@ ghost use mathlib.Core.Bool.{true};
 ghost use mathlib.Core.List.{[], _∷_};
 ghost use Prim.Native.Nat.{_≤_};
 ghost use lib.ListN.{length};
+ghost use Rattle.laws.specs.First.{first};
 ghost use Rattle.message.specs.Fields.{in-range};
 ghost use Rattle.member.specs.Table.{refused};
 ghost use Rattle.member.specs.Answers.{outcome};
 ghost use Rattle.member.specs.Kept.{Kept};
-ghost use Rattle.lent_member.specs.Calls.{fresh-call, start-call, deliver-call};
+ghost use Rattle.lent_member.specs.Calls.{record-row, fresh-call, start-call, deliver-call};
 ghost use Rattle.lent_member.specs.Reports.{sent-length, reply-after, Answers, Replies};
 
 // The causes of the row "record, then buffer".
@@ -105,21 +106,32 @@ pub fn fresh_into(m: MemberState, me: Member, n: u32) -> Called
 {
     let s = member::fresh(me, n);
     let fresh = s.state;
-    if !member::is_sound(fresh) {
-        return refuse(m, NOT_SOUND);
+    if member::is_sound(fresh) {
+        return report(fresh, 0, 0, Round(0), 0, Round(0));
     }
-    report(fresh, 0, 0, Round(0), 0, Round(0))
+    refuse(m, NOT_SOUND)
+}
+
+// The first number of the row "record, then buffer" whose cause holds, else 0. The buffer is asked for even where nothing would be sent.
+fn record_number(m: MemberState, room: usize) -> u32
+    ensures { λ k. ⌜ k ≡ first (record-row m room) ⌝ }
+{
+    if !member::is_sound(m) {
+        return NOT_SOUND;
+    }
+    if room < LONGEST {
+        return SHORT_BUFFER;
+    }
+    0
 }
 
 // start(r, offer).
 pub fn start_into(m: MemberState, r: Round, offer: u64, reply: &mut [u8]) -> Called
     ensures { λ c. ⌜ Replies (start-call m r offer (now (reply .entry))) (now (reply .entry)) (c .state) (c .report) (now (reply .exit)) ⌝ }
 {
-    if !member::is_sound(m) {
-        return refuse(m, NOT_SOUND);
-    }
-    if reply.len() < LONGEST {
-        return refuse(m, SHORT_BUFFER);
+    let number = record_number(m, reply.len());
+    if number != 0 {
+        return refuse(m, number);
     }
     tell(member::start_sound(m, r, offer), reply)
 }
@@ -128,11 +140,9 @@ pub fn start_into(m: MemberState, r: Round, offer: u64, reply: &mut [u8]) -> Cal
 pub fn deliver_into(m: MemberState, bytes: &[u8], reply: &mut [u8]) -> Called
     ensures { λ c. ⌜ Replies (deliver-call m (now (bytes .entry)) (now (reply .entry))) (now (reply .entry)) (c .state) (c .report) (now (reply .exit)) ⌝ }
 {
-    if !member::is_sound(m) {
-        return refuse(m, NOT_SOUND);
-    }
-    if reply.len() < LONGEST {
-        return refuse(m, SHORT_BUFFER);
+    let number = record_number(m, reply.len());
+    if number != 0 {
+        return refuse(m, number);
     }
     let read = message::read_message(bytes);
     match read {

@@ -1,5 +1,5 @@
 -- Items put through the writer: one leaves the bytes as many as they were, and one put behind others at the front is the longer front. Assumes nothing.
-use mathlib.Core.Path.{_≡_, sym, _∙_, refl}
+use mathlib.Core.Path.{_≡_, refl}
 use mathlib.Core.List.{List, [], _∷_, _++_}
 use Prim.Native.Nat.{ℕ, _+_, _≤_}
 use lib.ListN.{length}

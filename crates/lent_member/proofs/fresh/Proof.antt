@@ -1,5 +1,5 @@
 -- `lent_member::fresh` meets its contract: a walk of its MIR, by hand. The borrow of the record is opened, the record is copied out whole and passed to `fresh_into`, what came back is copied in, and the borrow is closed at it.
--- No field of the record is named: its laws come from the module that `rattle check` makes of it. All that the proof knows of `fresh_into` is that it meets its contract.
+-- No field of the record is named (`Lent.antt`). All that the proof knows of `fresh_into` is that it meets its contract.
 -- Assumes nothing.
 use mathlib.Core.Path.{refl, ap}
 use Prim.Native.Nat.{ℕ, _<_, _^_}
@@ -28,8 +28,7 @@ use denote.Plain.{uint-vals, uint-tells, uint-makes}
 use denote.Builtin.{u32}
 use denote.Ref.{RefT, MutRef, ptr-vals, mut-tells}
 use denote.Signature.{plain}
-use denote.Steps.{only, opens, closes, owned, peeks, heard, nothing}
-use denote.Struct.Steps.{spelt}
+use denote.Steps.{only, owned, peeks, heard, nothing}
 use denote.Struct.Laws as LL
 use denote.Triple.Entry.{onEntry}
 use denote.Triple.Spec.{Meets, tripleOf}
@@ -44,14 +43,13 @@ use Rattle.ids.proofs.Member as N
 use Rattle.ids.proofs.Member.Laws as N′
 use Rattle.member.specs.declared.MemberState.{MemberState}
 use Rattle.member.proofs.MemberState as T
-use Rattle.member.proofs.MemberState.Laws as T′
 use Rattle.lent_member.specs.declared.Called.{Called}
 use Rattle.lent_member.specs.Calls.{fresh-call}
 use Rattle.lent_member.specs.Reports.{Answers}
 use Rattle.lent_member.proofs.Called as K
 use Rattle.lent_member.proofs.Called.Laws as K′
 use Rattle.lent_member.proofs.Report as R
-use Rattle.lent_member.proofs.Report.Laws as R′
+use Rattle.lent_member.proofs.Lent.{vals, report-val, owned-record, owned-report, typed-record, typed-called, typed-report, state-is, report-is, copies-out, copies-in}
 use Rattle.lent_member.proofs.steps.fresh_into as into
 use Rattle.lent_member.proofs.steps.fresh_into.Symbol as into-def
 use Rattle.lent_member.proofs.steps.fresh_into.Met as into-thm
@@ -65,9 +63,6 @@ Arg = RefT MemberState × (Member × (ℕ × Unit {0}))
 
 abbrev stayed : Stays (f.ended .signature .params) (f.ended .kept)
 stayed = (stay-ref (0 ∷ []) tt (plain (λ _. T.the-row)), (stay-none (λ _. N.the-row) yes, (stay-none (λ _. u32) yes, tt)))
-
-abbrev vals : MemberState → List Val
-vals = LL.vals T.the-type T′.the-laws
 
 -- the contract that the proof cites
 abbrev Into : {M : Type 1} (𝓤 : URA M) (H : Heap 𝓤) (A : Atoms 𝓤) (at-mem : Memory → SProp 𝓤) (run : Routine → Fun 𝓤) → Contract 𝓤
@@ -101,16 +96,16 @@ module _ {M : Type 1} (𝓤 : URA M) (H : Heap 𝓤) (A : Atoms 𝓤) (W : Given
     goes-into : Is T.the-row h (vals h) → ent 𝓤 (emp 𝓤) (Into 𝓤 H A at-mem run .pre to-into)
     goes-into was =
         qed W [] ∵ nothing ! $ owned ! u32 (Is u32) (uint-makes 𝓤 H A W w32) n _ (refl, n-fits) $ fjoin ! $ owned ! N.the-row (Is N.the-row) (LL.makes N.the-type N′.the-plain 𝓤 H A) me _ me-is $ fjoin ! $
-        owned ! T.the-row (Is T.the-row) (LL.makes T.the-type T′.the-plain 𝓤 H A) h _ was $ fjoin ! $ nothing ! $ join ! $ frame ! $ done !
+        owned ! T.the-row (Is T.the-row) (owned-record 𝓤 H A W) h _ was $ fjoin ! $ nothing ! $ join ! $ frame ! $ done !
 
-    exits : (r : Called) → Said r → Is R.the-row (r .report) (LL.vals R.the-type R′.the-laws (r .report))
-        → ent 𝓤 (sep 𝓤 (A .obs γ (T.the-row .coded .code (r .state))) (sep 𝓤 (A .bor κ (Body (mem T.the-row) b o γ)) (A .lft κ q))) (Post (LL.val R.the-type R′.the-laws (r .report)))
+    exits : (r : Called) → Said r → Is R.the-row (r .report) (report-val (r .report) ∷ [])
+        → ent 𝓤 (sep 𝓤 (A .obs γ (T.the-row .coded .code (r .state))) (sep 𝓤 (A .bor κ (Body (mem T.the-row) b o γ)) (A .lft κ q))) (Post (report-val (r .report)))
     exits r e rep =
         qed W (‵ (fobs γ (T.the-row .coded .code (r .state))) ∷ ‵ (fbor κ (Body (mem T.the-row) b o γ)) ∷ ‵ (flft κ q) ∷ []) ∵
-        suffices ! _ (ends-at 𝓤 H A f.ended stayed (f.clauses 𝓤 H A at-mem run) W (((κ, tt), (q, tt), tt, x, at), tt) (LL.val R.the-type R′.the-laws (r .report)) (r .report) (r .state, (tt, (tt, tt))) (tt, (tt, (tt, tt)))) $ says ! e $
+        suffices ! _ (ends-at 𝓤 H A f.ended stayed (f.clauses 𝓤 H A at-mem run) W (((κ, tt), (q, tt), tt, x, at), tt) (report-val (r .report)) (r .report) (r .state, (tt, (tt, tt))) (tt, (tt, (tt, tt)))) $ says ! e $
         nothing ! $ move ! (3 ∷ 0 ∷ []) $ join ! $ frame ! $
         feqI ! (List Val) (vptr b o ∷ []) (vptr b o ∷ []) refl $ fjoin3 ! $ nothing ! $ owned ! u32 (Is u32) (uint-makes 𝓤 H A W w32) n _ (refl, n-fits) $ fjoin ! $ owned ! N.the-row (Is N.the-row) (LL.makes N.the-type N′.the-plain 𝓤 H A) me _ me-is $ fjoin ! $ move ! (1 ∷ 0 ∷ []) $ fjoin ! $
-        owned ! R.the-row (Is R.the-row) (LL.makes R.the-type R′.the-plain 𝓤 H A) (r .report) _ rep $ move ! (1 ∷ 0 ∷ []) $ done !
+        owned ! R.the-row (Is R.the-row) (owned-report 𝓤 H A W) (r .report) _ rep $ move ! (1 ∷ 0 ∷ []) $ done !
 
     module _ (C : Calls 𝓤 H) (Λ : Loops 𝓤 H) (fm : FmC 𝓤 H (W .laws) C) (known : Triple 𝓤 (C into-def.name) (Into 𝓤 H A at-mem run)) where
       walk : ent 𝓤 (onEntry 𝓤 H A f.signature (κ, tt) (q, tt) x at) (WpFn 𝓤 H C Λ code.function (vptr b o ∷ v-me ∷ vint w32 n ∷ []) Post)
@@ -120,23 +115,22 @@ module _ {M : Type 1} (𝓤 : URA M) (H : Heap 𝓤) (A : Atoms 𝓤) (W : Given
           enter ! C Λ code.function (vptr b o ∷ v-me ∷ vint w32 n ∷ []) _ $
           alloc1 ! (λ l₀. alloc1 ! (λ l₁. alloc1 ! (λ l₂. alloc1 ! (λ l₃. alloc1 ! (λ l₄. alloc1 ! (λ l₅. alloc0 ! $ params1 ! $
           pass1 ! (init ! 8 refl (tt, tt)) $ pass1 ! (init ! 6 refl (LL.lawful N.the-type N′.the-laws 𝓤 H A W .typed me _ me-is .0)) $ pass1 ! (init ! 4 refl (tt, record { fits = n-fits })) $ pass0 ! $
-          move ! (12 ∷ 13 ∷ 14 ∷ []) $ opens ! tt T.the-row {h = h} b o (λ vs. spelt ! T.the-row (Is T.the-row) (shows 𝓤 H A T.the-row) vals (LL.tells T.the-type T′.the-laws) fullShare h vs b o $
-          move ! (1 ∷ []) $ peeks ! T.the-row (Is T.the-row) (shows 𝓤 H A T.the-row) h (vals h) (λ was. move ! (1 ∷ 0 ∷ []) $
-          -- [the record's cell; what a record owns; the open borrow; obs; auth; _5; …; _4; …; _3; …; _2; …; _1; …; room for _0; …]
-          assigns ! (of-opd ! (load ! (from ! (hop ! (look ! 13 refl) (stop !))) (look-raw ! 0 refl))) (from ! (stop !)) (init ! 5 refl (LL.lawful T.the-type T′.the-laws 𝓤 H A W .typed h _ was .0)) $
+          move ! (12 ∷ 13 ∷ 14 ∷ []) $ copies-out ! tt h b o (λ was.
+          -- [the record's cell; the open borrow; obs; auth; _5; …; _4; …; _3; …; _2; …; _1; …; room for _0; …]
+          assigns ! (of-opd ! (load ! (from ! (hop ! (look ! 12 refl) (stop !))) (look-raw ! 0 refl))) (from ! (stop !)) (init ! 4 refl (typed-record 𝓤 H A W h _ was)) $
           use0 W (raw (Into 𝓤 H A at-mem run .pre to-into)) (goes-into was) $
-          calls-at ! fm (Into 𝓤 H A at-mem run) known to-into (and-then ! (load ! (from ! (stop !)) (look ! 6 refl)) (and-then ! (load ! (from ! (stop !)) (look ! 12 refl)) (and-then ! (load ! (from ! (stop !)) (look ! 10 refl)) (no-more !)))) (λ u.
+          calls-at ! fm (Into 𝓤 H A at-mem run) known to-into (and-then ! (load ! (from ! (stop !)) (look ! 5 refl)) (and-then ! (load ! (from ! (stop !)) (look ! 11 refl)) (and-then ! (load ! (from ! (stop !)) (look ! 9 refl)) (no-more !)))) (λ u.
           use1 W (later (some (λ (r : Called). (‵ ftrue ⊛ ‵ (K.the-row .own r (u ∷ []))) ⊛ raw (ensured 𝓤 H A into.ended (into.clauses 𝓤 H A at-mem run) tt (h, (me, (n, tt))) tt r)))) (id⊢ 𝓤 _) $ await ! tt $ pick ! (λ r.
           split ! $ move ! (1 ∷ []) $ use1 W (raw (fact 𝓤 (Said r))) (said r) $ heard ! (Said r) (λ e. split ! $ drop ! $
           peeks ! K.the-row (Is K.the-row) (shows 𝓤 H A K.the-row) r (u ∷ []) (λ is.
-          -- [what the result owns; the record's cell; what a record owns; the open borrow; obs; auth; _5; …; _4; …; _3; …; _2; …; _1; …; room for _0; …]
-          land ! (from ! (stop !)) (init ! 8 refl (LL.lawful K.the-type K′.the-laws 𝓤 H A W .typed r _ is .0)) $ rewrite ! 8 (λ (z : Val). ‵ (fat fullShare K′.mir l₄ 0 z)) (ap only (LL.tells K.the-type K′.the-laws r _ is)) refl $
-          assigns ! (of-opd ! (load ! (from ! (fld ! refl (stop !))) (look-in ! 8 (sub ! 0 refl (whole !))))) (from ! (hop ! (look ! 14 refl) (stop !))) (store-raw ! 1 refl (LL.lawful T.the-type T′.the-laws 𝓤 H A W .typed (r .state) _ (LL.owed K.the-type K′.the-laws r _ is .0) .0)) $
-          assigns ! (of-opd ! (load ! (from ! (fld ! refl (stop !))) (look-in ! 8 (sub ! 1 refl (whole !))))) (from ! (stop !)) (init ! 16 refl (LL.lawful R.the-type R′.the-laws 𝓤 H A W .typed (r .report) _ (LL.owed K.the-type K′.the-laws r _ is .1 .0) .0)) $
-          drop ! $ move ! (1 ∷ []) $ drop ! $ owned ! T.the-row (Is T.the-row) (LL.makes T.the-type T′.the-plain 𝓤 H A) (r .state) _ (LL.owed K.the-type K′.the-laws r _ is .0) $ move ! (1 ∷ 0 ∷ []) $ closes ! tt T.the-row (r .state) (vals (r .state)) b o $
+          -- [what the result owns; the record's cell; the open borrow; obs; auth; _5; …; _4; …; _3; …; _2; …; _1; …; room for _0; …]
+          land ! (from ! (stop !)) (init ! 7 refl (typed-called 𝓤 H A W r _ is)) $ rewrite ! 7 (λ (z : Val). ‵ (fat fullShare K′.mir l₄ 0 z)) (ap only (LL.tells K.the-type K′.the-laws r _ is)) refl $
+          assigns ! (of-opd ! (load ! (from ! (fld ! refl (stop !))) (look-in ! 7 (sub ! 0 refl (whole !))))) (from ! (hop ! (look ! 13 refl) (stop !))) (store-raw ! 1 refl (typed-record 𝓤 H A W (r .state) _ (state-is r _ is))) $
+          assigns ! (of-opd ! (load ! (from ! (fld ! refl (stop !))) (look-in ! 7 (sub ! 1 refl (whole !))))) (from ! (stop !)) (init ! 15 refl (typed-report 𝓤 H A W (r .report) _ (report-is r _ is))) $
+          drop ! $ copies-in ! tt (r .state) b o (state-is r _ is) $
           returns ! (look ! 13 refl) $ forget ! 3 refl $ forget ! 5 refl $ forget ! 7 refl $ forget ! 9 refl $ forget ! 11 refl $ forget ! 13 refl $
           move ! (13 ∷ 14 ∷ []) $ free1 ! $ move ! (11 ∷ 12 ∷ []) $ free1 ! $ move ! (9 ∷ 10 ∷ []) $ free1 ! $ move ! (7 ∷ 8 ∷ []) $ free1 ! $ move ! (5 ∷ 6 ∷ []) $ free1 ! $ move ! (3 ∷ 4 ∷ []) $ free1 ! $ free0 ! $
-          keep ! (0 ∷ 1 ∷ 2 ∷ []) $ by ! (exits r e (LL.owed K.the-type K′.the-laws r _ is .1 .0))))))))))))))
+          keep ! (0 ∷ 1 ∷ 2 ∷ []) $ by ! (exits r e (report-is r _ is)))))))))))))
 
 module _ {M : Type 1} (𝓤 : URA M) (H : Heap 𝓤) (A : Atoms 𝓤) (W : Given 𝓤 H A) (at-mem : Memory → SProp 𝓤) (run : Routine → Fun 𝓤) where
   walks : (C : Calls 𝓤 H) (Λ : Loops 𝓤 H) → FmC 𝓤 H (W .laws) C → Triple 𝓤 (C into-def.name) (Into 𝓤 H A at-mem run) → Walks 𝓤 H A f.ended stayed (WpFn 𝓤 H C Λ code.function) (f.clauses 𝓤 H A at-mem run)

@@ -1,5 +1,5 @@
 -- `lent_member::start` meets its contract: a walk of its MIR, by hand. The borrow of the record is opened, the record is copied out whole and passed to `start_into`, what came back is copied in, and the borrow is closed at it. The reply's borrow goes to `start_into` at its own lifetime, share and ghost name, for good.
--- No field of the record is named: its laws come from the module that `rattle check` makes of it. All that the proof knows of `start_into` is that it meets its contract.
+-- No field of the record is named (`Lent.antt`). All that the proof knows of `start_into` is that it meets its contract.
 -- Assumes nothing.
 use mathlib.Core.Path.{_≡_, refl, ap}
 use Prim.Native.Nat.{ℕ, _<_, _^_}
@@ -30,8 +30,7 @@ use denote.Builtin.{u8, u64}
 use denote.Ref.{RefT, MutRef, ptr-vals, mut-tells}
 use denote.Slice.{sliceVal, MutSlice, Room, finally, slice-vals, mut-slice-tells}
 use denote.Signature.{plain}
-use denote.Steps.{only, opens, closes, owned, peeks, heard, nothing}
-use denote.Struct.Steps.{spelt}
+use denote.Steps.{only, owned, peeks, heard, nothing}
 use denote.Struct.Laws as LL
 use denote.Triple.Entry.{onEntry}
 use denote.Triple.Spec.{Meets, tripleOf}
@@ -46,14 +45,13 @@ use Rattle.ids.proofs.Round as N
 use Rattle.ids.proofs.Round.Laws as N′
 use Rattle.member.specs.declared.MemberState.{MemberState}
 use Rattle.member.proofs.MemberState as T
-use Rattle.member.proofs.MemberState.Laws as T′
 use Rattle.lent_member.specs.declared.Called.{Called}
 use Rattle.lent_member.specs.Calls.{start-call}
 use Rattle.lent_member.specs.Reports.{Replies}
 use Rattle.lent_member.proofs.Called as K
 use Rattle.lent_member.proofs.Called.Laws as K′
 use Rattle.lent_member.proofs.Report as R
-use Rattle.lent_member.proofs.Report.Laws as R′
+use Rattle.lent_member.proofs.Lent.{vals, report-val, owned-record, owned-report, typed-record, typed-called, typed-report, state-is, report-is, copies-out, copies-in}
 use Rattle.lent_member.proofs.steps.start_into as into
 use Rattle.lent_member.proofs.steps.start_into.Symbol as into-def
 use Rattle.lent_member.proofs.steps.start_into.Met as into-thm
@@ -67,9 +65,6 @@ Arg = RefT MemberState × (Round × (ℕ × (RefT (List ℕ) × Unit {0})))
 
 abbrev stayed : Stays (f.ended .signature .params) (f.ended .kept)
 stayed = (stay-ref (0 ∷ []) tt (plain (λ _. T.the-row)), (stay-none (λ _. N.the-row) yes, (stay-none (λ _. u64) yes, (gave-slice (1 ∷ []) tt (plain (λ _. u8)), tt))))
-
-abbrev vals : MemberState → List Val
-vals = LL.vals T.the-type T′.the-laws
 
 -- the contract that the proof cites
 abbrev Into : {M : Type 1} (𝓤 : URA M) (H : Heap 𝓤) (A : Atoms 𝓤) (at-mem : Memory → SProp 𝓤) (run : Routine → Fun 𝓤) → Contract 𝓤
@@ -104,16 +99,16 @@ module _ {M : Type 1} (𝓤 : URA M) (H : Heap 𝓤) (A : Atoms 𝓤) (W : Given
     goes-into was =
         qed W ((‵ (flft μ p) ⊛ ‵ ftrue) ∷ ‵ (MutSlice (named 1) μ u8 .own y (s ∷ [])) ∷ []) ∵ nothing ! $ move ! (2 ∷ 0 ∷ []) $ fjoin ! $
         owned ! u64 (Is u64) (uint-makes 𝓤 H A W w64) v _ (refl, v-fits) $ fjoin ! $ owned ! N.the-row (Is N.the-row) (LL.makes N.the-type N′.the-plain 𝓤 H A) rd _ rd-is $ fjoin ! $
-        owned ! T.the-row (Is T.the-row) (LL.makes T.the-type T′.the-plain 𝓤 H A) h _ was $ fjoin ! $ move ! (1 ∷ 0 ∷ []) $ join ! $ frame ! $ done !
+        owned ! T.the-row (Is T.the-row) (owned-record 𝓤 H A W) h _ was $ fjoin ! $ move ! (1 ∷ 0 ∷ []) $ join ! $ frame ! $ done !
 
-    exits : (r : Called) (zs : List ℕ) → Said r zs → length zs ≡ length (y .now) → Is R.the-row (r .report) (LL.vals R.the-type R′.the-laws (r .report))
-        → ent 𝓤 (sep 𝓤 (A .obs γ (T.the-row .coded .code (r .state))) (sep 𝓤 (A .bor κ (Body (mem T.the-row) b o γ)) (sep 𝓤 (A .lft κ q) (sep 𝓤 (sep 𝓤 (A .lft μ p) (sem 𝓤 H A ftrue)) (sem 𝓤 H A (finally u8 (y .name) zs)))))) (Post (LL.val R.the-type R′.the-laws (r .report)))
+    exits : (r : Called) (zs : List ℕ) → Said r zs → length zs ≡ length (y .now) → Is R.the-row (r .report) (report-val (r .report) ∷ [])
+        → ent 𝓤 (sep 𝓤 (A .obs γ (T.the-row .coded .code (r .state))) (sep 𝓤 (A .bor κ (Body (mem T.the-row) b o γ)) (sep 𝓤 (A .lft κ q) (sep 𝓤 (sep 𝓤 (A .lft μ p) (sem 𝓤 H A ftrue)) (sem 𝓤 H A (finally u8 (y .name) zs)))))) (Post (report-val (r .report)))
     exits r zs e l rep =
         qed W (‵ (fobs γ (T.the-row .coded .code (r .state))) ∷ ‵ (fbor κ (Body (mem T.the-row) b o γ)) ∷ ‵ (flft κ q) ∷ (‵ (flft μ p) ⊛ ‵ ftrue) ∷ ‵ (finally u8 (y .name) zs) ∷ []) ∵
-        suffices ! _ (ends-at 𝓤 H A f.ended stayed (f.clauses 𝓤 H A at-mem run) W (((κ, (μ, tt)), (q, (p, tt)), tt, x, at), tt) (LL.val R.the-type R′.the-laws (r .report)) (r .report) (r .state, (tt, (tt, (zs, tt)))) (tt, (tt, (tt, (l, tt))))) $ says ! e $
+        suffices ! _ (ends-at 𝓤 H A f.ended stayed (f.clauses 𝓤 H A at-mem run) W (((κ, (μ, tt)), (q, (p, tt)), tt, x, at), tt) (report-val (r .report)) (r .report) (r .state, (tt, (tt, (zs, tt)))) (tt, (tt, (tt, (l, tt))))) $ says ! e $
         move ! (2 ∷ 3 ∷ []) $ join ! $ frame ! $
         feqI ! (List Val) (vptr b o ∷ []) (vptr b o ∷ []) refl $ fjoin3 ! $ nothing ! $ move ! (2 ∷ 0 ∷ []) $ fjoin ! $ owned ! u64 (Is u64) (uint-makes 𝓤 H A W w64) v _ (refl, v-fits) $ fjoin ! $ owned ! N.the-row (Is N.the-row) (LL.makes N.the-type N′.the-plain 𝓤 H A) rd _ rd-is $ fjoin ! $ move ! (1 ∷ 0 ∷ []) $ fjoin ! $
-        owned ! R.the-row (Is R.the-row) (LL.makes R.the-type R′.the-plain 𝓤 H A) (r .report) _ rep $ move ! (1 ∷ 0 ∷ []) $ done !
+        owned ! R.the-row (Is R.the-row) (owned-report 𝓤 H A W) (r .report) _ rep $ move ! (1 ∷ 0 ∷ []) $ done !
 
     module _ (C : Calls 𝓤 H) (Λ : Loops 𝓤 H) (fm : FmC 𝓤 H (W .laws) C) (known : Triple 𝓤 (C into-def.name) (Into 𝓤 H A at-mem run)) where
       walk : Room u8 (length (y .now)) → ent 𝓤 (onEntry 𝓤 H A f.signature (κ, (μ, tt)) (q, (p, tt)) x at) (WpFn 𝓤 H C Λ code.function (vptr b o ∷ v-rd ∷ vint w64 v ∷ s ∷ []) Post)
@@ -124,28 +119,27 @@ module _ {M : Type 1} (𝓤 : URA M) (H : Heap 𝓤) (A : Atoms 𝓤) (W : Given
           enter ! C Λ code.function (vptr b o ∷ v-rd ∷ vint w64 v ∷ s ∷ []) _ $
           alloc1 ! (λ l₀. alloc1 ! (λ l₁. alloc1 ! (λ l₂. alloc1 ! (λ l₃. alloc1 ! (λ l₄. alloc1 ! (λ l₅. alloc1 ! (λ l₆. alloc1 ! (λ l₇. alloc1 ! (λ l₈. alloc0 ! $ params1 ! $
           pass1 ! (init ! 14 refl (tt, tt)) $ pass1 ! (init ! 12 refl (LL.lawful N.the-type N′.the-laws 𝓤 H A W .typed rd _ rd-is .0)) $ pass1 ! (init ! 10 refl (tt, record { fits = v-fits })) $ pass1 ! (init ! 8 refl (tt, (tt, (record { fits = room .0 }, tt)))) $ pass0 ! $
-          move ! (18 ∷ 19 ∷ 20 ∷ []) $ opens ! tt T.the-row {h = h} b o (λ vs. spelt ! T.the-row (Is T.the-row) (shows 𝓤 H A T.the-row) vals (LL.tells T.the-type T′.the-laws) fullShare h vs b o $
-          move ! (1 ∷ []) $ peeks ! T.the-row (Is T.the-row) (shows 𝓤 H A T.the-row) h (vals h) (λ was. move ! (1 ∷ 0 ∷ []) $
-          -- [the record's cell; what a record owns; the open borrow; obs; auth; _8; …; _7; …; _6; …; _5; …; _4; …; _3; …; _2; …; _1; …; room for _0; …; what reply owns; true; its token]
-          assigns ! (of-opd ! (load ! (from ! (hop ! (look ! 19 refl) (stop !))) (look-raw ! 0 refl))) (from ! (stop !)) (init ! 9 refl (LL.lawful T.the-type T′.the-laws 𝓤 H A W .typed h _ was .0)) $
-          assigns ! (addr ! (from ! (fld ! refl (hop ! (look-in ! 13 (sub ! 0 refl (whole !))) (stop !))))) (from ! (stop !)) (init ! 7 refl (tt, tt)) $
-          assigns ! (agg ! (and-then ! (load ! (from ! (stop !)) (look ! 7 refl)) (and-then ! (load ! (from ! (fld ! refl (stop !))) (look-in ! 13 (sub ! 1 refl (whole !)))) (no-more !)))) (from ! (stop !)) (init ! 5 refl (tt, (tt, (record { fits = room .0 }, tt)))) $
-          move ! (25 ∷ 23 ∷ []) $ use2 W (raw (Into 𝓤 H A at-mem run .pre to-into)) (goes-into was) $
-          calls-at ! fm (Into 𝓤 H A at-mem run) known to-into (and-then ! (load ! (from ! (stop !)) (look ! 10 refl)) (and-then ! (load ! (from ! (stop !)) (look ! 18 refl)) (and-then ! (load ! (from ! (stop !)) (look ! 16 refl)) (and-then ! (load ! (from ! (stop !)) (look ! 6 refl)) (no-more !))))) (λ u.
+          move ! (18 ∷ 19 ∷ 20 ∷ []) $ copies-out ! tt h b o (λ was.
+          -- [the record's cell; the open borrow; obs; auth; _8; …; _7; …; _6; …; _5; …; _4; …; _3; …; _2; …; _1; …; room for _0; …; what reply owns; true; its token]
+          assigns ! (of-opd ! (load ! (from ! (hop ! (look ! 18 refl) (stop !))) (look-raw ! 0 refl))) (from ! (stop !)) (init ! 8 refl (typed-record 𝓤 H A W h _ was)) $
+          assigns ! (addr ! (from ! (fld ! refl (hop ! (look-in ! 12 (sub ! 0 refl (whole !))) (stop !))))) (from ! (stop !)) (init ! 6 refl (tt, tt)) $
+          assigns ! (agg ! (and-then ! (load ! (from ! (stop !)) (look ! 6 refl)) (and-then ! (load ! (from ! (fld ! refl (stop !))) (look-in ! 12 (sub ! 1 refl (whole !)))) (no-more !)))) (from ! (stop !)) (init ! 4 refl (tt, (tt, (record { fits = room .0 }, tt)))) $
+          move ! (24 ∷ 22 ∷ []) $ use2 W (raw (Into 𝓤 H A at-mem run .pre to-into)) (goes-into was) $
+          calls-at ! fm (Into 𝓤 H A at-mem run) known to-into (and-then ! (load ! (from ! (stop !)) (look ! 9 refl)) (and-then ! (load ! (from ! (stop !)) (look ! 17 refl)) (and-then ! (load ! (from ! (stop !)) (look ! 15 refl)) (and-then ! (load ! (from ! (stop !)) (look ! 5 refl)) (no-more !))))) (λ u.
           use1 W (later (some (λ (r : Called). ((‵ (flft μ p) ⊛ ‵ ftrue) ⊛ ‵ (K.the-row .own r (u ∷ []))) ⊛ raw (ensured 𝓤 H A into.ended (into.clauses 𝓤 H A at-mem run) (μ, tt) (h, (rd, (v, (y, tt)))) tt r)))) (id⊢ 𝓤 _) $ await ! tt $ pick ! (λ r.
           -- what `start_into` ensures, at some last list of the reply
           split ! $ move ! (1 ∷ []) $ use1 W (some (λ (zs : Unit {0} × (Unit {0} × (Unit {0} × (List ℕ × Unit {0})))). ‵ (lasts into.ended (μ, tt) (h, (rd, (v, (y, tt)))) zs) ⊛ raw (fact 𝓤 (Said r (zs .1 .1 .1 .0))))) (id⊢ 𝓤 _) $ pick ! (λ zs.
           split ! $ move ! (1 ∷ []) $ heard ! (Said r (zs .1 .1 .1 .0)) (λ e. fsplit ! $ drop ! $ fsplit ! $ drop ! $ fsplit ! $ drop ! $ fsplit ! $ fsplit ! $ move ! (1 ∷ []) $ feqL ! (λ l.
           move ! (2 ∷ []) $ split ! $ move ! (1 ∷ []) $ peeks ! K.the-row (Is K.the-row) (shows 𝓤 H A K.the-row) r (u ∷ []) (λ is.
-          -- [what the result owns; the reply's token; its last list; true; the record's cell; what a record owns; the open borrow; obs; auth; _8; …; _7; …; _6; …; _5; …; _4; …; _3; …; _2; …; _1; …; room for _0; …]
-          land ! (from ! (stop !)) (init ! 15 refl (LL.lawful K.the-type K′.the-laws 𝓤 H A W .typed r _ is .0)) $ rewrite ! 15 (λ (z : Val). ‵ (fat fullShare K′.mir l₅ 0 z)) (ap only (LL.tells K.the-type K′.the-laws r _ is)) refl $
-          assigns ! (of-opd ! (load ! (from ! (fld ! refl (stop !))) (look-in ! 15 (sub ! 0 refl (whole !))))) (from ! (hop ! (look ! 23 refl) (stop !))) (store-raw ! 4 refl (LL.lawful T.the-type T′.the-laws 𝓤 H A W .typed (r .state) _ (LL.owed K.the-type K′.the-laws r _ is .0) .0)) $
-          assigns ! (of-opd ! (load ! (from ! (fld ! refl (stop !))) (look-in ! 15 (sub ! 1 refl (whole !))))) (from ! (stop !)) (init ! 25 refl (LL.lawful R.the-type R′.the-laws 𝓤 H A W .typed (r .report) _ (LL.owed K.the-type K′.the-laws r _ is .1 .0) .0)) $
-          drop ! $ move ! (4 ∷ []) $ drop ! $ move ! (3 ∷ 4 ∷ 5 ∷ 6 ∷ []) $ owned ! T.the-row (Is T.the-row) (LL.makes T.the-type T′.the-plain 𝓤 H A) (r .state) _ (LL.owed K.the-type K′.the-laws r _ is .0) $ move ! (1 ∷ 0 ∷ []) $ closes ! tt T.the-row (r .state) (vals (r .state)) b o $
+          -- [what the result owns; the reply's token; its last list; true; the record's cell; the open borrow; obs; auth; _8; …; _7; …; _6; …; _5; …; _4; …; _3; …; _2; …; _1; …; room for _0; …]
+          land ! (from ! (stop !)) (init ! 14 refl (typed-called 𝓤 H A W r _ is)) $ rewrite ! 14 (λ (z : Val). ‵ (fat fullShare K′.mir l₅ 0 z)) (ap only (LL.tells K.the-type K′.the-laws r _ is)) refl $
+          assigns ! (of-opd ! (load ! (from ! (fld ! refl (stop !))) (look-in ! 14 (sub ! 0 refl (whole !))))) (from ! (hop ! (look ! 22 refl) (stop !))) (store-raw ! 4 refl (typed-record 𝓤 H A W (r .state) _ (state-is r _ is))) $
+          assigns ! (of-opd ! (load ! (from ! (fld ! refl (stop !))) (look-in ! 14 (sub ! 1 refl (whole !))))) (from ! (stop !)) (init ! 24 refl (typed-report 𝓤 H A W (r .report) _ (report-is r _ is))) $
+          drop ! $ move ! (3 ∷ 4 ∷ 5 ∷ 6 ∷ []) $ copies-in ! tt (r .state) b o (state-is r _ is) $
           -- [obs; the borrow; its token; the reply's token; its last list; true; _8; …; _7; …; _6; …; _5; …; _4; …; _3; …; _2; …; _1; …; _0; …]
           returns ! (look ! 22 refl) $ forget ! 6 refl $ forget ! 8 refl $ forget ! 10 refl $ forget ! 12 refl $ forget ! 14 refl $ forget ! 16 refl $ forget ! 18 refl $ forget ! 20 refl $ forget ! 22 refl $
           move ! (22 ∷ 23 ∷ []) $ free1 ! $ move ! (20 ∷ 21 ∷ []) $ free1 ! $ move ! (18 ∷ 19 ∷ []) $ free1 ! $ move ! (16 ∷ 17 ∷ []) $ free1 ! $ move ! (14 ∷ 15 ∷ []) $ free1 ! $ move ! (12 ∷ 13 ∷ []) $ free1 ! $ move ! (10 ∷ 11 ∷ []) $ free1 ! $ move ! (8 ∷ 9 ∷ []) $ free1 ! $ move ! (6 ∷ 7 ∷ []) $ free1 ! $ free0 ! $
-          keep ! (0 ∷ 1 ∷ 2 ∷ 3 ∷ 4 ∷ []) $ by ! (exits r (zs .1 .1 .1 .0) e l (LL.owed K.the-type K′.the-laws r _ is .1 .0)))))))))))))))))))
+          keep ! (0 ∷ 1 ∷ 2 ∷ 3 ∷ 4 ∷ []) $ by ! (exits r (zs .1 .1 .1 .0) e l (report-is r _ is))))))))))))))))))
 
 module _ {M : Type 1} (𝓤 : URA M) (H : Heap 𝓤) (A : Atoms 𝓤) (W : Given 𝓤 H A) (at-mem : Memory → SProp 𝓤) (run : Routine → Fun 𝓤) where
   walks : (C : Calls 𝓤 H) (Λ : Loops 𝓤 H) → FmC 𝓤 H (W .laws) C → Triple 𝓤 (C into-def.name) (Into 𝓤 H A at-mem run) → Walks 𝓤 H A f.ended stayed (WpFn 𝓤 H C Λ code.function) (f.clauses 𝓤 H A at-mem run)

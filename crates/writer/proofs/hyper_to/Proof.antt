@@ -1,5 +1,4 @@
 -- `writer::hyper_to` meets its contract: what is put is one item, and the place behind it is the answer. Assumes nothing.
-use mathlib.Core.Path.{refl}
 use Rattle.xdr.specs.Items.{item}
 use borrow.Author.Needs.{needs}
 use Rattle.writer.proofs.hyper_to.Statement.{statement}

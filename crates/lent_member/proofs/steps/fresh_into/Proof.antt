@@ -3,7 +3,6 @@
 use mathlib.Core.Path.{_≡_, refl, sym, ap, _∙_}
 use mathlib.Core.Bool.{Bool}
 use Prim.Native.Nat.{ℕ}
-use borrow.Author.Tests.{not-true, not-false}
 use Rattle.laws.specs.Tests.{by-test}
 use Rattle.ids.specs.declared.Member.{Member}
 use Rattle.member.specs.declared.MemberState.{MemberState}
@@ -42,31 +41,29 @@ fresh-requires c κs = search needs
 is-sound-requires : tie.Need-is-sound-requires
 is-sound-requires c κs = search needs
 
-refuse-requires : tie.Need-refuse-requires
-refuse-requires c κs = search needs
+report-requires : tie.Need-report-requires
+report-requires c κs = search needs
 
 returns : tie.Need-returns
 unfolding fresh-call
 returns c =
     let new = c .before .before .before .before in
     let args = new .before .args in
-    let is-sound = c .before .before .is-sound in
-    let allowed = tested (args .me) (args .n) (new .fresh .result) (new .fresh .ensures) (is-sound .ensures) ∙ not-true (is-sound .result) (c .before .if1 .taken) in
-    rw allowed (c .refuse .ensures)
+    let allowed = tested (args .me) (args .n) (new .fresh .result) (new .fresh .ensures) (c .before .before .is-sound .ensures) ∙ c .before .if1 .taken in
+    rw (allowed, c .report .ensures) (record { report = refl; state = made (args .me) (args .n) (new .fresh .result) (new .fresh .ensures) })
 
-report-requires : tie.Need-report-requires
-report-requires c κs = search needs
+refuse-requires : tie.Need-refuse-requires
+refuse-requires c κs = search needs
 
 returns-2 : tie.Need-returns-2
 unfolding fresh-call
 returns-2 c =
     let new = c .before .before .before .before in
     let args = new .before .args in
-    let is-sound = c .before .before .is-sound in
-    let allowed = tested (args .me) (args .n) (new .fresh .result) (new .fresh .ensures) (is-sound .ensures) ∙ not-false (is-sound .result) (c .before .if1 .left) in
-    rw (allowed, c .report .ensures) (record { report = refl; state = made (args .me) (args .n) (new .fresh .result) (new .fresh .ensures) })
+    let allowed = tested (args .me) (args .n) (new .fresh .result) (new .fresh .ensures) (c .before .before .is-sound .ensures) ∙ c .before .if1 .left in
+    rw allowed (c .refuse .ensures)
 
 pub fresh-into-spec : {M : Type 1} → statement M
 fresh-into-spec =
     tie.close
-    (tie.spec fresh-requires is-sound-requires refuse-requires returns report-requires returns-2)
+    (tie.spec fresh-requires is-sound-requires report-requires returns refuse-requires returns-2)

@@ -5,7 +5,6 @@ use mathlib.Core.List.{List}
 use Prim.Native.Nat.{ℕ, _≤_}
 use native.Mathlib.Omega.{arith}
 use lib.ListN.{length}
-use denote.Ref.{now}
 use borrow.Author.Tests.{le-ltb}
 use Rattle.message.specs.declared.Message.{Message}
 use Rattle.message.specs.declared.Written.{Written}

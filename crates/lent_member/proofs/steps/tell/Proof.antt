@@ -1,5 +1,5 @@
 -- `lent_member::steps::tell` meets its contract, answer by answer. Assumes nothing.
-use mathlib.Core.Path.{refl, sym, _∙_}
+use mathlib.Core.Path.{refl}
 use mathlib.Core.List.{List·Memᴰ·head as here}
 use borrow.Author.Needs.{needs}
 use Rattle.lent_member.proofs.steps.tell.Statement.{statement}
