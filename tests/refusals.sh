@@ -1,17 +1,24 @@
 #!/usr/bin/env bash
-# Each must-fail edit of the last `rt ci` was refused at a fact that no longer holds: its log names no need that the proof file could
-# not find. (Such an edit would only have made the proof unfit for the code's shape, and would show nothing.)
+# Each must-fail edit of the last `rt ci` was refused at a fact that no longer holds: its log has an error that stands for such a fact,
+# and none that only says that the proof no longer fits the code's shape (a need, a field or a name that isn't there, a list of needs
+# that has changed). Such an edit would show nothing.
 cd "$(dirname "$0")/.." || exit 2
 passed=0
 failed=0
+shape='that can be named from here|has no field `|is not in scope|does not define it|[Pp]arse error| error: `[^`]*-spec`:'
 for edit in crates/*/must-fail/*.edit; do
     [ -e "$edit" ] || continue
     crate=$(basename "$(dirname "$(dirname "$edit")")")
     log=target/must-fail/$crate/$(basename "$edit" .edit)/.log
+    # what rests on a refused part is not admitted either, and says nothing more
+    errors=$(grep -E ' error: |: it is not proved that ' "$log" 2>/dev/null | grep -v 'was not admitted')
     if [ ! -s "$log" ]; then
         echo "refusals: no log of $edit"
         failed=$((failed + 1))
-    elif grep -q 'that can be named from here\|no field `\|is not in scope\|[Pp]arse error' "$log"; then
+    elif [ -z "$errors" ]; then
+        echo "refusals: $edit was refused at no fact"
+        failed=$((failed + 1))
+    elif grep -Eq "$shape" <<<"$errors"; then
         echo "refusals: $edit was refused for its shape, not at a fact"
         failed=$((failed + 1))
     else

@@ -1,12 +1,9 @@
--- Lists: membership, "some element passes", an element put at the end, cuts, rows of a table.
-use mathlib.Core.Path.{_≡_, refl, sym, ap, _∙_}
+-- Lists: membership, "some element passes", an element put at the end, cuts, lists mapped.
+use mathlib.Core.Path.{_≡_, refl, sym, ap}
 use mathlib.Core.Bool.{Bool, true, false, _||_, or-assoc, or-false}
-use mathlib.Core.List.{List, [], _∷_, _++_, map, append-assoc, List·Memᴰ, List·Memᴰ·head as here, List·Memᴰ·tail as there, List·Memᴰ·append-cases, List·Memᴰ·eq-of-singleton, Memᴰ·append-left, Memᴰ·append-right, Memᴰ·of-map}
-use mathlib.Core.Logic.{_⊎_, inl, inr, ⊎-elim}
-use Prim.Native.Nat.{ℕ, zero, suc, _+_, _<_, _≤_}
-use native.Mathlib.Omega.{arith}
-use lib.ListN.{length, getD, length-append}
-use Rattle.laws.specs.Tests.{by-test, clash, or-cases, or-left, or-right}
+use mathlib.Core.List.{List, [], _∷_, _++_, map, List·Memᴰ, List·Memᴰ·head as here, List·Memᴰ·tail as there, List·Memᴰ·append-cases, List·Memᴰ·eq-of-singleton, Memᴰ·append-right, Memᴰ·of-map}
+use mathlib.Core.Logic.{⊎-elim}
+use Rattle.laws.specs.Tests.{by-test, clash, impossible, or-cases, or-left, or-right}
 
 infix 20 _∈_
 abbrev pub _∈_ {ℓ} : {A : Type ℓ} → A → List A → Type ℓ
@@ -68,20 +65,17 @@ module _ {ℓ} {A : Type ℓ} where
   pub in-cut : (pre : List A) (a : A) (post : List A) → a ∈ pre ++ a ∷ post
   in-cut pre a post = Memᴰ·append-right pre (here refl)
 
+  no-nil {κ} : {C : Type κ} {b : A} {k : List A} → [] ≡ b ∷ k → C
+  no-nil q = impossible (cc)
+
   -- a cut of a list with one element more at its end falls at that element or within the list
   pub snoc-cut {κ} : {C : Type κ} (l pre post : List A) (x a : A) → l ++ x ∷ [] ≡ pre ++ a ∷ post →
       ((rest : List A) → l ≡ pre ++ a ∷ rest → post ≡ rest ++ x ∷ [] → C) → (l ≡ pre → x ≡ a → post ≡ [] → C) → C
   snoc-cut [] [] post x a e f g = g refl (cc) (cc)
   snoc-cut [] (y ∷ []) post x a e f g =
-      let z : [] ≡ a ∷ post = cc in absurd (no-nil z)
-    where
-      no-nil : {b : A} {k : List A} → [] ≡ b ∷ k → ⊥
-      no-nil q = let z : _≡_ {A = ℕ} 0 1 = cc in omega arith
+      let z : [] ≡ a ∷ post = cc in no-nil z
   snoc-cut [] (y ∷ (y′ ∷ pre)) post x a e f g =
-      let z : [] ≡ y′ ∷ (pre ++ a ∷ post) = cc in absurd (no-nil z)
-    where
-      no-nil : {b : A} {k : List A} → [] ≡ b ∷ k → ⊥
-      no-nil q = let z : _≡_ {A = ℕ} 0 1 = cc in omega arith
+      let z : [] ≡ y′ ∷ (pre ++ a ∷ post) = cc in no-nil z
   snoc-cut (y ∷ l) [] post x a e f g =
       let p : y ≡ a = cc in
       let q : l ++ x ∷ [] ≡ post = cc in

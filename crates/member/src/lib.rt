@@ -13,7 +13,7 @@ use soundness::number_sound;
 ghost use mathlib.Core.Path.{_≡_};
 ghost use mathlib.Core.Bool.{true};
 ghost use Rattle.message.specs.Fields.{in-range};
-ghost use Rattle.member.specs.Record.{sound};
+ghost use Rattle.member.specs.Record.{allowed, sound};
 ghost use Rattle.member.specs.Table.{start, deliver, fresh-step, step};
 ghost use Rattle.member.specs.Answers.{refusal-number, outcome};
 ghost use Rattle.member.specs.Kept.{Stepped};
@@ -99,6 +99,13 @@ pub fn number(k: Refusal) -> u32
         Refusal::NotAwaited => 24,
         Refusal::CountedAlready => 25,
     }
+}
+
+// Whether an office may have n members.
+pub fn is_allowed(n: u32) -> bool
+    ensures { λ b. ⌜ b ≡ allowed n ⌝ }
+{
+    soundness::size_allowed(n)
 }
 
 // A fresh record.

@@ -60,7 +60,7 @@ pub fn blank(me: Member, n: u32) -> MemberState
 }
 
 // N is 3, 5 or 7.
-fn size_allowed(n: u32) -> bool
+pub fn size_allowed(n: u32) -> bool
     ensures { λ b. ⌜ b ≡ allowed n ⌝ }
 {
     if n == 3 {

@@ -1,12 +1,13 @@
 -- The messages and the lengths of the kinds, and where only the rest of the message row is open. Each goes by the tests on kind and presence. Assumes nothing.
-use mathlib.Core.Path.{_≡_, sym, ap}
-use mathlib.Core.List.{List}
+use mathlib.Core.Path.{_≡_, refl, sym, ap}
+use mathlib.Core.List.{List, _++_}
 use Prim.Native.Nat.{ℕ, _≤_, _<_}
 use native.Mathlib.Omega.{arith}
 use lib.ListN.{length}
 use lib.Dec.{eqb, lit≤}
-use borrow.Author.Tests.{ne-eqb, le-ltb, lt-ltb}
+use borrow.Author.Tests.{ne-eqb, le-ltb, lt-ltb, eqb-true}
 use Rattle.laws.specs.Tests.{by-test}
+use Rattle.xdr.proofs.Laws.{word-at-front}
 use Rattle.message.specs.declared.Fault.the-variants.{Length}
 use Rattle.message.specs.declared.Read.the-variants.{Refused}
 use Rattle.message.specs.Reading.{inexact, size, decoded, read, read-rest}
@@ -20,6 +21,13 @@ count-least (Join r s) = lit≤ tt
 count-least (JoinVoted r s q w) = lit≤ tt
 count-least (Propose r s v) = lit≤ tt
 count-least (Vote r s) = lit≤ tt
+
+count-most : (m : Message) → byte-count m ≤ 28
+count-most (Start r s) = lit≤ tt
+count-most (Join r s) = lit≤ tt
+count-most (JoinVoted r s q w) = lit≤ tt
+count-most (Propose r s v) = lit≤ tt
+count-most (Vote r s) = lit≤ tt
 
 module _ (s : List ℕ) where
   pub decoded-start : kind s ≡ 1 → decoded s ≡ Start (round s) (sender s)
@@ -64,9 +72,30 @@ module _ (s : List ℕ) where
   unfolding size
   size-least = count-least (decoded s)
 
+  pub size-most : size s ≤ 28
+  unfolding size
+  size-most = count-most (decoded s)
+
   pub size-join-least : kind s ≡ 2 → 16 ≤ size s
   unfolding size decoded
   size-join-least k = by-test (eqb (presence s) 1) (λ p. rw (k, p) (lit≤ tt)) (λ p. rw (k, p) (lit≤ tt))
+
+  -- the size of a whole message, whatever comes behind it
+  pub size-front : (behind : List ℕ) → length s ≡ size s → size (s ++ behind) ≡ size s
+  unfolding size decoded
+  size-front behind e =
+      let least : 12 ≤ length s = omega (arith, size-least) in
+      let first = word-at-front s behind 0 (omega arith) in
+      by-test (eqb (kind s) 1)
+      (λ k. rw (first, k) refl)
+      (λ k.
+      by-test (eqb (kind s) 2)
+      (λ j.
+      let room : 16 ≤ length s = omega (arith, size-join-least (eqb-true (kind s) 2 j)) in
+      by-test (eqb (presence s) 1)
+      (λ p. rw (first, word-at-front s behind 12 room, k, j, p) refl)
+      (λ p. rw (first, word-at-front s behind 12 room, k, j, p) refl))
+      (λ j. by-test (eqb (kind s) 3) (λ p. rw (first, k, j, p) refl) (λ p. rw (first, k, j, p) refl)))
 
   -- a JOIN under 16 has the wrong length, whatever would be its presence
   pub join-short : kind s ≡ 2 → 4 ≤ length s → length s < 16 → read s ≡ Refused Length

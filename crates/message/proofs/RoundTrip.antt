@@ -29,7 +29,7 @@ use Rattle.message.specs.Layout.{head, words, bytes, byte-count, kind, r
 use Rattle.message.specs.Reading.{under-4, no-kind, wrong-length, is-join, wrong-presence, inexact, size, decoded, message-row, answer, read-number, read}
 use Rattle.message.specs.declared.Written.the-variants.{Sent}
 use Rattle.message.specs.Writing.{writer-row, answer-of, written, written-number, buffer-after, in-front}
-use Rattle.message.proofs.Checks.{size-least, size-join-least, size-join, size-join-voted, size-propose, size-other, decoded-start, decoded-join, decoded-join-voted, decoded-propose, decoded-vote}
+use Rattle.message.proofs.Checks.{size-least, size-front, size-join-least, size-join, size-join-voted, size-propose, size-other, decoded-start, decoded-join, decoded-join-voted, decoded-propose, decoded-vote}
 
 -- an answer has the number of the first cause of its row
 pub read-numbered : (s : List ℕ) → read-number (read s) ≡ first (message-row s)
@@ -149,10 +149,10 @@ module _ (s : List ℕ) (b : Bytes s) where
       (stood (Join (round s) (sender s)) (k, (refl, (refl, (p, tt)))) (w .exact ∙ size-join s k p), tt))
       (λ k p. let l : length s ≡ 28 = w .exact ∙ size-join-voted s k p in
       rw (← e, decoded-join-voted s k p)
-      (stood (JoinVoted (round s) (sender s) (voted s) (voted-value s)) (k, (refl, (refl, (p, (refl, (refl, tt)))))) l, hyper-at-small 20 s b (omega arith)))
+      (stood (JoinVoted (round s) (sender s) (voted s) (voted-value s)) (k, (refl, (refl, (p, (refl, (refl, tt)))))) l, hyper-at-small 20 s b))
       (λ k. let l : length s ≡ 20 = w .exact ∙ size-propose s k in
       rw (← e, decoded-propose s k)
-      (stood (Propose (round s) (sender s) (proposed s)) (k, (refl, (refl, (refl, tt)))) l, hyper-at-small 12 s b (omega arith)))
+      (stood (Propose (round s) (sender s) (proposed s)) (k, (refl, (refl, (refl, tt)))) l, hyper-at-small 12 s b))
       (λ k. rw (← e, decoded-vote s k)
       (stood (Vote (round s) (sender s)) (k, (refl, (refl, tt))) (w .exact ∙ size-other s (λ z. omega arith) (λ z. omega arith)), tt))
 
@@ -225,10 +225,21 @@ spelt (Vote r s) v h =
 pub reads-back : (m : Message) → Held m → in-range m ≡ true → read (bytes m) ≡ Got m
 reads-back m v h = let (w, e) = spelt m v h in whole-read (bytes m) m w e h
 
+-- whatever comes behind it
+pub reads-back-front : (m : Message) (behind : List ℕ) → Held m → in-range m ≡ true → read (take (size (bytes m ++ behind)) (bytes m ++ behind)) ≡ Got m
+reads-back-front m behind v h =
+    let e : length (bytes m) ≡ size (bytes m) = spelt m v h .0 .exact in
+    rw (size-front (bytes m) behind e, take-at (bytes m) behind (size (bytes m)) e) (reads-back m v h)
+
 -- every message in range is written, with the length of its kind, into a buffer that has room for any
 pub in-range-written : (m : Message) (old : List ℕ) → 28 ≤ length old → in-range m ≡ true → written m old ≡ Sent (byte-count m)
 unfolding written
 in-range-written m old l h = simp (le-ltb (length old) 28 l, h, length-bytes m)
+
+-- and leaves itself at the front of it
+pub left-in-front : (m : Message) (old : List ℕ) → 28 ≤ length old → in-range m ≡ true → buffer-after m old ≡ in-front m old
+unfolding buffer-after
+left-in-front m old l h = simp (le-ltb (length old) 28 l, h)
 
 -- a message that the writer took stands at the front of the buffer, is in range, and reads back
 pub written-reads-back : (m : Message) (old : List ℕ) (n : ℕ) → Held m → written m old ≡ Sent n → (in-range m ≡ true) × (read (take n (buffer-after m old)) ≡ Got m)

@@ -3,10 +3,7 @@ use mathlib.Core.Path.{_≡_, refl}
 use mathlib.Core.Bool.{true}
 use mathlib.Core.List.{List, [], _∷_, _++_, map}
 use Prim.Native.Nat.{ℕ}
-use lib.ListN.{replicate}
-use Rattle.laws.specs.Lists.{_∈_}
-use Rattle.quorum_tree.specs.Machine.{Call, add, commit, Node, fresh, after, answers, causes, answer, change, step, find, path-in, struck, new-node, committed}
-use Rattle.quorum_tree.specs.Table.{is-tree, table}
+use Rattle.quorum_tree.specs.Machine.{Call, add, commit, fresh, after, answers, causes, answer, change, step, find, path-in, struck, new-node, committed}
 
 -- calls from fresh in a table of `rows` rows, their answers, and the statuses left, in order of adding
 pub record Case : Type 0 where

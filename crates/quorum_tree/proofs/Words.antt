@@ -1,6 +1,6 @@
 -- Rows and words: what is written for nodes reads back as these nodes, and the rows of a table are its words. Assumes nothing.
 use mathlib.Core.Path.{_≡_, refl, sym, ap, _∙_}
-use mathlib.Core.Bool.{Bool, true, false, _||_}
+use mathlib.Core.Bool.{true, false}
 use mathlib.Core.List.{List, [], _∷_, _++_, append-assoc, List·Memᴰ·head as here, List·Memᴰ·tail as there, Memᴰ·append-left}
 use mathlib.Core.Logic.{_≢_}
 use Prim.Native.Nat.{ℕ, zero, suc, _+_, _-_, _*_, _<_, _≤_}
@@ -10,7 +10,7 @@ use lib.Seq.{take-suc, take-length, take-all, take-append-le, take-append-seam, 
 use lib.Dec.{eqb}
 use borrow.Author.Tests.{ne-eqb, eq-eqb, eqb-true}
 use Rattle.laws.specs.Tests.{by-test, tests}
-use Rattle.laws.specs.Lists.{_∈_, any, any-snoc, by-last, in-last}
+use Rattle.laws.specs.Lists.{_∈_, by-last, in-last}
 use Rattle.quorum_tree.specs.Machine.{Node, root}
 use Rattle.quorum_tree.specs.Table.{words, table, row, rows, rows-of, used, used-from, nodes}
 
@@ -70,9 +70,6 @@ pub length-rows : (ws : List ℕ) (n : ℕ) → length (rows-of ws n) ≡ n
 unfolding rows-of
 length-rows ws zero = refl
 length-rows ws (suc n) = length-append (rows-of ws n) (row ws n ∷ []) ∙ omega (arith, length-rows ws n)
-
-pub any-rows : (p : Node → Bool) (ws : List ℕ) (i : ℕ) → any p (rows-of ws (suc i)) ≡ (any p (rows-of ws i) || p (row ws i))
-any-rows p ws i = rw (rows-suc ws i) (any-snoc p (rows-of ws i) (row ws i))
 
 pub getD-rows : (ws : List ℕ) (n i : ℕ) → i < n → getD (rows-of ws n) i root ≡ row ws i
 getD-rows ws zero i h = absurd (omega arith)

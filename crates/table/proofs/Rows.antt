@@ -2,13 +2,13 @@
 use mathlib.Core.Path.{_≡_, refl, sym, ap, subst, _∙_}
 use mathlib.Core.Bool.{Bool, true, false, cond, not, or-true, and-false}
 use mathlib.Core.List.{List, [], _∷_, _++_, map, append-assoc, append-nil}
-use Prim.Native.Nat.{ℕ, zero, suc, _+_, _-_, _*_, _/_, _≤_, _<_}
+use Prim.Native.Nat.{ℕ, zero, suc, _+_, _-_, _*_, _≤_, _<_}
 use native.Mathlib.Omega.{arith}
 use native.Mathlib.Numerals.{add-one}
-use native.Mathlib.Nat.{add-suc, add-zero}
-use lib.ListN.{length, getD, set, take, drop, length-append, length-take, length-drop, length-map}
-use lib.Seq.{drop-cons, drop-append-add, getD-append-add, append-snoc, getD-drop}
-use lib.Dec.{ltb, leb, eqb}
+use native.Mathlib.Nat.{add-zero}
+use lib.ListN.{length, getD, set, drop, length-map}
+use lib.Seq.{drop-cons, getD-append-add, append-snoc, getD-drop}
+use lib.Dec.{ltb, leb}
 use borrow.Author.Tests.{eq-eqb, ne-eqb, lt-ltb, le-ltb, ltb-true, leb-true, leb-false}
 use Rattle.laws.specs.Tests.{by-test, clash, tests}
 use Rattle.laws.specs.Lists.{any, any-append, any-snoc, map-append}
@@ -37,23 +37,26 @@ rows-split ws i n h =
     let e : i + suc (n - suc i) ≡ n = omega arith in
     rw e at (rows-more ws (suc (n - suc i)) i)
 
--- a pass that looks for a row: not found among the first i, and then one row more
-pub any-none : (P : Node → Bool) (ws : List ℕ) → any P (rows-of ws 0) ≡ false
+-- A pass that looks for a row: it has come to row i of n and passed none.
+pub record Scanned (P : Node → Bool) (ws : List ℕ) (n i : ℕ) : Type 0 where
+  pub within : i ≤ n
+  pub none : any P (rows-of ws i) ≡ false
+
+pub scan-start : (P : Node → Bool) (ws : List ℕ) (n : ℕ) → Scanned P ws n 0
 unfolding rows-of
-any-none P ws = refl
+scan-start P ws n = record { within = omega arith; none = refl }
 
-pub any-more : (P : Node → Bool) (ws : List ℕ) (i : ℕ) → any P (rows-of ws i) ≡ false → P (row ws i) ≡ false → any P (rows-of ws (i + 1)) ≡ false
-unfolding rows-of
-any-more P ws i a b = rw (add-one, any-snoc P (rows-of ws i) (row ws i), a, b) refl
+module _ {P : Node → Bool} {ws : List ℕ} {n i : ℕ} (S : Scanned P ws n i) where
+  pub scan-more : i < n → P (row ws i) ≡ false → Scanned P ws n (i + 1)
+  unfolding rows-of
+  scan-more h e = record { within = omega arith; none = rw (add-one, any-snoc P (rows-of ws i) (row ws i), S .none, e) refl }
 
--- the pass has come to its end
-pub any-all : (P : Node → Bool) (ws : List ℕ) (i n : ℕ) → i ≤ n → n ≤ i → any P (rows-of ws i) ≡ false → any P (rows-of ws n) ≡ false
-any-all P ws i n a b h = let e : i ≡ n = omega arith in rw e at h
+  pub scan-hit : i < n → P (row ws i) ≡ true → any P (rows-of ws n) ≡ true
+  scan-hit h e =
+      rw (rows-split ws i n h, any-append P (rows-of ws i) (row ws i ∷ rows-from ws (suc i) (n - suc i)), S .none, e) refl
 
-pub any-hit : (P : Node → Bool) (ws : List ℕ) (i n : ℕ) → i < n → P (row ws i) ≡ true → any P (rows-of ws n) ≡ true
-any-hit P ws i n h e =
-    rw (rows-split ws i n h, any-append P (rows-of ws i) (row ws i ∷ rows-from ws (suc i) (n - suc i)), e)
-    (by-test (any P (rows-of ws i)) (λ t. rw t refl) (λ t. rw t refl))
+  pub scan-end : n ≤ i → any P (rows-of ws n) ≡ false
+  scan-end h = let e : i ≡ n = omega (arith, S .within) in rw e at (S .none)
 
 find-behind : (r : ℕ) (ns ms : List Node) (m : Node) → any (has-round r) ns ≡ false → has-round r m ≡ true → find r (ns ++ m ∷ ms) ≡ m
 unfolding find
@@ -62,9 +65,9 @@ find-behind r (n ∷ ns) ms m a e =
     by-test (has-round r n) (λ t. clash (rw t refl) a) (λ t. rw t (find-behind r ns ms m (rw t at a) e))
 
 -- the first row that has round r
-pub find-hit : (r : ℕ) (ws : List ℕ) (i n : ℕ) → i < n → any (has-round r) (rows-of ws i) ≡ false → row ws i .round ≡ r → find r (rows-of ws n) ≡ row ws i
-find-hit r ws i n h a e =
-    rw (rows-split ws i n h) (find-behind r (rows-of ws i) (rows-from ws (suc i) (n - suc i)) (row ws i) a (eq-eqb (row ws i .round) r e))
+pub find-hit : {r : ℕ} {ws : List ℕ} {n i : ℕ} → Scanned (has-round r) ws n i → i < n → row ws i .round ≡ r → find r (rows-of ws n) ≡ row ws i
+find-hit {r = r} {ws = ws} {n = n} {i = i} S h e =
+    rw (rows-split ws i n h) (find-behind r (rows-of ws i) (rows-from ws (suc i) (n - suc i)) (row ws i) (S .none) (eq-eqb (row ws i .round) r e))
 
 -- what a search for a round says
 pub found-absent : {ws : List ℕ} {n r k : ℕ} → Found ws n r k → leb n k ≡ not (present r (rows-of ws n))

@@ -3,7 +3,7 @@ use mathlib.Core.Path.{_≡_}
 use mathlib.Core.Bool.{Bool, true, false, cond, _&&_}
 use mathlib.Core.List.{List}
 use Prim.Native.Nat.{ℕ, _<_, _≤_}
-use lib.Dec.{ltb, eqb}
+use lib.Dec.{eqb}
 use Rattle.quorum_tree.specs.Machine.{Node, ADDED, GHOST, with-status, crosses, present, find}
 use Rattle.quorum_tree.specs.Table.{row, rows-of}
 

@@ -1,7 +1,7 @@
 // Passes over the rows of a node table, four 64-bit words a row: round, parent, value, status (01, "The tree").
 ghost use mathlib.Core.Path.{_≡_};
 ghost use mathlib.Core.Bool.{cond, _&&_, not};
-ghost use mathlib.Core.List.{_∷_, [], _++_, map};
+ghost use mathlib.Core.List.{_∷_, _++_, map};
 ghost use Prim.Native.Nat.{_+_, _*_, _≤_, _<_};
 ghost use lib.Dec.{eqb};
 ghost use lib.ListN.{length, set, take, drop, replicate};
@@ -204,12 +204,12 @@ pub fn zeros_from(t: &[u64], from: usize) -> bool
     requires { ⌜ from ≤ length (now t) ⌝ }
     ensures { λ b. ⌜ b ≡ zeros-to (now (t .entry)) from (length (now (t .entry))) ⌝ }
 {
-    let mut i = from;
-    while i < t.len() {
-        if t[i] != 0 {
+    let mut word = from;
+    while word < t.len() {
+        if t[word] != 0 {
             return false;
         }
-        i += 1;
+        word += 1;
     }
     true
 }
@@ -218,9 +218,9 @@ pub fn zeros_from(t: &[u64], from: usize) -> bool
 pub fn clear(t: &mut [u64])
     ensures { λ _. ⌜ now (t .exit) ≡ replicate (length (now (t .entry))) 0 ⌝ }
 {
-    let mut i = 0;
-    while i < t.len() {
-        t[i] = 0;
-        i += 1;
+    let mut word = 0;
+    while word < t.len() {
+        t[word] = 0;
+        word += 1;
     }
 }

@@ -1,6 +1,6 @@
 -- The recursion to the parent that writes a path: what it hands on, and what it makes of the parent's path. Assumes nothing.
 use mathlib.Core.Path.{_≡_, refl, sym, ap, subst, _∙_}
-use mathlib.Core.Bool.{true, false, cond, _&&_}
+use mathlib.Core.Bool.{true, false, _&&_}
 use mathlib.Core.List.{List, [], _∷_, _++_, append-assoc}
 use Prim.Native.Nat.{ℕ, zero, suc, _+_, _%_, _≤_, _<_}
 use native.Mathlib.Omega.{arith}
@@ -41,13 +41,13 @@ some ws G (suc x) h =
       length-append (path (nodes ws) (find (suc x) (nodes ws) .parent)) (suc x ∷ []),
     )
 
-module _ (ws : List ℕ) (n r behind : ℕ) (P : PathOf ws n r behind) (pos : 0 < r) where
+module _ {ws : List ℕ} {n r behind : ℕ} (P : PathOf ws n r behind) (pos : 0 < r) where
   grown : Grown true (rows ws) (nodes ws)
   grown = tree-held true ws (P .length-is) (P .tree) .grown
 
   -- the row of r
-  pub row-found : (k : ℕ) → Found ws n r k → (k < used ws) × (find r (nodes ws) ≡ row ws k)
-  row-found k F =
+  pub row-found : {k : ℕ} → Found ws n r k → (k < used ws) × (find r (nodes ws) ≡ row ws k)
+  row-found {k = k} F =
       let F′ : Found ws (used ws) r k = subst (λ m. Found ws m r k) (P .rows-are) F in
       by-test (leb (used ws) k)
       (λ y. clash (P .there) (F′ .none (leb-true (used ws) k y)))
@@ -57,12 +57,12 @@ module _ (ws : List ℕ) (n r behind : ℕ) (P : PathOf ws n r behind) (pos : 0 
   longer =
       ap length (path-next true (rows ws) (nodes ws) grown r (P .there) pos) ∙ length-append (path (nodes ws) (find r (nodes ws) .parent)) (r ∷ [])
 
-  pub parent-lower : (p : ℕ) → p ≡ find r (nodes ws) .parent → p < r
-  parent-lower p e = rw e (next-lower true (rows ws) (nodes ws) grown r (P .there) pos)
+  pub parent-lower : {p : ℕ} → p ≡ find r (nodes ws) .parent → p < r
+  parent-lower e = rw e (next-lower true (rows ws) (nodes ws) grown r (P .there) pos)
 
   -- what the call for the parent asks
-  pub parent-of : (p : ℕ) → p ≡ find r (nodes ws) .parent → PathOf ws n p (behind + 1)
-  parent-of p e =
+  pub parent-of : {p : ℕ} → p ≡ find r (nodes ws) .parent → PathOf ws n p (behind + 1)
+  parent-of e =
       record {
         length-is = P .length-is;
         tree = P .tree;
@@ -71,7 +71,7 @@ module _ (ws : List ℕ) (n r behind : ℕ) (P : PathOf ws n r behind) (pos : 0 
         short = rw e (omega (arith, longer, P .short));
       }
 
-  module _ (p : ℕ) (e : p ≡ find r (nodes ws) .parent) (out : List ℕ) (k : ℕ) (out′ : List ℕ) (W : PathWritten ws p (behind + 1) out k out′) where
+  module _ {p : ℕ} (e : p ≡ find r (nodes ws) .parent) {out : List ℕ} {k : ℕ} {out′ : List ℕ} (W : PathWritten ws p (behind + 1) out k out′) where
     -- the parent's path found room for itself and r, or it didn't
     fate : {C : Type 0} →
         ((length (path (nodes ws) p) + (behind + 1) ≤ length out) → k ≡ length (path (nodes ws) p) → out′ ≡ path (nodes ws) p ++ drop (length (path (nodes ws) p)) out → C) →

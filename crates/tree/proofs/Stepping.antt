@@ -1,6 +1,6 @@
 -- Steps of a tree in lent words: what the passes of the code leave is what the machine makes. Assumes nothing.
 use mathlib.Core.Path.{_≡_, refl, sym, ap, subst, _∙_}
-use mathlib.Core.Bool.{Bool, true, false, cond, _&&_, not}
+use mathlib.Core.Bool.{Bool, true, false, cond, _&&_}
 use mathlib.Core.Logic.{_≢_}
 use mathlib.Core.List.{List, [], _∷_, _++_, map, append-assoc}
 use Prim.Native.Nat.{ℕ, zero, suc, _+_, _-_, _*_, _%_, _≤_, _<_}
@@ -8,17 +8,17 @@ use native.Mathlib.Omega.{arith}
 use lib.ListN.{length, set, take, drop, replicate, length-append, length-map}
 use lib.Seq.{drop-append-add, drop-drop, take-at}
 use lib.Dec.{ltb, leb, eqb}
-use borrow.Author.Tests.{eq-eqb, ne-eqb, ltb-true, leb-true, leb-false, not-false, eqb-true}
+use borrow.Author.Tests.{eq-eqb, ne-eqb, ltb-true, leb-true, leb-false, not-false}
 use Rattle.laws.specs.Tests.{by-test, clash, tests, and-left, and-right}
 use Rattle.laws.specs.Lists.{any, any-intro}
 use Rattle.laws.specs.First.{passed}
-use Rattle.quorum_tree.specs.Machine.{Node, Call, add, commit, ADDED, COMMITTED, GHOST, has-round, present, find, above, with-status, causes, answer, struck, committed, new-node, change, step}
+use Rattle.quorum_tree.specs.Machine.{Call, add, commit, ADDED, COMMITTED, GHOST, has-round, present, above, causes, answer, struck, committed, new-node, change, step}
 use Rattle.quorum_tree.specs.Table.{row, rows, rows-of, used, nodes, words, sized, table, Tree, is-tree, call-number, call-table, fresh-table}
 use Rattle.quorum_tree.proofs.Words.{length-words, length-rows, words-append, used-rows, row-in}
-use Rattle.quorum_tree.proofs.Grown.{Grown, placed-cut}
+use Rattle.quorum_tree.proofs.Grown.{placed-cut}
 use Rattle.quorum_tree.proofs.Paths.{marked, struck-marked, accepted-parent}
 use Rattle.quorum_tree.proofs.History.{step-ok, step-refused}
-use Rattle.quorum_tree.proofs.Trees.{Held, tree-held, is-tree-exact}
+use Rattle.quorum_tree.proofs.Trees.{tree-held, is-tree-exact}
 use Rattle.quorum_tree.proofs.Steps.{step-tree, tree-number, tree-table, fresh-written}
 use Rattle.table.specs.Rows.{strike-crossed}
 use Rattle.table.proofs.Rows.{rows-from, rows-split, Passed, pass-none, pass-on, pass-set, pass-end}

@@ -44,14 +44,14 @@ fn add_answer(valued: bool, t: &[u64], n: usize, r: Round, v: u64, p: Round) -> 
     if table::find_row(t, n, round) < n {
         return AddAnswer::Present;
     }
-    let k = table::find_row(t, n, parent);
-    if n <= k {
+    let parent_row = table::find_row(t, n, parent);
+    if n <= parent_row {
         return AddAnswer::ParentAbsent;
     }
     if round <= parent {
         return AddAnswer::ParentNotBelow;
     }
-    if table::other_value(valued, t, k, v, parent) {
+    if table::other_value(valued, t, parent_row, v, parent) {
         return AddAnswer::OtherValue;
     }
     if table::any_blocks(t, n, round, parent) {

@@ -4,10 +4,10 @@ use mathlib.Core.Path.{_≡_, refl, sym, ap, _∙_}
 use mathlib.Core.List.{List, [], _∷_, _++_, List·Memᴰ·head as here, List·Memᴰ·tail as there, List·Memᴰ·append-cases, Memᴰ·append-left, Memᴰ·append-right}
 use mathlib.Core.Logic.{⊎-elim}
 use Prim.Native.Nat.{ℕ, zero, suc, _+_, _*_, _/_, _%_, _^_, _≤_, _<_}
-use native.Mathlib.Nat.{pow-suc, pow-succ', add-mul, mul-assoc, mul-le-mul-right, zero-add}
+use native.Mathlib.Nat.{min-le-left, pow-le-pow-right, pow-suc, pow-succ', add-mul, mul-assoc, mul-le-mul-right, zero-add}
 use native.Mathlib.Omega.{arith}
-use lib.ListN.{length, take, drop, getD, set, length-append, length-drop, take-append-drop}
-use lib.Seq.{take-suc, take-all, take-at, drop-at, length-take-le, drop-drop, drop-cons, take-add, sets-eq}
+use lib.ListN.{length, take, drop, getD, set, length-append, length-take, length-drop, take-append-drop}
+use lib.Seq.{take-suc, take-all, take-at, drop-at, length-take-le, take-append-le, drop-append-le, drop-drop, drop-cons, take-add, sets-eq}
 use Rattle.laws.specs.Lists.{_∈_, in-last, every-snoc}
 use Rattle.laws.specs.Parts.{written-on}
 use Rattle.xdr.specs.Words.{Bytes, big-endian, value-after, value, word, hyper, word-at, hyper-at}
@@ -126,9 +126,21 @@ pub hyper-whole : (at : ℕ) (s : List ℕ) → Bytes s → at + 8 ≤ length s 
 unfolding hyper hyper-at
 hyper-whole at s k h = whole 8 at s k h
 
-pub hyper-at-small : (at : ℕ) (s : List ℕ) → Bytes s → at + 8 ≤ length s → hyper-at s at < 18446744073709551616
+pub hyper-at-small : (at : ℕ) (s : List ℕ) → Bytes s → hyper-at s at < 18446744073709551616
 unfolding hyper-at
-hyper-at-small at s k h = rw (part-length 8 at s h) at (value-small (take 8 (drop at s)) (part-bytes 8 at s k))
+hyper-at-small at s k =
+    let part = take 8 (drop at s) in
+    let small : length part ≤ 8 = rw (length-take 8 (drop at s)) (min-le-left 8 (length (drop at s))) in
+    let wide : 256 ^ length part ≤ 256 ^ 8 = pow-le-pow-right (omega arith) small in
+    omega (arith, value-small part (part-bytes 8 at s k))
+
+-- what comes behind a number doesn't matter to it
+pub word-at-front : (l r : List ℕ) (at : ℕ) → at + 4 ≤ length l → word-at (l ++ r) at ≡ word-at l at
+unfolding word-at
+word-at-front l r at h =
+    let left : 4 ≤ length (drop at l) = rw (length-drop at l) (omega arith) in
+    let within : at ≤ length l = omega arith in
+    rw (drop-append-le at l r within, take-append-le 4 (drop at l) r left) refl
 
 -- the bytes of a number are those of its high part and then those of its low part
 big-endian-parts : (m n high low : ℕ) → high < 256 ^ m → low < 256 ^ n → big-endian (m + n) (high * 256 ^ n + low) ≡ big-endian m high ++ big-endian n low

@@ -1,26 +1,24 @@
 -- `table::find_row` meets its contract: no row passed has the round. Assumes nothing.
-use mathlib.Core.Path.{_≡_, sym, _∙_}
-use mathlib.Core.Bool.{false}
-use Prim.Native.Nat.{_≤_, _<_, _-_}
+use mathlib.Core.Path.{_≡_}
+use Prim.Native.Nat.{_-_}
 use native.Mathlib.Omega.{arith}
 use borrow.Author.Needs.{needs}
 use borrow.Author.Tests.{eq-eqb, ne-eqb}
 use denote.Ref.{now}
-use Rattle.quorum_tree.specs.Machine.{has-round, present}
-use Rattle.quorum_tree.specs.Table.{row, rows-of}
-use Rattle.table.specs.Rows.{Found}
-use Rattle.table.proofs.Rows.{any-none, any-more, any-hit, any-all, find-hit}
+use Rattle.quorum_tree.specs.Machine.{has-round}
+use Rattle.quorum_tree.specs.Table.{row}
+use Rattle.table.proofs.Rows.{Scanned, scan-start, scan-more, scan-hit, scan-end, find-hit}
 use Rattle.table.proofs.find_row.Statement.{statement}
 use Rattle.table.proofs.find_row.Tie as tie
 
 abbrev Inv-loop : tie.InvT-loop
-Inv-loop t n r i₀ i = (i ≤ n) × (present r (rows-of t i) ≡ false)
+Inv-loop t n r i₀ i = Scanned (has-round r) t n i
 
 abbrev μ-loop : tie.MeasureT-loop
 μ-loop t n r i₀ i = n - i
 
 loop-holds : tie.Need-loop-holds Inv-loop μ-loop
-loop-holds c = let a = c .before .args in (search needs, any-none (has-round (a .r)) (now (a .t)))
+loop-holds c = scan-start _ _ _
 
 round-at-requires : tie.Need-round-at-requires Inv-loop μ-loop
 round-at-requires c κs = omega arith
@@ -32,8 +30,8 @@ returns c =
     let e : row (now (a .t)) (l .i) .round ≡ a .r = omega arith in
     record {
       within = omega arith;
-      at = λ h. find-hit (a .r) (now (a .t)) (l .i) (a .n) h (l .inv .1) e;
-      there = λ h. any-hit (has-round (a .r)) (now (a .t)) (l .i) (a .n) h (eq-eqb _ _ e);
+      at = λ h. find-hit (l .inv) h e;
+      there = λ h. scan-hit (l .inv) h (eq-eqb _ _ e);
       none = λ h. absurd (omega arith);
     }
 
@@ -48,17 +46,16 @@ loop-again c =
     let a = c .before .before .before .before .before .args in
     let l = c .before .before .before .loop in
     let e : row (now (a .t)) (l .i) .round ≡ a .r → ⊥ = λ q. c .if1 .left (omega arith) in
-    (search needs, any-more (has-round (a .r)) (now (a .t)) (l .i) (l .inv .1) (ne-eqb _ _ e))
+    scan-more (l .inv) (c .before .before .loop-test .taken) (ne-eqb _ _ e)
 
 returns-2 : tie.Need-returns-2 Inv-loop μ-loop
 returns-2 c =
-    let a = c .before .before .before .args in
     let l = c .before .loop in
     record {
       within = omega arith;
       at = λ h. absurd (omega arith);
       there = λ h. absurd (omega arith);
-      none = λ h. any-all (has-round (a .r)) (now (a .t)) (l .i) (a .n) (l .inv .0) (c .loop-test .left) (l .inv .1);
+      none = λ h. scan-end (l .inv) h;
     }
 
 pub find-row-spec : {M : Type 1} → statement M

@@ -12,10 +12,10 @@ use Rattle.table.proofs.zeros_from.Statement.{statement}
 use Rattle.table.proofs.zeros_from.Tie as tie
 
 abbrev Inv-loop : tie.InvT-loop
-Inv-loop t from i₀ i = (from ≤ i) × (i ≤ length t) × (zeros-to t from i ≡ true)
+Inv-loop t from word₀ word = (from ≤ word) × (word ≤ length t) × (zeros-to t from word ≡ true)
 
 abbrev μ-loop : tie.MeasureT-loop
-μ-loop t from i₀ i = length t - i
+μ-loop t from word₀ word = length t - word
 
 loop-holds : tie.Need-loop-holds Inv-loop μ-loop
 loop-holds c = (search needs, search needs, zeros-start _ _ _ (search needs))
@@ -31,8 +31,8 @@ returns c =
     let l = c .before .before .before .loop in
     sym (zeros-hit _ _ _ _ (c .before .before .loop-test .taken) (l .inv .0) (c .if1 .taken))
 
-add-i : tie.Need-add-i Inv-loop μ-loop
-add-i c = omega arith
+add-word : tie.Need-add-word Inv-loop μ-loop
+add-word c = omega arith
 
 loop-less : tie.Need-loop-less Inv-loop μ-loop
 loop-less c = omega arith
@@ -46,9 +46,9 @@ returns-2 : tie.Need-returns-2 Inv-loop μ-loop
 returns-2 c =
     let l = c .before .loop in
     let t = now (c .before .before .args .t) in
-    let e : l .i ≡ length t = omega arith in
+    let e : l .word ≡ length t = omega arith in
     sym (rw e at (l .inv .2))
 
 pub zeros-from-spec : {M : Type 1} → statement M
 zeros-from-spec =
-    tie.close (tie.spec Inv-loop μ-loop loop-holds mul-if1 shared-slice-read-if1 returns add-i loop-less loop-again returns-2)
+    tie.close (tie.spec Inv-loop μ-loop loop-holds mul-if1 shared-slice-read-if1 returns add-word loop-less loop-again returns-2)

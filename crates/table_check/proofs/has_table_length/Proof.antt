@@ -1,6 +1,5 @@
 -- `table_check::has_table_length` meets its contract: each return goes by the tests that led there. Assumes nothing.
 use mathlib.Core.Path.{refl}
-use borrow.Author.Needs.{needs}
 use borrow.Author.Tests.{eq-eqb, ne-eqb, le-leb, lt-leb}
 use Rattle.table_check.proofs.has_table_length.Statement.{statement}
 use Rattle.table_check.proofs.has_table_length.Tie as tie

@@ -1,14 +1,13 @@
 -- `table_check::is_tree` meets its contract: its tests are `checks`, which is `is-tree`. Assumes nothing.
-use mathlib.Core.Path.{_≡_, refl, sym, ap, _∙_}
-use mathlib.Core.Bool.{Bool, true, false}
-use mathlib.Core.List.{List}
-use Prim.Native.Nat.{ℕ, _≤_, _*_}
+use mathlib.Core.Path.{_≡_, sym, _∙_}
+use mathlib.Core.Bool.{true, false}
+use Prim.Native.Nat.{_≤_, _*_}
 use native.Mathlib.Omega.{arith}
 use lib.ListN.{length}
 use borrow.Author.Needs.{needs}
 use borrow.Author.Tests.{le-leb, lt-leb, not-true, not-false}
 use denote.Ref.{now}
-use Rattle.quorum_tree.specs.Table.{used, is-tree}
+use Rattle.quorum_tree.specs.Table.{used}
 use Rattle.quorum_tree.specs.Check.{checks, fits-to, zeros-to}
 use Rattle.quorum_tree.proofs.Words.{used-rows}
 use Rattle.quorum_tree.proofs.Checks.{checks-exact}

@@ -11,21 +11,19 @@ round-at-requires : tie.Need-round-at-requires
 round-at-requires c κs = search needs
 
 returns : tie.Need-returns
-returns c =
-    let t = now (c .before .before .before .args .t) in
-    let e : row t 0 .round ≡ 0 → ⊥ = λ q. c .if1 .taken (c .before .round-at .ensures ∙ q) in
-    rw (ne-eqb _ _ e) refl
+returns c = rw (ne-eqb _ _ (λ q. c .if1 .taken (c .before .round-at .ensures ∙ q))) refl
+
+round-0 : (c : tie.Else1) → row (now (c .before .before .before .args .t)) 0 .round ≡ 0
+round-0 c = sym (c .before .round-at .ensures) ∙ c .if1 .left
 
 parent-at-requires : tie.Need-parent-at-requires
 parent-at-requires c κs = search needs
 
 returns-2 : tie.Need-returns-2
-returns-2 c =
-    let b = c .before .before in
-    let t = now (b .before .before .before .args .t) in
-    let r : row t 0 .round ≡ 0 = sym (b .before .round-at .ensures) ∙ b .if1 .left in
-    let e : row t 0 .parent ≡ 0 → ⊥ = λ q. c .if2 .taken (c .before .parent-at .ensures ∙ q) in
-    rw (eq-eqb _ _ r, ne-eqb _ _ e) refl
+returns-2 c = rw (eq-eqb _ _ (round-0 (c .before .before)), ne-eqb _ _ (λ q. c .if2 .taken (c .before .parent-at .ensures ∙ q))) refl
+
+parent-0 : (c : tie.Else2) → row (now (c .before .before .before .before .before .args .t)) 0 .parent ≡ 0
+parent-0 c = sym (c .before .parent-at .ensures) ∙ c .if2 .left
 
 value-at-requires : tie.Need-value-at-requires
 value-at-requires c κs = search needs
@@ -33,12 +31,12 @@ value-at-requires c κs = search needs
 returns-3 : tie.Need-returns-3
 returns-3 c =
     let d = c .before .before in
-    let b = d .before .before in
-    let t = now (b .before .before .before .args .t) in
-    let r : row t 0 .round ≡ 0 = sym (b .before .round-at .ensures) ∙ b .if1 .left in
-    let p : row t 0 .parent ≡ 0 = sym (d .before .parent-at .ensures) ∙ d .if2 .left in
-    let e : row t 0 .value ≡ 0 → ⊥ = λ q. c .if3 .taken (c .before .value-at .ensures ∙ q) in
-    rw (eq-eqb _ _ r, eq-eqb _ _ p, ne-eqb _ _ e) refl
+    rw (
+      eq-eqb _ _ (round-0 (d .before .before)),
+      eq-eqb _ _ (parent-0 d),
+      ne-eqb _ _ (λ q. c .if3 .taken (c .before .value-at .ensures ∙ q)),
+    )
+    refl
 
 status-at-requires : tie.Need-status-at-requires
 status-at-requires c κs = search needs
@@ -47,12 +45,13 @@ returns-4 : tie.Need-returns-4
 returns-4 c =
     let f = c .before in
     let d = f .before .before in
-    let b = d .before .before in
-    let t = now (b .before .before .before .args .t) in
-    let r : row t 0 .round ≡ 0 = sym (b .before .round-at .ensures) ∙ b .if1 .left in
-    let p : row t 0 .parent ≡ 0 = sym (d .before .parent-at .ensures) ∙ d .if2 .left in
-    let v : row t 0 .value ≡ 0 = sym (f .before .value-at .ensures) ∙ f .if3 .left in
-    rw (eq-eqb _ _ r, eq-eqb _ _ p, eq-eqb _ _ v, c .status-at .ensures) refl
+    rw (
+      eq-eqb _ _ (round-0 (d .before .before)),
+      eq-eqb _ _ (parent-0 d),
+      eq-eqb _ _ (sym (f .before .value-at .ensures) ∙ f .if3 .left),
+      c .status-at .ensures,
+    )
+    refl
 
 pub root-fits-spec : {M : Type 1} → statement M
 root-fits-spec =

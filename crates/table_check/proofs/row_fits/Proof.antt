@@ -1,21 +1,25 @@
 -- `table_check::row_fits` meets its contract: of a row behind the root, each test stands for one part of `fits`. Assumes nothing.
-use mathlib.Core.Path.{_≡_, refl, sym, ap, _∙_}
-use mathlib.Core.Bool.{Bool, true, false, _&&_, not}
+use mathlib.Core.Path.{_≡_, refl, sym, subst, _∙_}
+use mathlib.Core.Bool.{Bool, _&&_}
 use mathlib.Core.List.{List}
 use Prim.Native.Nat.{ℕ, _≤_, _<_}
 use native.Mathlib.Omega.{arith}
-use lib.Dec.{ltb, eqb}
 use borrow.Author.Needs.{needs}
 use borrow.Author.Tests.{eq-eqb, ne-eqb, lt-ltb, le-ltb, not-true, not-false}
 use denote.Ref.{now}
-use Rattle.quorum_tree.specs.Machine.{present, find, other-value}
+use Rattle.quorum_tree.specs.Machine.{other-value}
 use Rattle.quorum_tree.specs.Table.{row, rows-of}
 use Rattle.quorum_tree.specs.Check.{round-fits, parent-fits, value-fits, status-fits, fits, row-fits}
+use Rattle.table.specs.Rows.{Found}
 use Rattle.table_check.proofs.row_fits.Statement.{statement}
 use Rattle.table_check.proofs.row_fits.Tie as tie
 
-behind-root : (valued : Bool) (ws : List ℕ) (n i : ℕ) → (i ≡ 0 → ⊥) → row-fits valued ws n i ≡
-    (round-fits (rows-of ws i) (row ws i) && (parent-fits (rows-of ws i) (row ws i) && (value-fits valued (rows-of ws i) (row ws i) && status-fits (rows-of ws n) (row ws i))))
+-- the value and the status of row i fit: what is left to test once its round and its parent do
+abbrev rest : Bool → List ℕ → ℕ → ℕ → Bool
+rest valued ws n i = value-fits valued (rows-of ws i) (row ws i) && status-fits (rows-of ws n) (row ws i)
+
+behind-root : (valued : Bool) (ws : List ℕ) (n i : ℕ) → (i ≡ 0 → ⊥) →
+    row-fits valued ws n i ≡ (round-fits (rows-of ws i) (row ws i) && (parent-fits (rows-of ws i) (row ws i) && rest valued ws n i))
 unfolding row-fits fits
 behind-root valued ws n i h = rw (ne-eqb i 0 h) refl
 
@@ -32,9 +36,13 @@ round-fits-requires c κs = search needs
 returns-2 : tie.Need-returns-2
 returns-2 c =
     let b = c .before in
-    let a = b .before .before .before .args in
-    let r : round-fits (rows-of (now (a .t)) (a .i)) (row (now (a .t)) (a .i)) ≡ false = sym (b .round-fits .ensures) ∙ not-true _ (c .if2 .taken) in
-    sym (behind-root (a .valued) (now (a .t)) (a .n) (a .i) (b .before .if1 .left) ∙ rw r refl)
+    sym (behind-root _ _ _ _ (b .before .if1 .left) ∙ rw (sym (b .round-fits .ensures) ∙ not-true _ (c .if2 .taken)) refl)
+
+-- once the round is known to fit, the parent and the rest decide
+ranged : (c : tie.Else2) →
+    let a = c .before .before .before .before .args in
+    row-fits (a .valued) (now (a .t)) (a .n) (a .i) ≡ (parent-fits (rows-of (now (a .t)) (a .i)) (row (now (a .t)) (a .i)) && rest (a .valued) (now (a .t)) (a .n) (a .i))
+ranged c = behind-root _ _ _ _ (c .before .before .if1 .left) ∙ rw (sym (c .before .round-fits .ensures) ∙ not-false _ (c .if2 .left)) refl
 
 parent-at-requires : tie.Need-parent-at-requires
 parent-at-requires c κs = search needs
@@ -42,16 +50,18 @@ parent-at-requires c κs = search needs
 find-row-requires : tie.Need-find-row-requires
 find-row-requires c κs = search needs
 
+-- the search was for the row's own parent
+sought : (c : tie.After-find-row) →
+    let a = c .before .before .before .before .before .before .args in
+    Found (now (a .t)) (a .i) (row (now (a .t)) (a .i) .parent) (c .find-row .result)
+sought c =
+    let a = c .before .before .before .before .before .before .args in
+    subst (λ q. Found (now (a .t)) (a .i) q (c .find-row .result)) (c .before .parent-at .ensures) (c .find-row .ensures)
+
 returns-3 : tie.Need-returns-3
 returns-3 c =
     let f = c .before in
-    let b = f .before .before .before in
-    let a = b .before .before .before .args in
-    let ws = now (a .t) in
-    let r : round-fits (rows-of ws (a .i)) (row ws (a .i)) ≡ true = sym (b .round-fits .ensures) ∙ not-false _ (f .before .before .if2 .left) in
-    let p : present (row ws (a .i) .parent) (rows-of ws (a .i)) ≡ false =
-    ap (λ q. present q (rows-of ws (a .i))) (sym (f .before .parent-at .ensures)) ∙ f .find-row .ensures .none (c .if3 .taken) in
-    sym (behind-root (a .valued) ws (a .n) (a .i) (b .before .if1 .left) ∙ rw (r, p) refl)
+    sym (ranged (f .before .before) ∙ rw (sought f .none (c .if3 .taken)) refl)
 
 round-at-requires : tie.Need-round-at-requires
 round-at-requires c κs = search needs
@@ -60,15 +70,20 @@ returns-4 : tie.Need-returns-4
 returns-4 c =
     let g = c .before .before in
     let f = g .before in
-    let b = f .before .before .before in
-    let a = b .before .before .before .args in
-    let ws = now (a .t) in
-    let r : round-fits (rows-of ws (a .i)) (row ws (a .i)) ≡ true = sym (b .round-fits .ensures) ∙ not-false _ (f .before .before .if2 .left) in
-    let e = f .before .parent-at .ensures in
-    let p : present (row ws (a .i) .parent) (rows-of ws (a .i)) ≡ true =
-    ap (λ q. present q (rows-of ws (a .i))) (sym e) ∙ f .find-row .ensures .there (g .if3 .left) in
-    let l : row ws (a .i) .round ≤ row ws (a .i) .parent = omega arith in
-    sym (behind-root (a .valued) ws (a .n) (a .i) (b .before .if1 .left) ∙ rw (r, p, le-ltb _ _ l) refl)
+    let a = f .before .before .before .before .before .before .args in
+    let l : row (now (a .t)) (a .i) .round ≤ row (now (a .t)) (a .i) .parent = omega (arith, f .before .parent-at .ensures) in
+    sym (ranged (f .before .before) ∙ rw (sought f .there (g .if3 .left), le-ltb _ _ l) refl)
+
+-- once the parent is known to fit, the rest decides
+lower : (c : tie.Else4) →
+    let a = c .before .before .before .before .before .before .before .before .before .args in
+    row-fits (a .valued) (now (a .t)) (a .n) (a .i) ≡ rest (a .valued) (now (a .t)) (a .n) (a .i)
+lower c =
+    let g = c .before .before in
+    let f = g .before in
+    let a = f .before .before .before .before .before .before .args in
+    let l : row (now (a .t)) (a .i) .parent < row (now (a .t)) (a .i) .round = omega (arith, f .before .parent-at .ensures) in
+    ranged (f .before .before) ∙ rw (sought f .there (g .if3 .left), lt-ltb _ _ l) refl
 
 value-at-requires : tie.Need-value-at-requires
 value-at-requires c κs = search needs
@@ -76,42 +91,27 @@ value-at-requires c κs = search needs
 other-value-requires : tie.Need-other-value-requires
 other-value-requires c κs = search needs
 
+-- the values compared are the row's and its parent's
+compared : (c : tie.After-other-value) →
+    let a = c .before .before .before .before .before .before .before .before .before .before .before .args in
+    (a .valued && other-value (rows-of (now (a .t)) (a .i)) (row (now (a .t)) (a .i) .value) (row (now (a .t)) (a .i) .parent)) ≡ c .other-value .result
+compared c =
+    let g = c .before .before .before .before in
+    let f = g .before in
+    rw (sought f .at (g .if3 .left), ← (f .before .parent-at .ensures), ← (c .before .value-at .ensures)) (sym (c .other-value .ensures))
+
 returns-5 : tie.Need-returns-5
 returns-5 c =
-    let h = c .before .before .before in
-    let g = h .before .before in
-    let f = g .before in
-    let b = f .before .before .before in
-    let a = b .before .before .before .args in
-    let ws = now (a .t) in
-    let r : round-fits (rows-of ws (a .i)) (row ws (a .i)) ≡ true = sym (b .round-fits .ensures) ∙ not-false _ (f .before .before .if2 .left) in
-    let e = f .before .parent-at .ensures in
-    let p : present (row ws (a .i) .parent) (rows-of ws (a .i)) ≡ true =
-    ap (λ q. present q (rows-of ws (a .i))) (sym e) ∙ f .find-row .ensures .there (g .if3 .left) in
-    let l : row ws (a .i) .parent < row ws (a .i) .round = omega arith in
-    let v : (a .valued && other-value (rows-of ws (a .i)) (row ws (a .i) .value) (row ws (a .i) .parent)) ≡ true =
-    rw (← e, ← (c .before .before .value-at .ensures), f .find-row .ensures .at (g .if3 .left)) (sym (c .before .other-value .ensures) ∙ c .if5 .taken) in
-    sym (behind-root (a .valued) ws (a .n) (a .i) (b .before .if1 .left) ∙ rw (r, p, lt-ltb _ _ l, v) refl)
+    let o = c .before in
+    sym (lower (o .before .before) ∙ rw (compared o ∙ c .if5 .taken) refl)
 
 status-fits-requires : tie.Need-status-fits-requires
 status-fits-requires c κs = search needs
 
 returns-6 : tie.Need-returns-6
 returns-6 c =
-    let h = c .before .before .before .before in
-    let g = h .before .before in
-    let f = g .before in
-    let b = f .before .before .before in
-    let a = b .before .before .before .args in
-    let ws = now (a .t) in
-    let r : round-fits (rows-of ws (a .i)) (row ws (a .i)) ≡ true = sym (b .round-fits .ensures) ∙ not-false _ (f .before .before .if2 .left) in
-    let e = f .before .parent-at .ensures in
-    let p : present (row ws (a .i) .parent) (rows-of ws (a .i)) ≡ true =
-    ap (λ q. present q (rows-of ws (a .i))) (sym e) ∙ f .find-row .ensures .there (g .if3 .left) in
-    let l : row ws (a .i) .parent < row ws (a .i) .round = omega arith in
-    let v : (a .valued && other-value (rows-of ws (a .i)) (row ws (a .i) .value) (row ws (a .i) .parent)) ≡ false =
-    rw (← e, ← (c .before .before .before .value-at .ensures), f .find-row .ensures .at (g .if3 .left)) (sym (c .before .before .other-value .ensures) ∙ c .before .if5 .left) in
-    c .status-fits .ensures ∙ sym (behind-root (a .valued) ws (a .n) (a .i) (b .before .if1 .left) ∙ rw (r, p, lt-ltb _ _ l, v) refl)
+    let o = c .before .before in
+    c .status-fits .ensures ∙ sym (lower (o .before .before) ∙ rw (compared o ∙ c .before .if5 .left) refl)
 
 pub row-fits-spec : {M : Type 1} → statement M
 row-fits-spec =

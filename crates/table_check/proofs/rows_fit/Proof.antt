@@ -5,7 +5,6 @@ use Prim.Native.Nat.{_≤_, _-_}
 use native.Mathlib.Omega.{arith}
 use borrow.Author.Needs.{needs}
 use borrow.Author.Tests.{not-true, not-false}
-use denote.Ref.{now}
 use Rattle.quorum_tree.specs.Check.{fits-to}
 use Rattle.table_check.proofs.Fits.{fits-none, fits-more, fits-not}
 use Rattle.table_check.proofs.rows_fit.Statement.{statement}

@@ -56,39 +56,35 @@ returns-3 c =
     )
     refl
 
-returns-4 : tie.Need-returns-4
+-- once the parent is known to be present, the answer is the first of the last four causes
+parent-there : (c : tie.Else3) →
+    let a = c .before .before .before .before .before .before .before .before .before .args in
+    let ns = rows-of (now (a .t)) (a .n) in
+    answer (a .valued) (rows (now (a .t))) ns (add (a .r .0) (a .v) (a .p .0)) ≡
+    first (leb (a .r .0) (a .p .0) gives 6 ∷ (a .valued && other-value ns (a .v) (a .p .0)) gives 7 ∷ any (blocks (a .r .0) (a .p .0)) ns gives 8 ∷ leb (rows (now (a .t))) (length ns) gives 9 ∷ [])
 unfolding answer causes
-returns-4 c =
-    let f = c .before in
-    let d = f .before .before in
+parent-there c =
+    let d = c .before .before in
     rw (
       ranged (d .before .before .before .before),
       d .before .find-row .ensures .none (d .if2 .left),
-      f .before .find-row2 .ensures .there (f .if3 .left),
-      le-leb _ _ (c .if4 .taken),
+      c .before .find-row2 .ensures .there (c .if3 .left),
     )
     refl
+
+returns-4 : tie.Need-returns-4
+returns-4 c = sym (parent-there (c .before) ∙ rw (le-leb _ _ (c .if4 .taken)) refl)
 
 other-value-requires : tie.Need-other-value-requires
 other-value-requires c κs = search needs
 
--- once the parent is known to be lower, the answer is the first of the last three causes
+-- once the parent is known to be lower, that of the last three
 lower : (c : tie.Else4) →
     let a = c .before .before .before .before .before .before .before .before .before .before .args in
     let ns = rows-of (now (a .t)) (a .n) in
     answer (a .valued) (rows (now (a .t))) ns (add (a .r .0) (a .v) (a .p .0)) ≡
     first ((a .valued && other-value ns (a .v) (a .p .0)) gives 7 ∷ any (blocks (a .r .0) (a .p .0)) ns gives 8 ∷ leb (rows (now (a .t))) (length ns) gives 9 ∷ [])
-unfolding answer causes
-lower c =
-    let f = c .before in
-    let d = f .before .before in
-    rw (
-      ranged (d .before .before .before .before),
-      d .before .find-row .ensures .none (d .if2 .left),
-      f .before .find-row2 .ensures .there (f .if3 .left),
-      lt-leb _ _ (c .if4 .left),
-    )
-    refl
+lower c = parent-there (c .before) ∙ rw (lt-leb _ _ (c .if4 .left)) refl
 
 valued-by : (c : tie.After-other-value) →
     let a = c .before .before .before .before .before .before .before .before .before .before .before .args in

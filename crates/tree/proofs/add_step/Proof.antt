@@ -1,5 +1,5 @@
 -- `tree::add_step` meets its contract: the answer is the machine's, and the table is changed only where it is OK. Assumes nothing.
-use mathlib.Core.Path.{_≡_, refl, sym, ap, subst, _∙_}
+use mathlib.Core.Path.{_≡_, sym, ap, subst, _∙_}
 use mathlib.Core.List.{[], _∷_, _++_, map}
 use Prim.Native.Nat.{_+_, _*_}
 use native.Mathlib.Omega.{arith}

@@ -1,12 +1,15 @@
 -- `tree::commit_answer` meets its contract: each test stands for one cause of the machine, in its order. Assumes nothing.
 use mathlib.Core.Path.{_≡_, refl, sym, ap, _∙_}
 use mathlib.Core.Bool.{true, false}
+use mathlib.Core.List.{[], _∷_}
+use lib.Dec.{eqb}
 use borrow.Author.Needs.{needs}
 use borrow.Author.Tests.{eq-eqb, ne-eqb, not-true, not-false}
 use denote.Ref.{now}
 use Rattle.ids.specs.Ranges.{out-of-range}
-use Rattle.quorum_tree.specs.Machine.{Node, find, causes, answer}
-use Rattle.quorum_tree.specs.Table.{rows-of}
+use Rattle.laws.specs.First.{first, _gives_}
+use Rattle.quorum_tree.specs.Machine.{Node, GHOST, find, causes, answer, commit}
+use Rattle.quorum_tree.specs.Table.{rows, rows-of}
 use Rattle.tree.proofs.commit_answer.Statement.{statement}
 use Rattle.tree.proofs.commit_answer.Tie as tie
 
@@ -52,31 +55,30 @@ returns-3 c =
     )
     refl
 
-returns-4 : tie.Need-returns-4
+-- once the node is known to be uncommitted, only GHOST is left
+uncommitted : (c : tie.Else3) →
+    let a = c .before .before .before .before .before .before .before .before .args in
+    let ns = rows-of (now (a .t)) (a .n) in
+    answer true (rows (now (a .t))) ns (commit (a .r .0)) ≡ first (eqb (find (a .r .0) ns .status) GHOST gives 12 ∷ [])
 unfolding answer causes
-returns-4 c =
-    let f = c .before in
-    let d = f .before .before in
+uncommitted c =
+    let d = c .before .before in
     rw (
       ranged (d .before .before .before),
       d .before .find-row .ensures .there (d .if2 .left),
-      ne-eqb _ _ (λ q. f .if3 .left (sym (status-is (f .before)) ∙ q)),
-      eq-eqb _ _ (status-is (f .before) ∙ c .if4 .taken),
+      ne-eqb _ _ (λ q. c .if3 .left (sym (status-is (c .before)) ∙ q)),
     )
     refl
 
+returns-4 : tie.Need-returns-4
+returns-4 c =
+    let f = c .before in
+    sym (uncommitted f ∙ rw (eq-eqb _ _ (status-is (f .before) ∙ c .if4 .taken)) refl)
+
 returns-5 : tie.Need-returns-5
-unfolding answer causes
 returns-5 c =
     let f = c .before in
-    let d = f .before .before in
-    rw (
-      ranged (d .before .before .before),
-      d .before .find-row .ensures .there (d .if2 .left),
-      ne-eqb _ _ (λ q. f .if3 .left (sym (status-is (f .before)) ∙ q)),
-      ne-eqb _ _ (λ q. c .if4 .left (sym (status-is (f .before)) ∙ q)),
-    )
-    refl
+    sym (uncommitted f ∙ rw (ne-eqb _ _ (λ q. c .if4 .left (sym (status-is (f .before)) ∙ q))) refl)
 
 pub commit-answer-spec : {M : Type 1} → statement M
 commit-answer-spec =

@@ -1,14 +1,14 @@
 -- `tree::commit_step` meets its contract: the answer is the machine's, and the table is changed only where it is OK. Assumes nothing.
-use mathlib.Core.Path.{_≡_, refl, sym, ap, subst, _∙_}
-use mathlib.Core.Bool.{true, false}
-use Prim.Native.Nat.{_+_, _*_, _<_, _≤_}
+use mathlib.Core.Path.{_≡_, sym, ap, subst, _∙_}
+use mathlib.Core.Bool.{true}
+use Prim.Native.Nat.{_<_}
 use native.Mathlib.Omega.{arith}
 use lib.Dec.{ltb}
 use borrow.Author.Needs.{needs}
 use borrow.Author.Tests.{ltb-true, ltb-false}
 use denote.Ref.{now}
 use Rattle.laws.specs.Tests.{by-test, clash}
-use Rattle.quorum_tree.specs.Machine.{Node, commit, answer, causes, find, present}
+use Rattle.quorum_tree.specs.Machine.{Node, commit, answer, causes, present}
 use Rattle.quorum_tree.specs.Table.{row, rows, rows-of, used, nodes}
 use Rattle.quorum_tree.proofs.Words.{used-rows}
 use Rattle.quorum_tree.proofs.Nodes.{find-round}

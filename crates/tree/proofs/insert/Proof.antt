@@ -1,5 +1,4 @@
 -- `tree::insert` meets its contract: the struck rows, the new one behind them, and the rest as it was. Assumes nothing.
-use mathlib.Core.Path.{_≡_, sym, ap, subst, _∙_}
 use borrow.Author.Needs.{needs}
 use denote.Ref.{now}
 use Rattle.tree.proofs.Stepping.{put-behind}

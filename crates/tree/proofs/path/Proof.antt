@@ -1,5 +1,5 @@
 -- `tree::path` meets its contract: each refusal in its order, then the recursion to the parent. Assumes nothing.
-use mathlib.Core.Path.{_≡_, sym, ap, subst, _∙_}
+use mathlib.Core.Path.{_≡_, sym, subst, _∙_}
 use mathlib.Core.Bool.{true, false}
 use native.Mathlib.Omega.{arith}
 use borrow.Author.Needs.{needs}
@@ -7,7 +7,7 @@ use borrow.Author.Tests.{lt-ltb, le-ltb, not-true, not-false}
 use denote.Ref.{now}
 use Rattle.ids.specs.Ranges.{above-range}
 use Rattle.quorum_tree.specs.Machine.{present}
-use Rattle.quorum_tree.specs.Table.{rows-of, used, nodes, sized, is-tree}
+use Rattle.quorum_tree.specs.Table.{rows-of, nodes, sized, is-tree}
 use Rattle.quorum_tree.proofs.Words.{used-rows}
 use Rattle.tree.proofs.Climbing.{path-wrong-length, path-not-tree, path-above, path-absent, path-of, path-short, path-done}
 use Rattle.tree.proofs.path.Statement.{statement}

@@ -1,0 +1,3 @@
+-- Theorems about event lists.
+pub mod Sizes
+pub mod Events

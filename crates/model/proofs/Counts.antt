@@ -1,0 +1,117 @@
+-- A leader that counts JOINs or VOTEs: its flags with one more, and the quorum that they are when the count is complete. What a
+-- member said, with what it says now. Assumes nothing.
+use mathlib.Core.Path.{_≡_, _∙_}
+use mathlib.Core.Bool.{Bool, true, false, not}
+use mathlib.Core.List.{List, _++_, List·Memᴰ·append-cases}
+use mathlib.Core.Logic.{_≢_, ⊎-elim}
+use Prim.Native.Nat.{ℕ, _<_, _≤_, _%_}
+use native.Mathlib.Omega.{arith}
+use lib.ListN.{length, set, replicate, getD-replicate, List·getD-eq-default}
+use lib.Seq.{getD-set-other}
+use lib.Dec.{ltb, eqb}
+use Rattle.laws.specs.Tests.{tests, by-test}
+use Rattle.laws.specs.Lists.{_∈_}
+use Rattle.ids.specs.declared.Round.{Round}
+use Rattle.ids.specs.declared.Member.{Member}
+use Rattle.ids.specs.Ranges.{out-of-range}
+use Rattle.quorum.specs.Count.{count, some}
+use Rattle.quorum.specs.Quorum.{Quorum, quorum}
+use Rattle.message.specs.declared.Message.{Message}
+use Rattle.message.specs.declared.Message.the-variants.{Start, Join, JoinVoted, Propose, Vote}
+use Rattle.member.specs.declared.MemberState.{MemberState}
+use Rattle.member.specs.Record.{flag, flagged, flag-from, no-flags}
+use Rattle.member.specs.Table.{counting, complete, adopted}
+use Rattle.member.proofs.Sound.{parts, sound-size}
+use Rattle.member.proofs.Flags.{counts-agree, set-from}
+use Rattle.model.specs.Model.{Sizes, member-number}
+use Rattle.model.proofs.Kept.{KeptMember, own-round, led-ranged, source-lower}
+use Rattle.model.proofs.Invariant.{JoinOf, carried, Voted, Reached, Spoken}
+use Rattle.model.proofs.Grows.{reached-rises}
+
+-- what soundness says of a member that isn't idle, its vote count apart
+pub record Counts (z : Sizes) (t : ℕ) (m : MemberState) : Type 0 where
+  pub number : m .me ≡ member-number t
+  pub size : m .n ≡ z .n
+  pub own : m .led .0 % z .n ≡ t
+  pub ranged : out-of-range (m .led .0) ≡ false
+  pub lower : m .source .0 < m .led .0
+  pub seven : length (m .flags) ≡ 7
+  pub small : m .n ≤ 7
+  pub none-from : not (some (flag-from (m .n) (m .flags)) 7) ≡ true
+
+pub counts-of : (z : Sizes) (t : ℕ) (m : MemberState) → KeptMember z t m → 1 ≤ m .phase → Counts z t m
+counts-of z t m M h = record {
+  number = M .number;
+  size = M .size;
+  own = own-round z t m M h;
+  ranged = led-ranged z t m M h;
+  lower = source-lower z t m M h;
+  seven = M .seven;
+  small = sound-size m (M .is-sound) .1;
+  none-from = parts m (M .is-sound) .flags;
+}
+
+-- a vote below L taken over
+pub counts-adopted : (z : Sizes) (t : ℕ) (m : MemberState) (q : Round) (w : ℕ) → q .0 < m .led .0 → Counts z t m → Counts z t (adopted m q w)
+counts-adopted z t m q w h c = record {
+  number = c .number;
+  size = c .size;
+  own = c .own;
+  ranged = c .ranged;
+  lower = h;
+  seven = c .seven;
+  small = c .small;
+  none-from = c .none-from;
+}
+
+-- a flag after that of s was set is that of s or was there before
+pub flag-set {κ} : {C : Type κ} (fs : List Bool) (s i : ℕ) → flag (set fs s true) i ≡ true → (i ≡ s → C) → (flag fs i ≡ true → C) → C
+flag-set fs s i h f g =
+    by-test (eqb i s)
+    (λ t. f (omega tests))
+    (λ t. let d : i ≢ s = omega tests in g (rw (getD-set-other fs s i true false d) at h))
+
+pub no-flag : (s : ℕ) → flag no-flags s ≡ false
+no-flag s =
+    by-test (ltb s 7)
+    (λ t. getD-replicate 7 s false false (omega tests))
+    (λ t. List·getD-eq-default (replicate 7 false) false {n = s} (omega tests))
+
+-- a complete count is a quorum
+pub flagged-quorum : (z : Sizes) (t : ℕ) (m : MemberState) (s : Member) (P : ℕ → Type 0) → Counts z t m → s .0 < m .n → complete (counting m s) ≡ true →
+    ((i : ℕ) → flag (set (m .flags) (s .0) true) i ≡ true → P i) → Quorum (z .n) (quorum (z .n)) P
+unfolding flagged
+flagged-quorum z t m s P c low full f =
+    let all : eqb (count (flag (set (m .flags) (s .0) true)) (m .n)) (count (flag (set (m .flags) (s .0) true)) 7) ≡ true =
+    counts-agree (m .n) (set (m .flags) (s .0) true) (c .small) ∙ set-from (m .flags) (s .0) (c .seven) (omega (arith, c .small)) (m .n) low (c .none-from) in
+    rw (← (c .size)) (record { who = flag (set (m .flags) (s .0) true); enough = omega tests; each = λ i l h. f i h })
+
+-- neither a JOIN nor a VOTE
+abbrev pub Quiet : Message → Type 0
+Quiet (Start r s) = Unit {0}
+Quiet (Join r s) = ⊥
+Quiet (JoinVoted r s q w) = ⊥
+Quiet (Propose r s x) = Unit {0}
+Quiet (Vote r s) = ⊥
+
+no-join : (r t : ℕ) (g : Message) → Quiet g → JoinOf r t g → ⊥
+no-join r t (Start r₁ s) q o = o
+no-join r t (Join r₁ s) q o = q
+no-join r t (JoinVoted r₁ s p w) q o = q
+no-join r t (Propose r₁ s x) q o = o
+no-join r t (Vote r₁ s) q o = o
+
+-- what member t says beside what it said, while its J, V and L rise
+module _ (sent gs : List Message) (t j v l j′ v′ l′ : ℕ) (more : (g : Message) → g ∈ gs → Reached j′ v′ l′ g) (a : j ≤ j′) (b : v ≤ v′) (c : l ≤ l′)
+    (S : Spoken sent t j v l) where
+  pub spoken-new : ((g : Message) (r k : ℕ) → g ∈ gs → JoinOf r t g → Voted (sent ++ gs) k t → k < r → k ≤ carried g) →
+      ((g : Message) (r k : ℕ) → g ∈ sent → JoinOf r t g → Voted gs k t → k < r → k ≤ carried g) → Spoken (sent ++ gs) t j′ v′ l′
+  spoken-new joins votes = record {
+    reached = λ g i e. ⊎-elim (λ h. reached-rises j v l j′ v′ l′ g a b c (S .reached g h e)) (more g) (List·Memᴰ·append-cases sent i);
+    past = λ g r k i o w low. ⊎-elim
+        (λ h. ⊎-elim (λ u. S .past g r k h o u low) (λ u. votes g r k h o u low) (List·Memᴰ·append-cases sent w))
+        (λ h. joins g r k h o w low) (List·Memᴰ·append-cases sent i);
+  }
+
+  pub spoken-quiet : ((g : Message) → g ∈ gs → Quiet g) → Spoken (sent ++ gs) t j′ v′ l′
+  spoken-quiet f = spoken-new (λ g r k i o w low. absurd (no-join r t g (f g i) o)) (λ g r k i o w low. absurd (f (Vote _ _) w))

@@ -1,0 +1,167 @@
+-- The invariant holds after any list of events: of the first office, and every event keeps it. Assumes nothing.
+use mathlib.Core.Path.{_≡_, refl, sym, ap, subst}
+use mathlib.Core.Bool.{true, false, not}
+use mathlib.Core.List.{List, [], _∷_, _++_, append-nil, append-assoc}
+use Prim.Native.Nat.{ℕ, suc, _+_, _<_, _≤_}
+use native.Mathlib.Omega.{arith}
+use lib.Dec.{ltb, leb, eqb}
+use borrow.Author.Tests.{not-false}
+use Rattle.laws.specs.Tests.{tests, by-test, and-left, and-right}
+use Rattle.laws.specs.Lists.{_∈_}
+use Rattle.laws.specs.First.{first, passed}
+use Rattle.ids.specs.declared.Round.{Round}
+use Rattle.ids.specs.declared.Member.{Member}
+use Rattle.quorum_tree.proofs.Calls.{none}
+use Rattle.message.specs.declared.Message.{Message}
+use Rattle.message.specs.declared.Message.the-variants.{Start, Join, JoinVoted, Propose, Vote}
+use Rattle.message.specs.Fields.{in-range, head-in-range, vote-in-range}
+use Rattle.member.specs.declared.MemberState.{MemberState}
+use Rattle.member.specs.Record.{allowed, fresh, round}
+use Rattle.member.specs.Table.{START-causes, start-causes, count-causes, PROPOSE-causes, awaits, adopted, adopting, JOIN-row, causes, row}
+use Rattle.member.specs.Table.{deliver as delivers}
+use Rattle.model.specs.Model.{Sizes, Event, start, deliver, Office, member-number, first-office, member-at, message-at, at-member, outcome, proposes-one, proposals, answer, next, after, offer-of, offers-at, offered}
+use Rattle.model.specs.Demand.{calls, ended}
+use Rattle.model.proofs.Kept.{KeptMember, KeptOffice, Accepted, accepted, message-in, accepted-row, sent-by, next-kept, first-member, first-kept}
+use Rattle.model.proofs.Invariant.{join-quorum, vote-quorum, JoinOf, carried, Joined, Stands, Invariant}
+use Rattle.model.proofs.Grows.{New, keep}
+use Rattle.model.proofs.Meeting.{allowed-meets}
+use Rattle.model.proofs.Counts.{Counts, counts-of, counts-adopted}
+use Rattle.model.proofs.Rows.{start-new, START-new, PROPOSE-new, JOIN-new, VOTE-new}
+
+-- the events of one member, whose record is m
+module _ (z : Sizes) (o : Office) (offers : List ℕ) (I : Invariant z o offers) (meets : z .n < join-quorum (z .n) + vote-quorum (z .n))
+    (t : ℕ) (m : MemberState) (M : KeptMember z t m) (S : Stands (z .n) (o .sent) (o .made) offers t m) where
+  awaited-round : (phase : ℕ) (r : Round) → not (awaits m phase r) ≡ false → r ≡ m .led
+  awaited-round phase r h =
+      let e : eqb (r .0) (m .led .0) ≡ true = and-left (eqb (r .0) (m .led .0)) (eqb (m .phase) phase) (not-false (awaits m phase r) h) in
+      let q : r .0 ≡ m .led .0 = omega tests in
+      ap round q
+
+  awaited-phase : (phase : ℕ) (r : Round) → not (awaits m phase r) ≡ false → m .phase ≡ phase
+  awaited-phase phase r h =
+      omega (tests, and-right (eqb (r .0) (m .led .0)) (eqb (m .phase) phase) (not-false (awaits m phase r) h))
+
+  -- a JOIN's vote is taken over if it is above B
+  adopting-cases : (P : MemberState → Type 0) (q : Round) (w : ℕ) → (m .source .0 < q .0 → P (adopted m q w)) → (q .0 ≤ m .source .0 → P m) → P (adopting m q w)
+  unfolding adopting
+  adopting-cases P q w f g = by-test (ltb (m .source .0) (q .0)) (λ h. rw h (f (omega tests))) (λ h. rw h (g (omega tests)))
+
+  -- the member with the vote of a JOIN taken over
+  adopted-stands : (r : Round) (s : Member) (q : Round) (w : ℕ) → JoinVoted r s q w ∈ o .sent → m .phase ≡ 1 → m .source .0 < q .0 →
+      Stands (z .n) (o .sent) (o .made) offers t (adopted m q w)
+  adopted-stands r s q w i now up = record {
+    spoken = S .spoken;
+    leading = record {
+      highest = S .leading .highest;
+      collects = S .leading .collects;
+      proposed = λ a b. absurd (omega arith);
+      undecided = S .leading .undecided;
+      joins = λ p k h. let j : Joined (o .sent) (m .led .0) (m .source .0) k = S .leading .joins p k h in
+          record { message = j .message; is-sent = j .is-sent; is-join = j .is-join; at-most = omega (arith, j .at-most) };
+      source-added = λ p h. I .backed (JoinVoted r s q w) i;
+      votes = S .leading .votes;
+      value-offered = λ a b. I .made-so .offered-so (q .0) w (I .backed (JoinVoted r s q w) i .parent) (I .backed (JoinVoted r s q w) i .is-made);
+    };
+    vote-added = S .vote-added;
+  }
+
+  -- a JOIN of the round awaited, k being m or m with the vote taken over
+  join-new : (g : Message) (r : Round) (s : Member) (k : MemberState) → g ∈ o .sent → JoinOf (k .led .0) (s .0) g → carried g ≤ k .source .0 →
+      leb (m .n) (s .0) ≡ false → k .phase ≡ 1 → r ≡ k .led → Counts z t k → Stands (z .n) (o .sent) (o .made) offers t k →
+      (proposes-one (JOIN-row k r s .named) ≡ true → suc (proposals (o .made)) < z .table) → New z o offers t (JOIN-row k r s) []
+  join-new g r s k i join carries low now e C St =
+      rw e (JOIN-new z o offers I meets t k C St s (omega (tests, M .size)) now (record { message = g; is-sent = i; is-join = join; at-most = carries }))
+
+  message-new : (g : Message) → g ∈ o .sent → in-range g ≡ true → first (causes m (delivers g)) ≡ 0 →
+      (proposes-one (row m (delivers g) .named) ≡ true → suc (proposals (o .made)) < z .table) → New z o offers t (row m (delivers g)) []
+  unfolding causes row
+  message-new (Start r s) i f c room = START-new z o offers I t m M S r s (passed (START-causes m r s) refl c)
+  message-new (Join r s) i f c room =
+      let (sender, (await, rest)) = passed (count-causes 1 m r s) refl c in
+      let e : r ≡ m .led = awaited-round 1 r await in
+      let now : m .phase ≡ 1 = awaited-phase 1 r await in
+      join-new (Join r s) r s m i (ap (λ x. x .0) e, refl) (omega arith) sender now e (counts-of z t m M (omega arith)) S room
+  message-new (JoinVoted r s q w) i f c room =
+      let (sender, (await, rest)) = passed (count-causes 1 m r s) refl c in
+      let e : r ≡ m .led = awaited-round 1 r await in
+      let now : m .phase ≡ 1 = awaited-phase 1 r await in
+      let C : Counts z t m = counts-of z t m M (omega arith) in
+      let below : q .0 < m .led .0 = omega (tests, and-right (leb 1 (q .0)) (ltb (q .0) (r .0)) (and-right (head-in-range r s) (vote-in-range r q) f), ap (λ x. x .0) e) in
+      adopting-cases (λ k. (proposes-one (JOIN-row k r s .named) ≡ true → suc (proposals (o .made)) < z .table) → New z o offers t (JOIN-row k r s) []) q w
+      (λ up. join-new (JoinVoted r s q w) r s (adopted m q w) i (ap (λ x. x .0) e, refl) (omega arith) sender now e
+      (counts-adopted z t m q w below C) (adopted-stands r s q w i now up))
+      (λ down. join-new (JoinVoted r s q w) r s m i (ap (λ x. x .0) e, refl) (omega arith) sender now e C S)
+      room
+  message-new (Propose r s v) i f c room = PROPOSE-new z o offers I t m M S r s v i (passed (PROPOSE-causes m r s v) refl c)
+  message-new (Vote r s) i f c room =
+      let (sender, (await, rest)) = passed (count-causes 2 m r s) refl c in
+      let e : r ≡ m .led = awaited-round 2 r await in
+      let now : m .phase ≡ 2 = awaited-phase 2 r await in
+      rw e (VOTE-new z o offers I meets t m (counts-of z t m M (omega arith)) S s (omega (tests, M .size)) now (subst (λ x. Vote x s ∈ o .sent) e i))
+
+module _ (z : Sizes) (ok : allowed (z .n) ≡ true) where
+  module _ (o : Office) (offers : List ℕ) (K : KeptOffice z o) (I : Invariant z o offers) where
+    event-new : (e : Event) → Accepted z o e → New z o offers (at-member e) (outcome z o e) (offer-of e)
+    unfolding causes row
+    event-new (start k r x) a =
+        let (c, same) = accepted-row z o K (start k r x) a in
+        let m : MemberState = member-at z o k in
+        rw same (start-new z o offers I k m (K .each k (a .member)) (I .members k (a .member)) (round r) x (passed (start-causes m (round r)) refl c))
+    event-new (deliver j k) a =
+        let (c, same) = accepted-row z o K (deliver j k) a in
+        let m : MemberState = member-at z o k in
+        let i : message-at o j ∈ o .sent = message-in o j k (a .there) in
+        rw same (message-new z o offers I (allowed-meets (z .n) ok) k m (K .each k (a .member)) (I .members k (a .member)) (message-at o j) i
+        (K .ranged (message-at o j) i) c (rw same at (a .room)))
+
+    pub next-holds : (e : Event) → Invariant z (next z o e) (offers ++ offers-at z o e)
+    unfolding next
+    next-holds e =
+        by-test (eqb (answer z o e) 0)
+        (λ t. let a : Accepted z o e = accepted z o e (omega tests) in
+        rw t (keep z o offers (at-member e) (outcome z o e) (offer-of e) K I (a .member) (sent-by z o K e a) (event-new e a)))
+        (λ t. rw t (subst (Invariant z o) (sym (append-nil offers)) I))
+
+  pub all-hold : (o : Office) (offers : List ℕ) (es : List Event) → KeptOffice z o → Invariant z o offers → Invariant z (after z o es) (offers ++ offered z o es)
+  unfolding after offered
+  all-hold o offers [] K I = rw (append-nil offers) I
+  all-hold o offers (e ∷ es) K I =
+      rw (← append-assoc offers (offers-at z o e) (offered z (next z o e) es))
+      (all-hold (next z o e) (offers ++ offers-at z o e) es (next-kept z o K e) (next-holds o offers K I e))
+
+  first-holds : Invariant z (first-office (z .n)) []
+  unfolding calls proposals first-office
+  first-holds = record {
+    members = λ t l. rw (first-member z t l) (fresh-stands t);
+    leaders = λ g i. elim i [ ];
+    backed = λ g i. elim i [ ];
+    made-so = record {
+      properties = none true;
+      ranged = λ c i. elim i [ ];
+      join-met = λ r x b i. elim i [ ];
+      vote-met = λ r x i. elim i [ ];
+      decided-added = λ r x i. elim i [ ];
+      offered-so = λ r x b i. elim i [ ];
+      room = λ h. h;
+    };
+  }
+    where
+      fresh-stands : (t : ℕ) → Stands (z .n) [] [] [] t (fresh (member-number t) (z .n))
+      fresh-stands t = record {
+        spoken = record { reached = λ g i. elim i [ ]; past = λ g r c i. elim i [ ] };
+        leading = record {
+          highest = λ r x b i. elim i [ ];
+          collects = λ p. absurd (omega arith);
+          proposed = λ p. absurd (omega arith);
+          undecided = λ p. absurd (omega arith);
+          joins = λ p. absurd (omega arith);
+          source-added = λ p. absurd (omega arith);
+          votes = λ p. absurd (omega arith);
+          value-offered = λ p. absurd (omega arith);
+        };
+        vote-added = λ h. absurd (omega arith);
+      }
+
+  -- the invariant at the end of any list of events
+  pub holds : (es : List Event) → Invariant z (ended z es) (offered z (first-office (z .n)) es)
+  holds es = all-hold (first-office (z .n)) [] es (first-kept z ok) first-holds

@@ -1,0 +1,198 @@
+-- The numbers that an event of a list can get. 17 and 16 don't occur, for members are sound and messages in range; nor does 21, for STARTs
+-- and PROPOSEs come from the leaders of their rounds; nor 23, for a round is proposed with one value. Assumes nothing.
+use mathlib.Core.Path.{_≡_, refl, sym}
+use mathlib.Core.Bool.{Bool, true, false, cond, _&&_, not}
+use mathlib.Core.List.{List, [], _∷_, List·Memᴰ·head as here, List·Memᴰ·tail as there}
+use Prim.Native.Nat.{ℕ, suc, _<_, _≤_, _%_}
+use lib.ListN.{length}
+use lib.Dec.{leb, eqb}
+use borrow.Author.Tests.{eqb-true, eq-eqb, not-true}
+use native.Mathlib.Omega.{arith}
+use Rattle.laws.specs.Tests.{tests, by-test, clash, or-left, or-right, and-left, and-right}
+use Rattle.laws.specs.Lists.{_∈_, any, any-intro, any-elim}
+use Rattle.laws.specs.First.{Cause, _gives_, first}
+use Rattle.laws.specs.Numbers.{first-has}
+use Rattle.ids.specs.declared.Round.{Round}
+use Rattle.ids.specs.declared.Member.{Member}
+use Rattle.ids.specs.Ranges.{out-of-range, above-range}
+use Rattle.quorum_tree.proofs.Calls.{unique}
+use Rattle.message.specs.declared.Message.{Message}
+use Rattle.message.specs.declared.Message.the-variants.{Start, Join, JoinVoted, Propose, Vote}
+use Rattle.member.specs.declared.MemberState.{MemberState}
+use Rattle.member.specs.Record.{allowed, leads, round}
+use Rattle.member.specs.Table.{Outcome, silent, counting, complete, adopting, proposes, decides, start-causes, START-causes, count-causes, other-vote, PROPOSE-causes, causes, row, sound-step}
+use Rattle.member.specs.Table.{Event as MemberEvent, start as starts, deliver as delivers}
+use Rattle.model.specs.Model.{Sizes, Event, start, deliver, Office, first-office, member-at, message-at, at-member, unsent, event-of, outcome, absent, no-store-row, no-table-row, sends-one, proposes-one, proposals, answer, offered}
+use Rattle.model.specs.Demand.{calls, ended}
+use Rattle.model.specs.Counts.{tree}
+use Rattle.model.proofs.Made.{proposal-call}
+use Rattle.model.proofs.Kept.{KeptMember, KeptOffice, message-in, step-is-sound, ended-kept}
+use Rattle.model.proofs.Invariant.{Added, Stands, Invariant}
+use Rattle.model.proofs.Events.{holds}
+use Rattle.model.proofs.Tree.{nodes-counted}
+
+-- 0, and what the rows round, start and deliver of the place table give, 21 and 23 apart
+abbrev pub step-numbers : List ℕ
+step-numbers = 0 ∷ 3 ∷ 19 ∷ 20 ∷ 22 ∷ 24 ∷ 25 ∷ []
+
+-- and the rows event and last
+abbrev pub event-numbers : List ℕ
+event-numbers = 0 ∷ 3 ∷ 9 ∷ 19 ∷ 20 ∷ 22 ∷ 24 ∷ 25 ∷ 29 ∷ 30 ∷ []
+
+among : (k : ℕ) (l : List ℕ) → any (eqb k) l ≡ true → k ∈ l
+among k l h = any-elim (eqb k) l h (λ a i e. rw (eqb-true k a e) i)
+
+abbrev all-in : List ℕ → List ℕ → Bool
+all-in [] k = true
+all-in (a ∷ l) k = any (eqb a) k && all-in l k
+
+within : (l k : List ℕ) {a : ℕ} → all-in l k ≡ true → a ∈ l → a ∈ k
+within (b ∷ l) k h (here e) = rw e (among b k (and-left (any (eqb b) k) (all-in l k) h))
+within (b ∷ l) k h (there i) = within l k (and-right (any (eqb b) k) (all-in l k) h) i
+
+-- what a row of the member table does is accepted
+either-zero : (b : Bool) (u v : Outcome) → u .number ≡ 0 → v .number ≡ 0 → cond b u v .number ≡ 0
+either-zero true u v p q = p
+either-zero false u v p q = q
+
+row-number : (m : MemberState) (e : MemberEvent) → row m e .number ≡ 0
+unfolding row
+row-number m (starts r x) = refl
+row-number m (delivers (Start r s)) = refl
+row-number m (delivers (Join r s)) = either-zero (complete (counting m s)) (proposes (counting m s) r) (silent (counting m s)) refl refl
+row-number m (delivers (JoinVoted r s q w)) =
+    either-zero (complete (counting (adopting m q w) s)) (proposes (counting (adopting m q w) s) r) (silent (counting (adopting m q w) s)) refl refl
+row-number m (delivers (Propose r s v)) = refl
+row-number m (delivers (Vote r s)) = either-zero (complete (counting m s)) (decides (counting m s) r) (silent (counting m s)) refl refl
+
+step-number : (m : MemberState) (e : MemberEvent) → sound-step m e .number ≡ first (causes m e)
+unfolding sound-step
+step-number m e =
+    by-test (eqb (first (causes m e)) 0)
+    (λ t. let z : first (causes m e) ≡ 0 = omega tests in rw z (row-number m e))
+    (λ t. rw t refl)
+
+-- the row "last" of the place table
+abbrev last-causes : Sizes → Office → Event → List Cause
+last-causes z o e =
+    no-store-row z o e gives 30 ∷ no-table-row z o e gives 9 ∷ []
+
+module _ (z : Sizes) (o : Office) (offers : List ℕ) (K : KeptOffice z o) (I : Invariant z o offers) where
+  -- a message from the leader of its round
+  led : (t : ℕ) (m : MemberState) (M : KeptMember z t m) (r : Round) (s : Member) → r .0 % z .n ≡ s .0 → not (leads (m .n) s r) ≡ true → ⊥
+  led t m M r s h e = let l : leads (m .n) s r ≡ true = rw (M .size) (eq-eqb (r .0 % z .n) (s .0) h) in clash e (rw l refl)
+
+  -- a round is proposed with one value
+  one-value : (r x y : ℕ) → Added (o .made) r x → Added (o .made) r y → x ≡ y
+  one-value r x y a b =
+      unique true (calls (o .made)) (I .made-so .properties) r x (a .parent) y (b .parent) (proposal-call (o .made) (a .is-made)) (proposal-call (o .made) (b .is-made)) .0
+
+  same-vote : (t : ℕ) (m : MemberState) (S : Stands (z .n) (o .sent) (o .made) offers t m) (r : Round) (s : Member) (v : ℕ) → Propose r s v ∈ o .sent →
+      out-of-range (r .0) ≡ false → other-vote m r v ≡ true → ⊥
+  same-vote t m S r s v i f h =
+      let e : m .voted .0 ≡ r .0 = omega (tests, and-left (eqb (m .voted .0) (r .0)) (not (eqb (m .vote) v)) h) in
+      let pos : 0 < m .voted .0 = omega (tests, or-left (eqb (r .0) 0) (above-range (r .0)) f) in
+      let a : Added (o .made) (r .0) (m .vote) = rw e at (S .vote-added pos) in
+      omega (
+        tests,
+        one-value (r .0) (m .vote) v a (I .backed (Propose r s v) i),
+        not-true (eqb (m .vote) v) (and-right (eqb (m .voted .0) (r .0)) (not (eqb (m .vote) v)) h),
+      )
+
+  -- a JOIN or VOTE from a member
+  count-numbers : (t : ℕ) (m : MemberState) → KeptMember z t m → (phase : ℕ) (r : Round) (s : Member) → s .0 < z .n → first (count-causes phase m r s) ∈ step-numbers
+  count-numbers t m M phase r s l =
+      first-has (λ k. k ∈ step-numbers) (count-causes phase m r s) (among 0 step-numbers refl)
+      (λ e. absurd (omega (tests, M .size)), (λ e. among 24 step-numbers refl, (λ e. among 25 step-numbers refl, tt)))
+
+  message-numbers : (t : ℕ) (m : MemberState) → KeptMember z t m → Stands (z .n) (o .sent) (o .made) offers t m →
+      (g : Message) → g ∈ o .sent → first (causes m (delivers g)) ∈ step-numbers
+  unfolding causes
+  message-numbers t m M S (Start r s) i =
+      first-has (λ k. k ∈ step-numbers) (START-causes m r s) (among 0 step-numbers refl)
+      (λ e. absurd (led t m M r s (I .leaders (Start r s) i) e), (λ e. among 22 step-numbers refl, tt))
+  message-numbers t m M S (Join r s) i = count-numbers t m M 1 r s (K .senders (Join r s) i)
+  message-numbers t m M S (JoinVoted r s q w) i = count-numbers t m M 1 r s (K .senders (JoinVoted r s q w) i)
+  message-numbers t m M S (Propose r s v) i =
+      first-has (λ k. k ∈ step-numbers) (PROPOSE-causes m r s v) (among 0 step-numbers refl) (
+        λ e. absurd (led t m M r s (I .leaders (Propose r s v) i) e),
+        (
+          λ e. among 22 step-numbers refl,
+          (λ e. absurd (same-vote t m S r s v i (not-true (out-of-range (r .0)) (and-left (not (out-of-range (r .0))) _ (K .ranged (Propose r s v) i))) e), tt),
+        ),
+      )
+  message-numbers t m M S (Vote r s) i = count-numbers t m M 2 r s (K .senders (Vote r s) i)
+
+  -- the member's own number for an event of a member and of a message sent
+  own-number : (e : Event) → at-member e < z .n → unsent o e ≡ false → first (causes (member-at z o (at-member e)) (event-of o e)) ∈ step-numbers
+  unfolding causes
+  own-number (start k r x) l h =
+      first-has (λ k. k ∈ step-numbers) (start-causes (member-at z o k) (round r)) (among 0 step-numbers refl) (λ e. among 3 step-numbers refl, (λ e. among 19 step-numbers refl, (λ e. among 20 step-numbers refl, tt)))
+  own-number (deliver j k) l h =
+      message-numbers k (member-at z o k) (K .each k l) (I .members k l) (message-at o j) (message-in o j k h)
+
+  -- the number of its member's step, where 29 isn't given
+  step-numbered : (e : Event) → absent z o e ≡ false → outcome z o e .number ∈ step-numbers
+  step-numbered e h =
+      let low : at-member e < z .n = omega (tests, or-left (leb (z .n) (at-member e)) (unsent o e) h) in
+      let sent : unsent o e ≡ false = or-right (leb (z .n) (at-member e)) (unsent o e) h in
+      rw (step-is-sound z o K e low sent, step-number (member-at z o (at-member e)) (event-of o e)) (own-number e low sent)
+
+  pub answer-numbers : (e : Event) → answer z o e ∈ event-numbers
+  unfolding answer
+  answer-numbers e =
+      by-test (absent z o e)
+      (λ a. rw a (among 29 event-numbers refl))
+      (λ a. rw a (by-test (eqb (outcome z o e .number) 0)
+      (λ b. rw b (first-has (λ k. k ∈ event-numbers) (last-causes z o e) (among 0 event-numbers refl)
+      (λ c. among 30 event-numbers refl, (λ c. among 9 event-numbers refl, tt))))
+      (λ b. rw b (within step-numbers event-numbers refl (step-numbered e a)))))
+
+  -- a number of the row last is given only by its cause
+  last-number : (e : Event) (k : ℕ) → any (eqb k) (0 ∷ 29 ∷ step-numbers) ≡ false → answer z o e ≡ k → first (last-causes z o e) ≡ k
+  unfolding answer
+  last-number e k apart h =
+      by-test (absent z o e)
+      (λ a. let q : 29 ≡ k = rw a at h in clash (any-intro (eqb k) (0 ∷ 29 ∷ step-numbers) (there (here refl)) (eq-eqb k 29 (sym q))) apart)
+      (λ a. by-test (eqb (outcome z o e .number) 0)
+      (λ b. rw (a, b) at h)
+      (λ b. let q : outcome z o e .number ≡ k = rw (a, b) at h in
+      clash (any-intro (eqb k) (0 ∷ 29 ∷ step-numbers) (there (there (step-numbered e a))) (eq-eqb k (outcome z o e .number) (sym q))) apart))
+
+  -- 30 is given only where the store is full
+  pub thirty-full : (e : Event) → answer z o e ≡ 30 → length (o .sent) ≡ z .store
+  thirty-full e h =
+      let q : first (last-causes z o e) ≡ 30 = last-number e 30 refl h in
+      by-test (no-store-row z o e)
+      (λ c. omega (tests, K .fits, and-right (sends-one (outcome z o e .sent)) (leb (z .store) (length (o .sent))) c))
+      (λ c. by-test (no-table-row z o e)
+      (λ d. absurd (omega (arith, rw (c, d) at q)))
+      (λ d. absurd (omega (arith, rw (c, d) at q))))
+
+  -- and 9 only where the proposals fill the table
+  pub nine-full : (e : Event) → answer z o e ≡ 9 → z .table ≤ suc (proposals (o .made))
+  nine-full e h =
+      let q : first (last-causes z o e) ≡ 9 = last-number e 9 refl h in
+      by-test (no-store-row z o e)
+      (λ c. absurd (omega (arith, rw c at q)))
+      (λ c. by-test (no-table-row z o e)
+      (λ d. omega (tests, and-right (proposes-one (outcome z o e .named)) (leb (z .table) (suc (proposals (o .made)))) d))
+      (λ d. absurd (omega (arith, rw (c, d) at q))))
+
+module _ (z : Sizes) (es : List Event) (e : Event) (ok : allowed (z .n) ≡ true) where
+  -- an event after any list gets one of these numbers
+  pub numbers : answer z (ended z es) e ∈ event-numbers
+  numbers = answer-numbers z (ended z es) (offered z (first-office (z .n)) es) (ended-kept z es ok) (holds z ok es) e
+
+  -- 30 only where no store row is free, and 9 only where no table row is
+  pub store-full : answer z (ended z es) e ≡ 30 → length (ended z es .sent) ≡ z .store
+  store-full = thirty-full z (ended z es) (offered z (first-office (z .n)) es) (ended-kept z es ok) (holds z ok es) e
+
+  pub table-full : 0 < z .table → answer z (ended z es) e ≡ 9 → length (tree z (ended z es)) ≡ z .table
+  table-full rows h =
+      omega (
+        arith,
+        nodes-counted z es ok rows,
+        holds z ok es .made-so .room rows,
+        nine-full z (ended z es) (offered z (first-office (z .n)) es) (ended-kept z es ok) (holds z ok es) e h,
+      )

@@ -1,0 +1,53 @@
+-- 01's rehearsal list in the model, and short lists that end in each of the other numbers that an event can get. By computation.
+-- Assumes nothing.
+use mathlib.Core.Path.{_≡_, refl}
+use mathlib.Core.List.{List, [], _∷_}
+use Prim.Native.Nat.{ℕ}
+use Rattle.quorum.specs.Count.{some}
+use Rattle.quorum_tree.specs.Machine.{add, commit}
+use Rattle.model.specs.Model.{Sizes, Event, start, deliver, first-office, after, answers, offered}
+use Rattle.model.specs.Demand.{calls, ended}
+
+abbrev sizes : ℕ → ℕ → Sizes
+sizes store table = record { n = 3; store = store; table = table }
+
+abbrev answered : Sizes → List Event → List ℕ
+answered z es = answers z (first-office (z .n)) es
+
+abbrev rehearsal : List Event
+rehearsal =
+    start 1 1 70 ∷ deliver 0 0 ∷ deliver 0 1 ∷ deliver 1 1 ∷ deliver 1 1 ∷ deliver 2 1 ∷ deliver 3 0 ∷ start 2 2 80 ∷
+    deliver 5 0 ∷ deliver 5 2 ∷ deliver 7 2 ∷ deliver 6 2 ∷ deliver 3 1 ∷ deliver 4 1 ∷ deliver 9 1 ∷ []
+
+record Rehearsed : Type 0 where
+  answers-are : answered (sizes 1000 64) rehearsal ≡ 0 ∷ 0 ∷ 0 ∷ 0 ∷ 25 ∷ 0 ∷ 0 ∷ 0 ∷ 0 ∷ 0 ∷ 0 ∷ 0 ∷ 0 ∷ 0 ∷ 0 ∷ []
+  -- round 2 proposes the value voted for in round 1, behind that round
+  calls-are : calls (ended (sizes 1000 64) rehearsal .made) ≡ add 1 70 0 ∷ add 2 70 1 ∷ commit 1 ∷ []
+  offers-are : offered (sizes 1000 64) (first-office 3) rehearsal ≡ 70 ∷ 80 ∷ []
+
+rehearsed : Rehearsed
+unfolding answers offered after first-office calls some
+rehearsed = record { answers-are = refl; calls-are = refl; offers-are = refl }
+
+record Numbers : Type 0 where
+  -- rounds 0 and above 1,000,000; a member that doesn't lead the round; the round led already
+  starts : answered (sizes 9 9) (start 0 0 5 ∷ start 1 1000001 5 ∷ start 1 2 5 ∷ start 1 1 5 ∷ start 1 1 5 ∷ []) ≡ 3 ∷ 3 ∷ 19 ∷ 0 ∷ 20 ∷ []
+  -- no such member; no message sent yet; a number that is too high by one
+  absent : answered (sizes 9 9) (start 3 3 5 ∷ deliver 0 0 ∷ start 1 1 5 ∷ deliver 1 0 ∷ deliver 0 3 ∷ []) ≡ 29 ∷ 29 ∷ 0 ∷ 29 ∷ 29 ∷ []
+  -- START of the round joined; JOIN to a member that didn't start the round
+  late : answered (sizes 9 9) (start 1 1 5 ∷ deliver 0 0 ∷ deliver 0 0 ∷ deliver 1 0 ∷ []) ≡ 0 ∷ 0 ∷ 22 ∷ 24 ∷ []
+  -- the store is full: a step that sends is refused, one that doesn't is not; the refused START leaves the member as it was
+  full : answered (sizes 3 9) (start 1 1 5 ∷ deliver 0 0 ∷ deliver 0 2 ∷ deliver 0 1 ∷ deliver 0 1 ∷ deliver 1 1 ∷ deliver 2 1 ∷ []) ≡
+      0 ∷ 0 ∷ 0 ∷ 30 ∷ 30 ∷ 0 ∷ 30 ∷ []
+  -- no row beside the root: a step that proposes is refused with 9
+  rowless : answered (sizes 9 1) (start 1 1 5 ∷ deliver 0 0 ∷ deliver 0 1 ∷ deliver 1 1 ∷ deliver 2 1 ∷ []) ≡ 0 ∷ 0 ∷ 0 ∷ 0 ∷ 9 ∷ []
+  -- one row beside the root: the first proposal takes it
+  last-row : answered (sizes 9 2) (start 1 1 5 ∷ deliver 0 0 ∷ deliver 0 1 ∷ deliver 1 1 ∷ deliver 2 1 ∷ []) ≡ 0 ∷ 0 ∷ 0 ∷ 0 ∷ 0 ∷ []
+  -- 30 before 9
+  both : answered (sizes 3 1) (start 1 1 5 ∷ deliver 0 0 ∷ deliver 0 1 ∷ deliver 1 1 ∷ deliver 2 1 ∷ []) ≡ 0 ∷ 0 ∷ 0 ∷ 0 ∷ 30 ∷ []
+  -- the offer of a refused start isn't offered
+  offers : offered (sizes 9 9) (first-office 3) (start 1 2 5 ∷ start 1 1 6 ∷ start 1 1 7 ∷ []) ≡ 6 ∷ []
+
+numbers : Numbers
+unfolding answers offered first-office some
+numbers = record { starts = refl; absent = refl; late = refl; full = refl; rowless = refl; last-row = refl; both = refl; offers = refl }

@@ -1,0 +1,81 @@
+-- What every step of a member leaves as it was, whatever the record and the event: its own number and N. What it sends, one message at
+-- most, has its own number as sender. Row by row. Assumes nothing.
+use mathlib.Core.Path.{_≡_, refl}
+use mathlib.Core.Bool.{Bool, true, false, cond}
+use mathlib.Core.List.{[], _∷_, List·Memᴰ·eq-of-singleton}
+use Prim.Native.Nat.{ℕ, _≤_}
+use native.Mathlib.Omega.{arith}
+use lib.ListN.{length}
+use lib.Dec.{ltb, eqb}
+use Rattle.laws.specs.Lists.{_∈_}
+use Rattle.laws.specs.First.{first}
+use Rattle.ids.specs.declared.Round.{Round}
+use Rattle.ids.specs.declared.Member.{Member}
+use Rattle.message.specs.declared.Message.{Message}
+use Rattle.message.specs.declared.Message.the-variants.{Start, Join, JoinVoted, Propose, Vote}
+use Rattle.member.specs.declared.MemberState.{MemberState}
+use Rattle.member.specs.Table.{Outcome, refused, silent, counting, complete, adopting, adopted, proposes, decides, Event, start, deliver, join-of, causes, row, unfit, sound-step, step}
+
+abbrev pub sender : Message → ℕ
+sender (Start r s) = s .0
+sender (Join r s) = s .0
+sender (JoinVoted r s q w) = s .0
+sender (Propose r s v) = s .0
+sender (Vote r s) = s .0
+
+-- an outcome of member m
+pub record Own (m : MemberState) (u : Outcome) : Type 0 where
+  pub number : u .state .me ≡ m .me
+  pub size : u .state .n ≡ m .n
+  pub from : (g : Message) → g ∈ u .sent → sender g ≡ m .me .0
+  pub one : length (u .sent) ≤ 1
+
+either : (m : MemberState) (b : Bool) (u v : Outcome) → Own m u → Own m v → Own m (cond b u v)
+either m true u v p q = p
+either m false u v p q = q
+
+own-refused : (m : MemberState) (k : ℕ) → Own m (refused k m)
+own-refused m k = record { number = refl; size = refl; from = λ g i. elim i [ ]; one = omega arith }
+
+-- what holds of the one message sent
+pub only : (P : Message → Type 0) (x : Message) → P x → (g : Message) → g ∈ x ∷ [] → P g
+only P x h g i = rw (List·Memᴰ·eq-of-singleton i) h
+
+own-join : (m : MemberState) (r : Round) → sender (join-of m r) ≡ m .me .0
+own-join m r = pick (ltb 0 (m .voted .0))
+  where
+    pick : (b : Bool) → sender (cond b (JoinVoted r (m .me) (m .voted) (m .vote)) (Join r (m .me))) ≡ m .me .0
+    pick true = refl
+    pick false = refl
+
+own-counted : (m k : MemberState) (s : Member) (full : Outcome) → k .me ≡ m .me → k .n ≡ m .n → Own m full → Own m (cond (complete (counting k s)) full (silent (counting k s)))
+own-counted m k s full p q f =
+    either m (complete (counting k s)) full (silent (counting k s)) f (record { number = p; size = q; from = λ g i. elim i [ ]; one = omega arith })
+
+own-JOIN : (m k : MemberState) (r : Round) (s : Member) → k .me ≡ m .me → k .n ≡ m .n →
+    Own m (cond (complete (counting k s)) (proposes (counting k s) r) (silent (counting k s)))
+own-JOIN m k r s p q =
+    own-counted m k s (proposes (counting k s) r) p q
+    (record { number = p; size = q; from = only (λ g. sender g ≡ m .me .0) (Propose r (k .me) (k .value)) (rw p refl); one = omega arith })
+
+own-adopting : (m : MemberState) (b : Bool) (q : Round) (w : ℕ) → (cond b (adopted m q w) m .me ≡ m .me) × (cond b (adopted m q w) m .n ≡ m .n)
+own-adopting m true q w = (refl, refl)
+own-adopting m false q w = (refl, refl)
+
+pub own-row : (m : MemberState) (e : Event) → Own m (row m e)
+unfolding row
+own-row m (start r offer) = record { number = refl; size = refl; from = only (λ g. sender g ≡ m .me .0) (Start r (m .me)) refl; one = omega arith }
+own-row m (deliver (Start r s)) = record { number = refl; size = refl; from = only (λ g. sender g ≡ m .me .0) (join-of m r) (own-join m r); one = omega arith }
+own-row m (deliver (Join r s)) = own-JOIN m m r s refl refl
+own-row m (deliver (JoinVoted r s q w)) =
+    let (p, c) = own-adopting m (ltb (m .source .0) (q .0)) q w in own-JOIN m (adopting m q w) r s p c
+own-row m (deliver (Propose r s v)) = record { number = refl; size = refl; from = only (λ g. sender g ≡ m .me .0) (Vote r (m .me)) refl; one = omega arith }
+own-row m (deliver (Vote r s)) =
+    own-counted m m s (decides (counting m s) r) refl refl (record { number = refl; size = refl; from = λ g i. elim i [ ]; one = omega arith })
+
+pub own-step : (m : MemberState) (e : Event) → Own m (step m e)
+unfolding step
+own-step m e =
+    either m (eqb (first (unfit m e)) 0) (sound-step m e) (refused (first (unfit m e)) m)
+    (either m (eqb (first (causes m e)) 0) (row m e) (refused (first (causes m e)) m) (own-row m e) (own-refused m (first (causes m e))))
+    (own-refused m (first (unfit m e)))

@@ -1,0 +1,88 @@
+-- The tree event after event: it says OK to what each accepted event proposes or decides, that call makes the tree of the office after
+-- the event, and the tree's nodes are counted by the proposals and decisions made. Assumes nothing.
+use mathlib.Core.Path.{_≡_, refl, ap, subst}
+use mathlib.Core.Bool.{true}
+use mathlib.Core.List.{List, [], _∷_, _++_}
+use Prim.Native.Nat.{ℕ, suc, _<_}
+use native.Mathlib.Omega.{arith}
+use lib.ListN.{length}
+use Rattle.quorum_tree.specs.Machine.{Call, add, commit, fresh, step}
+use Rattle.quorum_tree.specs.Machine.{answer as answer-call, after as after-calls}
+use Rattle.quorum_tree.specs.Properties.{Properties, InRange, adds-in}
+use Rattle.quorum_tree.proofs.Rebuilt.{length-added}
+use Rattle.quorum_tree.proofs.History.{told-fresh, told-grown}
+use Rattle.quorum_tree.proofs.FourProperties.{next-ok}
+use Rattle.quorum_tree.proofs.Steps.{after-append}
+use Rattle.member.specs.Record.{allowed}
+use Rattle.member.specs.Table.{Named, nothing, proposal, decision}
+use Rattle.model.specs.Model.{Sizes, Event, Office, first-office, outcome, answer, made-by, taken, proposals}
+use Rattle.model.specs.Demand.{calls, ended}
+use Rattle.model.specs.Counts.{tree, decisions, committed-nodes}
+use Rattle.model.proofs.Made.{calls-append, adds-in-calls}
+use Rattle.model.proofs.Demanded.{four, rounds-in-range, adds-fit, all-ok, tree-told}
+use Rattle.model.proofs.Committed.{commits-in, committed-count}
+use Rattle.model.proofs.Fold.{next-taken, after-last}
+
+commits-in-calls : (l : List Named) → commits-in (calls l) ≡ decisions l
+unfolding calls commits-in decisions
+commits-in-calls [] = refl
+commits-in-calls (nothing ∷ l) = commits-in-calls l
+commits-in-calls (proposal r x b ∷ l) = commits-in-calls l
+commits-in-calls (decision r x ∷ l) = ap suc (commits-in-calls l)
+
+-- what an event names makes the tree of the office after it
+module _ (z : Sizes) (o : Office) (e : Event) where
+  calls-taken : (n : Named) → outcome z o e .named ≡ n → calls (taken z o e .made) ≡ calls (o .made) ++ calls (made-by n)
+  unfolding taken
+  calls-taken n h = rw h (calls-append (o .made) (made-by n))
+
+  tree-taken : (n : Named) → outcome z o e .named ≡ n → tree z (taken z o e) ≡ after-calls true (z .table) (tree z o) (calls (made-by n))
+  tree-taken n h = rw (calls-taken n h) (after-append true (z .table) fresh (calls (o .made)) (calls (made-by n)))
+
+  pub tree-nothing : outcome z o e .named ≡ nothing → tree z (taken z o e) ≡ tree z o
+  unfolding calls after-calls
+  tree-nothing h = tree-taken nothing h
+
+  pub tree-proposal : (r x b : ℕ) → outcome z o e .named ≡ proposal r x b → tree z (taken z o e) ≡ step true (z .table) (tree z o) (add r x b)
+  unfolding calls after-calls
+  tree-proposal r x b h = tree-taken (proposal r x b) h
+
+  pub tree-decision : (r x : ℕ) → outcome z o e .named ≡ decision r x → tree z (taken z o e) ≡ step true (z .table) (tree z o) (commit r)
+  unfolding calls after-calls
+  tree-decision r x h = tree-taken (decision r x) h
+
+module _ (z : Sizes) (es : List Event) (ok : allowed (z .n) ≡ true) (rows : 0 < z .table) where
+  -- the tree says OK to the call of an accepted event
+  module _ (e : Event) (a : answer z (ended z es) e ≡ 0) where
+    -- the calls after the event
+    last-calls : (n : Named) (c : Call) → outcome z (ended z es) e .named ≡ n → calls (made-by n) ≡ c ∷ [] →
+        calls (ended z (es ++ e ∷ []) .made) ≡ calls (ended z es .made) ++ c ∷ []
+    last-calls n c h s =
+        rw (after-last z (first-office (z .n)) es e, next-taken z (ended z es) e a, calls-taken z (ended z es) e n h, s) refl
+
+    takes : (n : Named) (c : Call) → outcome z (ended z es) e .named ≡ n → calls (made-by n) ≡ c ∷ [] → answer-call true (z .table) (tree z (ended z es)) c ≡ 0
+    takes n c h s =
+        let q : calls (ended z (es ++ e ∷ []) .made) ≡ calls (ended z es .made) ++ c ∷ [] = last-calls n c h s in
+        next-ok true (z .table) (calls (ended z es .made)) c (subst (Properties true) q (four z (es ++ e ∷ []) ok)) (subst InRange q (rounds-in-range z (es ++ e ∷ []) ok))
+        (subst (λ l. adds-in l < z .table) q (adds-fit z (es ++ e ∷ []) ok rows))
+
+    pub takes-proposal : (r x b : ℕ) → outcome z (ended z es) e .named ≡ proposal r x b → answer-call true (z .table) (tree z (ended z es)) (add r x b) ≡ 0
+    unfolding calls
+    takes-proposal r x b h = takes (proposal r x b) (add r x b) h refl
+
+    pub takes-decision : (r x : ℕ) → outcome z (ended z es) e .named ≡ decision r x → answer-call true (z .table) (tree z (ended z es)) (commit r) ≡ 0
+    unfolding calls
+    takes-decision r x h = takes (decision r x) (commit r) h refl
+
+  -- proposals are the nodes less the root
+  pub nodes-counted : length (tree z (ended z es)) ≡ suc (proposals (ended z es .made))
+  nodes-counted = rw (tree-told z es ok rows .nodes, length-added (calls (ended z es .made)) (calls (ended z es .made)), adds-in-calls (ended z es .made)) refl
+
+  -- decisions are the COMMITTED nodes less the root
+  pub committed-counted : committed-nodes (tree z (ended z es)) ≡ suc (decisions (ended z es .made))
+  unfolding committed-nodes
+  committed-counted =
+      rw (
+        committed-count true (z .table) fresh (calls (ended z es .made)) rows (told-grown true (z .table) [] fresh (told-fresh true (z .table))) (all-ok z es ok rows),
+        commits-in-calls (ended z es .made),
+      ) (omega arith)

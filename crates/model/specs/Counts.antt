@@ -1,0 +1,38 @@
+-- The tree that the proposals and decisions made leave, and what play's result counts (01, "For the reviewer"): accepted is the zeros
+-- among the answers, messages the rows used, proposals the nodes less the root, decisions the COMMITTED less the root.
+use mathlib.Core.Bool.{true, cond}
+use mathlib.Core.List.{List, [], _∷_}
+use Prim.Native.Nat.{ℕ, suc}
+use lib.Dec.{eqb}
+use Rattle.quorum_tree.specs.Machine.{Node, COMMITTED, fresh}
+use Rattle.quorum_tree.specs.Machine.{after as after-calls}
+use Rattle.member.specs.Table.{Named, nothing, proposal, decision}
+use Rattle.model.specs.Model.{Sizes, Office, Event, answer, next}
+use Rattle.model.specs.Demand.{calls}
+
+-- the tree of an office: its proposals and decisions, in the order made, from a fresh table of the rows lent
+abbrev pub tree : Sizes → Office → List Node
+tree z o = after-calls true (z .table) fresh (calls (o .made))
+
+-- how many decisions a sequence has
+unfoldable pub decisions : List Named → ℕ
+decisions [] = 0
+decisions (nothing ∷ ns) = decisions ns
+decisions (proposal r x b ∷ ns) = decisions ns
+decisions (decision r x ∷ ns) = suc (decisions ns)
+
+-- how many nodes are COMMITTED
+unfoldable pub committed-nodes : List Node → ℕ
+committed-nodes [] = 0
+committed-nodes (n ∷ ns) = cond (eqb (n .status) COMMITTED) (suc (committed-nodes ns)) (committed-nodes ns)
+
+-- how many answers are 0
+unfoldable pub zeros : List ℕ → ℕ
+zeros [] = 0
+zeros (a ∷ answers) = cond (eqb a 0) (suc (zeros answers)) (zeros answers)
+
+-- how many events are accepted
+unfoldable pub accepted-events : Sizes → Office → List Event → ℕ
+unfolding answer next
+accepted-events z o [] = 0
+accepted-events z o (e ∷ es) = cond (eqb (answer z o e) 0) (suc (accepted-events z (next z o e) es)) (accepted-events z (next z o e) es)

@@ -1,0 +1,29 @@
+-- The third demand, one claim about a whole list of events (01, "The model"): whatever is lost, repeated, late or out of order.
+use mathlib.Core.Path.{_≡_}
+use mathlib.Core.Bool.{true}
+use mathlib.Core.List.{List, [], _∷_, _++_}
+use Prim.Native.Nat.{ℕ}
+use Rattle.laws.specs.Lists.{_∈_}
+use Rattle.quorum_tree.specs.Machine.{Call, add, commit}
+use Rattle.quorum_tree.specs.Properties.{AllOk}
+use Rattle.member.specs.Table.{Named, nothing, proposal, decision}
+use Rattle.model.specs.Model.{Sizes, Event, Office, first-office, after, offered}
+
+-- proposals and decisions, in the order made, as add and commit
+unfoldable pub calls : List Named → List Call
+calls [] = []
+calls (nothing ∷ ns) = calls ns
+calls (proposal r x b ∷ ns) = add r x b ∷ calls ns
+calls (decision r x ∷ ns) = commit r ∷ calls ns
+
+-- the model at the end of a list
+abbrev pub ended : Sizes → List Event → Office
+ended z es = after z (first-office (z .n)) es
+
+pub record Demand (z : Sizes) (es : List Event) : Type 0 where
+  -- entered in the order made into a fresh tree of the table's rows, each proposal and decision gets OK
+  pub ok : AllOk true (z .table) (calls (ended z es .made))
+  -- all decided values are equal
+  pub equal : (r x s y : ℕ) → decision r x ∈ ended z es .made → decision s y ∈ ended z es .made → x ≡ y
+  -- and each was offered at an accepted start earlier in the list
+  pub earlier : (pre post : List Event) (r x : ℕ) → es ≡ pre ++ post → decision r x ∈ ended z pre .made → x ∈ offered z (first-office (z .n)) pre

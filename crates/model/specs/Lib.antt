@@ -1,0 +1,4 @@
+-- The model of 01 and the third demand.
+pub mod Model
+pub mod Demand
+pub mod Counts

@@ -1,0 +1,1 @@
+// The model of document 01 (specs/), and the third demand about it (proofs/). No code.

@@ -1,0 +1,81 @@
+// Play (01, "Play"): a list of events over a whole office, in lent memory.
+use answers::Counts;
+use answers::ListRefusal;
+use answers::PlayAnswer;
+use office::Office;
+use office::Worked;
+ghost use mathlib.Core.Path.{_≡_};
+ghost use Rattle.events.specs.List.{event-size, event-at};
+ghost use Rattle.play.specs.Standing.{Standing, Works};
+ghost use Rattle.play.specs.Promise.{one, Ready, Ran, Given};
+
+pub mod answers;
+pub mod office;
+
+// The event at the front of the rest of the list.
+fn turn(rest: &[u8], office: Office, messages: &mut [u8], nodes: &mut [u64]) -> Worked
+    requires { ⌜ (event-size (now rest) ≡ 0 → ⊥) × Standing office (now messages) (now nodes) ⌝ }
+    ensures { λ w. ⌜ Works office (event-at (now (rest .entry))) (now (messages .entry)) (now (nodes .entry)) (w .office) (w .number) (now (messages .exit)) (now (nodes .exit)) ⌝ }
+{
+    let e = events::read_event(rest);
+    office::work(office, e, messages, nodes)
+}
+
+// 1 for an accepted event.
+fn one_if_accepted(number: u8) -> u32
+    ensures { λ n. ⌜ n ≡ one number ⌝ }
+{
+    if number == 0 {
+        return 1;
+    }
+    0
+}
+
+// Works the events one after another, on a cleared store and a fresh table; the rest of the list is handed on from where each event ends.
+fn run(list: &[u8], messages: &mut [u8], nodes: &mut [u64], answered: &mut [u8]) -> Counts
+    requires { ⌜ Ready (now list) (now messages) (now nodes) (now answered) ⌝ }
+    ensures { λ c. ⌜ Ran (now (list .entry)) (now (messages .entry)) (now (nodes .entry)) (now (answered .entry)) c (now (messages .exit)) (now (nodes .exit)) (now (answered .exit)) ⌝ }
+{
+    let count = xdr::word_at(list, 4) as usize;
+    let mut office = office::fresh_office(xdr::word_at(list, 0));
+    let mut accepted: u32 = 0;
+    let mut at: usize = 8;
+    let mut k: usize = 0;
+    while k < count {
+        let w = turn(&list[at..], office, messages, nodes);
+        at += events::event_size(&list[at..]);
+        office = w.office;
+        answered[k] = w.number;
+        accepted += one_if_accepted(w.number);
+        k += 1;
+    }
+    Counts {
+        accepted,
+        messages: office.sent as u32,
+        proposals: office.proposals as u32,
+        decisions: office.decisions as u32,
+    }
+}
+
+// Plays a list of events over an office: list, store, table and answers are lent.
+pub fn play(list: &[u8], messages: &mut [u8], nodes: &mut [u64], answered: &mut [u8]) -> PlayAnswer
+    ensures { λ a. ⌜ Given (now (list .entry)) (now (messages .entry)) (now (nodes .entry)) (now (answered .entry)) a (now (messages .exit)) (now (nodes .exit)) (now (answered .exit)) ⌝ }
+{
+    if !events::fits(list) {
+        return PlayAnswer::Refused(ListRefusal::NotExact);
+    }
+    if !member::is_allowed(xdr::word_at(list, 0)) {
+        return PlayAnswer::Refused(ListRefusal::Members);
+    }
+    if !store::has_store_length(messages) {
+        return PlayAnswer::Refused(ListRefusal::StoreOrAnswers);
+    }
+    if answered.len() < xdr::word_at(list, 4) as usize {
+        return PlayAnswer::Refused(ListRefusal::StoreOrAnswers);
+    }
+    if tree::fresh(nodes).number() != 0 {
+        return PlayAnswer::Refused(ListRefusal::TableLength);
+    }
+    store::clear(messages);
+    PlayAnswer::Played(run(list, messages, nodes, answered))
+}

@@ -1,0 +1,2 @@
+-- Theorems about the message store.
+pub mod Stored

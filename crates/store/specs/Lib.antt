@@ -1,0 +1,2 @@
+-- What the message store holds (01, "Play").
+pub mod Rows
