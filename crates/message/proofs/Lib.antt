@@ -1,4 +1,3 @@
 -- Theorems about messages.
 pub mod Checks
-pub mod Puts
 pub mod RoundTrip

@@ -94,14 +94,22 @@ whole-read s m w e h =
     (λ j. rw j sized) in
     ap (λ (n : ℕ). answer n (decoded s)) (zero-of (message-row s) (long-enough, (known, (length-right, (w .present, (sized, (ranged, tt))))))) ∙ ap Got e
 
--- and nothing else reads as a message
-read-whole : (s : List ℕ) (m : Message) → read s ≡ Got m → Whole s × (decoded s ≡ m) × (in-range m ≡ true)
+-- bytes that read as a message get no number of the row, spell it, and it is in range
+pub got : (s : List ℕ) (m : Message) → read s ≡ Got m → (first (message-row s) ≡ 0) × (decoded s ≡ m) × (in-range m ≡ true)
 unfolding read
-read-whole s m h =
+got s m h =
     let zero-first : first (message-row s) ≡ 0 = sym (read-numbered s) ∙ ap read-number h in
-    let got : Got (decoded s) ≡ Got m = sym (ap (λ (n : ℕ). answer n (decoded s)) zero-first) ∙ h in
+    let reads : Got (decoded s) ≡ Got m = sym (ap (λ (n : ℕ). answer n (decoded s)) zero-first) ∙ h in
     let same : decoded s ≡ m = cc in
     let (long-enough, (known, (length-right, (present, (sized, (ranged, end)))))) = passed (message-row s) refl zero-first in
+    (zero-first, same, rw (← same) (not-false (in-range (decoded s)) ranged))
+
+-- and nothing else reads as a message
+read-whole : (s : List ℕ) (m : Message) → read s ≡ Got m → Whole s × (decoded s ≡ m) × (in-range m ≡ true)
+unfolding message-row
+read-whole s m h =
+    let (zero-first, same, ranged) = got s m h in
+    let (long-enough, (known, (length-right, (present, (sized, rest))))) = passed (message-row s) refl zero-first in
     let nonzero : eqb (kind s) 0 ≡ false = or-left (eqb (kind s) 0) (ltb 4 (kind s)) known in
     let small : ltb 4 (kind s) ≡ false = or-right (eqb (kind s) 0) (ltb 4 (kind s)) known in
     let whole : Whole s =
@@ -111,7 +119,7 @@ read-whole s m h =
       present = present;
       exact = eqb-true (length s) (size s) (not-false (eqb (length s) (size s)) sized);
     } in
-    (whole, same, rw (← same) (not-false (in-range (decoded s)) ranged))
+    (whole, same, ranged)
 
 -- the five shapes
 by-kind {ℓ} : {C : Type ℓ} (s : List ℕ) → Whole s → (kind s ≡ 1 → C) → (kind s ≡ 2 → presence s ≡ 0 → C) → (kind s ≡ 2 → presence s ≡ 1 → C) →

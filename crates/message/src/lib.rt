@@ -1,14 +1,13 @@
 // The messages of 01, "Messages": the enum, its reader and its writer.
 ghost use mathlib.Core.Path.{_≡_};
 ghost use mathlib.Core.Bool.{true, false};
-ghost use mathlib.Core.List.{_++_};
 ghost use Prim.Native.Nat.{_≤_};
-ghost use lib.ListN.{length, drop};
-ghost use Rattle.xdr.specs.Items.{encoded};
+ghost use lib.ListN.{length};
+ghost use Rattle.writer.specs.Put.{Fronts};
 ghost use Rattle.message.specs.Fields.{head-in-range, vote-in-range, in-range};
-ghost use Rattle.message.specs.Layout.{head, bytes, kind};
+ghost use Rattle.message.specs.Layout.{head, words, kind};
 ghost use Rattle.message.specs.Reading.{fault-number, size, decoded, read-rest, read};
-ghost use Rattle.message.specs.Writing.{in-front, Writes};
+ghost use Rattle.message.specs.Writing.{Writes};
 use ids::Member;
 use ids::Round;
 
@@ -215,30 +214,26 @@ pub fn read_message(s: &[u8]) -> Read
     read_rest(s, 12)
 }
 
-// Writes what every message starts with.
-fn put_head(buf: &mut [u8], kind: u32, round: Round, sender: Member)
+// Writes what every message starts with, and answers the place behind it.
+fn put_head(buf: &mut [u8], kind: u32, round: Round, sender: Member) -> usize
     requires { ⌜ 12 ≤ length (now buf) ⌝ }
-    ensures { λ _. ⌜ now (buf .exit) ≡ encoded (head kind round sender) ++ drop 12 (now (buf .entry)) ⌝ }
+    ensures { λ n. ⌜ Fronts (head kind round sender) (now (buf .entry)) n (now (buf .exit)) ⌝ }
 {
-    xdr::put_word(buf, 0, kind);
-    xdr::put_word(buf, 4, round.0);
-    xdr::put_word(buf, 8, sender.0);
+    let at = writer::write_word(buf, 0, kind);
+    let at = writer::write_word(buf, at, round.0);
+    writer::write_word(buf, at, sender.0)
 }
 
-// Writes a message at the front of a buffer that has room for any, and answers its length.
+// Writes a message at the front of a buffer that has room for any, word by word, and answers its length.
 fn put_message(m: Message, buf: &mut [u8]) -> usize
     requires { ⌜ 28 ≤ length (now buf) ⌝ }
-    ensures { λ n. ⌜ (n ≡ length (bytes m)) × (now (buf .exit) ≡ in-front m (now (buf .entry))) ⌝ }
+    ensures { λ n. ⌜ Fronts (words m) (now (buf .entry)) n (now (buf .exit)) ⌝ }
 {
     match m {
-        Message::Start { round, sender } => {
-            put_head(buf, 1, round, sender);
-            12
-        }
+        Message::Start { round, sender } => put_head(buf, 1, round, sender),
         Message::Join { round, sender } => {
-            put_head(buf, 2, round, sender);
-            xdr::put_word(buf, 12, 0);
-            16
+            let at = put_head(buf, 2, round, sender);
+            writer::write_word(buf, at, 0)
         }
         Message::JoinVoted {
             round,
@@ -246,25 +241,20 @@ fn put_message(m: Message, buf: &mut [u8]) -> usize
             voted,
             value,
         } => {
-            put_head(buf, 2, round, sender);
-            xdr::put_word(buf, 12, 1);
-            xdr::put_word(buf, 16, voted.0);
-            xdr::put_hyper(buf, 20, value);
-            28
+            let at = put_head(buf, 2, round, sender);
+            let at = writer::write_word(buf, at, 1);
+            let at = writer::write_word(buf, at, voted.0);
+            writer::write_hyper(buf, at, value)
         }
         Message::Propose {
             round,
             sender,
             value,
         } => {
-            put_head(buf, 3, round, sender);
-            xdr::put_hyper(buf, 12, value);
-            20
+            let at = put_head(buf, 3, round, sender);
+            writer::write_hyper(buf, at, value)
         }
-        Message::Vote { round, sender } => {
-            put_head(buf, 4, round, sender);
-            12
-        }
+        Message::Vote { round, sender } => put_head(buf, 4, round, sender),
     }
 }
 

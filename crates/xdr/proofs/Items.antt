@@ -7,7 +7,7 @@ use native.Mathlib.Omega.{arith}
 use lib.ListN.{length, take, drop, length-append, drop-of-length-le}
 use Rattle.laws.specs.Parts.{written-on}
 use Rattle.xdr.specs.Words.{Bytes, word, hyper, word-at, hyper-at}
-use Rattle.xdr.specs.Items.{Item, integer, long, item, encoded, Stand}
+use Rattle.xdr.specs.Items.{Item, integer, long, width, span, item, encoded, Stand}
 use Rattle.xdr.proofs.Laws.{length-word, length-hyper, word-found, hyper-found, word-whole, hyper-whole}
 
 pub encoded-append : (is js : List Item) → encoded (is ++ js) ≡ encoded is ++ encoded js
@@ -15,17 +15,15 @@ unfolding encoded
 encoded-append [] js = refl
 encoded-append (i ∷ is) js = rw (encoded-append is js, append-assoc (item i) (encoded is) (encoded js))
 
--- how many bytes items have
-abbrev pub span : List Item → ℕ
-span [] = 0
-span (integer x ∷ l) = 4 + span l
-span (long x ∷ l) = 8 + span l
+pub length-item : (i : Item) → length (item i) ≡ width i
+unfolding item
+length-item (integer x) = length-word x
+length-item (long x) = length-hyper x
 
 pub length-encoded : (is : List Item) → length (encoded is) ≡ span is
 unfolding encoded
 length-encoded [] = refl
-length-encoded (integer x ∷ l) = rw (length-append (word x) (encoded l), length-word x, length-encoded l)
-length-encoded (long x ∷ l) = rw (length-append (hyper x) (encoded l), length-hyper x, length-encoded l)
+length-encoded (i ∷ l) = rw (length-append (item i) (encoded l), length-item i, length-encoded l)
 
 -- an item is read where it was put
 pub integer-found : (is js : List Item) (x at : ℕ) → length (encoded is) ≡ at → x < 4294967296 → word-at (encoded (is ++ integer x ∷ js)) at ≡ x
@@ -54,9 +52,14 @@ stands s at (integer x ∷ is) k h e =
 stands s at (long x ∷ is) k h e =
     step s (hyper x) (encoded is) at 8 (length-hyper x) e (λ fits. rw (h .0) at (hyper-whole at s k fits)) (λ f. stands s (at + 8) is k (h .1) f)
 
+pub span-snoc : (is : List Item) (i : Item) → span (is ++ i ∷ []) ≡ span is + width i
+span-snoc [] i = omega arith
+span-snoc (j ∷ is) i = rw (span-snoc is i) (omega arith)
+
 -- an item put behind others
-pub put-on : (l m r : List ℕ) (is : List Item) (i : Item) (at end : ℕ) → length (encoded is) ≡ at → at + length (item i) ≡ end → end ≤ length l →
-    m ≡ encoded is ++ drop at l → r ≡ take at m ++ item i ++ drop end m → r ≡ encoded (is ++ i ∷ []) ++ drop end l
+pub put-on : (l m r : List ℕ) (is : List Item) (i : Item) → span is + width i ≤ length l → m ≡ encoded is ++ drop (span is) l →
+    r ≡ take (span is) m ++ item i ++ drop (span is + width i) m → r ≡ encoded (is ++ i ∷ []) ++ drop (span is + width i) l
 unfolding encoded
-put-on l m r is i at end p q h e f =
-    rw (f, e, encoded-append is (i ∷ []), append-nil (item i)) (written-on l (encoded is) (item i) 0 at end (rw p (omega arith)) q h)
+put-on l m r is i h e f =
+    rw (f, e, encoded-append is (i ∷ []), append-nil (item i))
+    (written-on l (encoded is) (item i) 0 (span is) (span is + width i) (rw (length-encoded is) (omega arith)) (rw (length-item i)) h)

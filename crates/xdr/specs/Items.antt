@@ -8,6 +8,16 @@ pub data Item : Type 0 where
   integer : ℕ → Item
   long : ℕ → Item
 
+-- how many bytes one has
+abbrev pub width : Item → ℕ
+width (integer x) = 4
+width (long x) = 8
+
+-- how many all have
+abbrev pub span : List Item → ℕ
+span [] = 0
+span (i ∷ l) = width i + span l
+
 -- the bytes of one
 unfoldable pub item : Item → List ℕ
 item (integer x) = word x

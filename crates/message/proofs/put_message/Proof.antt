@@ -1,6 +1,8 @@
--- `message::put_message` meets its contract, variant by variant: the words that an arm puts make the message. Assumes nothing.
-use denote.Ref.{now}
-use Rattle.message.proofs.Puts.{start-put, vote-put, join-put, propose-put, join-voted-put}
+-- `message::put_message` meets its contract, variant by variant: each number that an arm puts behind those before it makes the longer front, up to the whole message.
+-- Assumes nothing.
+use native.Mathlib.Omega.{arith}
+use Rattle.writer.proofs.Items.{put-behind}
+use Rattle.message.specs.Layout.{words}
 use borrow.Author.Needs.{needs}
 use Rattle.message.proofs.put_message.Statement.{statement}
 use Rattle.message.proofs.put_message.Tie as tie
@@ -17,8 +19,8 @@ enum-known-m-2 c = search needs
 put-head-requires-2 : tie.Need-put-head-requires-2
 put-head-requires-2 c κs = search needs
 
-put-word-requires : tie.Need-put-word-requires
-put-word-requires c κs = search needs
+write-word-requires : tie.Need-write-word-requires
+write-word-requires c κs = search needs
 
 enum-known-m-3 : tie.Need-enum-known-m-3
 enum-known-m-3 c = search needs
@@ -26,14 +28,14 @@ enum-known-m-3 c = search needs
 put-head-requires-3 : tie.Need-put-head-requires-3
 put-head-requires-3 c κs = search needs
 
-put-word-requires-2 : tie.Need-put-word-requires-2
-put-word-requires-2 c κs = search needs
+write-word-requires-2 : tie.Need-write-word-requires-2
+write-word-requires-2 c κs = search needs
 
-put-word-requires-3 : tie.Need-put-word-requires-3
-put-word-requires-3 c κs = search needs
+write-word-requires-3 : tie.Need-write-word-requires-3
+write-word-requires-3 c κs = search needs
 
-put-hyper-requires : tie.Need-put-hyper-requires
-put-hyper-requires c κs = search needs
+write-hyper-requires : tie.Need-write-hyper-requires
+write-hyper-requires c κs = search needs
 
 enum-known-m-4 : tie.Need-enum-known-m-4
 enum-known-m-4 c = search needs
@@ -41,8 +43,8 @@ enum-known-m-4 c = search needs
 put-head-requires-4 : tie.Need-put-head-requires-4
 put-head-requires-4 c κs = search needs
 
-put-hyper-requires-2 : tie.Need-put-hyper-requires-2
-put-hyper-requires-2 c κs = search needs
+write-hyper-requires-2 : tie.Need-write-hyper-requires-2
+write-hyper-requires-2 c κs = search needs
 
 enum-known-m-5 : tie.Need-enum-known-m-5
 enum-known-m-5 c = search needs
@@ -54,51 +56,53 @@ same-length : tie.Need-same-length
 same-length c = search needs
 
 returns : tie.Need-returns
+unfolding words
 returns c =
-    let s = c .before .before .before .before .before .before .before .before in
-    let v = c .before .before .before .before .before .m .given .0 in
-    rw (c .before .before .before .before .before .m .given .1) (start-put (now (s .args .buf)) (s .pre) (v .0) (v .1 .0) (c .before .before .put-head .last .0)
-    (c .before .before .put-head .ensures))
+    rw (c .before .before .before .before .before .m .given .1) (c .before .before .put-head .ensures)
 
 same-length-2 : tie.Need-same-length-2
 same-length-2 c = search needs
 
 returns-2 : tie.Need-returns-2
+unfolding words
 returns-2 c =
-    let s = c .before .before .before .before .before .before .before .before .before .before .before .before in
-    let v = c .before .before .before .before .before .before .before .before .before .m2 .given .0 in
-    rw (c .before .before .before .before .before .before .before .before .before .m2 .given .1) (join-put (now (s .args .buf)) (s .pre) (v .0) (v .1 .0) (c .before .before .before .before .before .before .put-head2 .last .0) (c .before .before .put-word .last .0)
-    (c .before .before .before .before .before .before .put-head2 .ensures) (c .before .before .put-word .ensures))
+    let head = c .before .before .before .before .before .before in
+    let s = head .before .before .before .before .before .before in
+    let room = s .pre in
+    rw (head .before .before .before .m2 .given .1) (put-behind (head .put-head2 .ensures) (c .before .before .write-word .ensures) (omega arith))
 
 same-length-3 : tie.Need-same-length-3
 same-length-3 c = search needs
 
 returns-3 : tie.Need-returns-3
+unfolding words
 returns-3 c =
-    let s = c .before .before .before .before .before .before .before .before .before .before .before .before .before .before .before .before .before .before .before .before in
-    let v = c .before .before .before .before .before .before .before .before .before .before .before .before .before .before .before .before .before .m3 .given .0 in
-    rw (c .before .before .before .before .before .before .before .before .before .before .before .before .before .before .before .before .before .m3 .given .1) (join-voted-put (now (s .args .buf)) (s .pre) (v .0) (v .1 .0) (v .1 .1 .0) (v .1 .1 .1 .0) (c .before .before .before .before .before .before .before .before .before .before .before .before .before .before .put-head3 .last .0) (c .before .before .before .before .before .before .before .before .before .before .put-word2 .last .0) (c .before .before .before .before .before .before .put-word3 .last .0) (c .before .before .put-hyper .last .0)
-    (c .before .before .before .before .before .before .before .before .before .before .before .before .before .before .put-head3 .ensures) (c .before .before .before .before .before .before .before .before .before .before .put-word2 .ensures) (c .before .before .before .before .before .before .put-word3 .ensures) (c .before .before .put-hyper .ensures))
+    let vote = c .before .before .before .before .before .before in
+    let presence = vote .before .before .before .before in
+    let head = presence .before .before .before .before in
+    let s = head .before .before .before .before .before .before in
+    let room = s .pre in
+    rw (head .before .before .before .m3 .given .1)
+    (put-behind (put-behind (put-behind (head .put-head3 .ensures) (presence .write-word2 .ensures) (omega arith)) (vote .write-word3 .ensures) (omega arith)) (c .before .before .write-hyper .ensures) (omega arith))
 
 same-length-4 : tie.Need-same-length-4
 same-length-4 c = search needs
 
 returns-4 : tie.Need-returns-4
+unfolding words
 returns-4 c =
-    let s = c .before .before .before .before .before .before .before .before .before .before .before .before in
-    let v = c .before .before .before .before .before .before .before .before .before .m4 .given .0 in
-    rw (c .before .before .before .before .before .before .before .before .before .m4 .given .1) (propose-put (now (s .args .buf)) (s .pre) (v .0) (v .1 .0) (v .1 .1 .0) (c .before .before .before .before .before .before .put-head4 .last .0) (c .before .before .put-hyper2 .last .0)
-    (c .before .before .before .before .before .before .put-head4 .ensures) (c .before .before .put-hyper2 .ensures))
+    let head = c .before .before .before .before .before .before in
+    let s = head .before .before .before .before .before .before in
+    let room = s .pre in
+    rw (head .before .before .before .m4 .given .1) (put-behind (head .put-head4 .ensures) (c .before .before .write-hyper2 .ensures) (omega arith))
 
 same-length-5 : tie.Need-same-length-5
 same-length-5 c = search needs
 
 returns-5 : tie.Need-returns-5
+unfolding words
 returns-5 c =
-    let s = c .before .before .before .before .before .before .before .before in
-    let v = c .before .before .before .before .before .m5 .given .0 in
-    rw (c .before .before .before .before .before .m5 .given .1) (vote-put (now (s .args .buf)) (s .pre) (v .0) (v .1 .0) (c .before .before .put-head5 .last .0)
-    (c .before .before .put-head5 .ensures))
+    rw (c .before .before .before .before .before .m5 .given .1) (c .before .before .put-head5 .ensures)
 
 pub put-message-spec : {M : Type 1} → statement M
 put-message-spec =
@@ -108,15 +112,15 @@ put-message-spec =
     put-head-requires
     enum-known-m-2
     put-head-requires-2
-    put-word-requires
+    write-word-requires
     enum-known-m-3
     put-head-requires-3
-    put-word-requires-2
-    put-word-requires-3
-    put-hyper-requires
+    write-word-requires-2
+    write-word-requires-3
+    write-hyper-requires
     enum-known-m-4
     put-head-requires-4
-    put-hyper-requires-2
+    write-hyper-requires-2
     enum-known-m-5
     put-head-requires-5
     same-length

@@ -1,10 +1,22 @@
 -- `message::write_message` meets its contract: each return goes by the tests that led there. Assumes nothing.
-use mathlib.Core.Path.{sym, _∙_}
+use mathlib.Core.Path.{_≡_, sym, _∙_}
+use mathlib.Core.List.{List}
+use Prim.Native.Nat.{ℕ}
+use lib.ListN.{length}
 use borrow.Author.Tests.{lt-ltb, le-ltb}
-use Rattle.message.specs.Writing.{written, buffer-after}
+use Rattle.xdr.proofs.Items.{length-encoded}
+use Rattle.writer.specs.Put.{Fronts}
+use Rattle.message.specs.declared.Message.{Message}
+use Rattle.message.specs.Layout.{words, bytes}
+use Rattle.message.specs.Writing.{in-front, written, buffer-after}
 use borrow.Author.Needs.{needs}
 use Rattle.message.proofs.write_message.Statement.{statement}
 use Rattle.message.proofs.write_message.Tie as tie
+
+-- a message's words at the front are the message there
+sent : (m : Message) {old new : List ℕ} {n : ℕ} → Fronts (words m) old n new → (n ≡ length (bytes m)) × (new ≡ in-front m old)
+unfolding in-front bytes
+sent m f = (rw (f .reached, length-encoded (words m)), rw (f .stand, length-encoded (words m)))
 
 returns : tie.Need-returns
 unfolding written buffer-after
@@ -22,11 +34,11 @@ same-length c = search needs
 returns-2 : tie.Need-returns-2
 unfolding written buffer-after
 returns-2 c =
-    let put = c .before .before .put-message in
+    let put = sent _ (c .before .before .put-message .ensures) in
     let fits = sym (c .before .before .before .before .before .in-range .ensures) ∙ c .before .before .before .before .if2 .taken in
     record {
-      answer = simp (le-ltb _ _ (c .before .before .before .before .before .before .if1 .left), fits, put .ensures .0);
-      buffer = simp (le-ltb _ _ (c .before .before .before .before .before .before .if1 .left), fits) (put .ensures .1);
+      answer = simp (le-ltb _ _ (c .before .before .before .before .before .before .if1 .left), fits, put .0);
+      buffer = simp (le-ltb _ _ (c .before .before .before .before .before .before .if1 .left), fits) (put .1);
     }
 
 returns-3 : tie.Need-returns-3

@@ -1,0 +1,3 @@
+-- The meanings of the member calls on a lent record.
+pub mod Calls
+pub mod Reports

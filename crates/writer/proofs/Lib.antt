@@ -1,0 +1,7 @@
+-- The writer's proofs by hand: what they share.
+pub mod Again
+pub mod Held
+pub mod Widths
+pub mod Putting
+pub mod Items
+pub mod Writing

@@ -1,0 +1,2 @@
+-- What the writer's functions leave.
+pub mod Put
