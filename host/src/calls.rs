@@ -25,6 +25,7 @@ pub const TABLE_ROW: usize = 4;
 pub const TABLE_ROWS: usize = 256;
 
 /// The calls of one implementation. Each has the meaning of the function of that name at the front of this crate.
+#[allow(clippy::type_complexity)]
 #[derive(Clone, Copy)]
 pub struct Calls {
     /// Which implementation this is, for people.

@@ -23,6 +23,8 @@ struct Style {
     late: usize,
     /// Starts of a round below one that was led already.
     below: usize,
+    /// Votes that wait for a proposal of a higher round.
+    put_off: usize,
 }
 
 /// A list of 0 to 1,000 events for 3, 5 or 7 members, with memory of any allowed size.
@@ -40,8 +42,8 @@ pub fn case(random: &mut Random) -> Case {
         _ => STORE_ROWS,
     };
     let table_rows = match random.below(100) {
-        0..=69 => 64,
-        70..=89 => random.between(1, 5),
+        0..=59 => 64,
+        60..=89 => random.between(1, 4),
         _ => random.between(1, TABLE_ROWS),
     };
     let spare = if random.chance(50) { 0 } else { random.between(1, 20) };
@@ -61,6 +63,7 @@ pub fn list(random: &mut Random, n: u32, events: usize, store_rows: usize, table
         hurry: *random.pick(&[0, 2, 5, 10, 20]),
         late: *random.pick(&[0, 10, 30, 60, 100]),
         below: *random.pick(&[0, 10, 30]),
+        put_off: *random.pick(&[0, 0, 90, 100]),
     };
     let mut model = Model::new(n, store_rows, table_rows);
     let mut list = EventList::new(n);
@@ -146,12 +149,24 @@ fn offer(random: &mut Random) -> u64 {
 
 /// A message sent earlier, to a member that could await it.
 fn delivery(random: &mut Random, model: &Model, style: Style) -> Event {
-    let sent = model.sent.len();
-    let back = if random.chance(style.late) { sent } else { sent.min(3 * model.n() as usize) };
-    let message = sent - 1 - random.below(back);
+    let mut message = sent_earlier(random, model, style);
+    let highest = model.proposals().map(|proposal| proposal.round).max();
+    for _ in 0..6 {
+        if matches!(model.sent[message], Message::Vote { round, .. } if Some(round) == highest)
+            && random.chance(style.put_off)
+        {
+            message = sent_earlier(random, model, style);
+        }
+    }
     let member = match model.sent[message] {
         Message::Join { round, .. } | Message::Vote { round, .. } => round.leader(model.n()),
         Message::Start { .. } | Message::Propose { .. } => Member(random.below(model.n() as usize) as u32),
     };
     Event::Deliver { message: MessageNumber(message as u32), member }
+}
+
+fn sent_earlier(random: &mut Random, model: &Model, style: Style) -> usize {
+    let sent = model.sent.len();
+    let back = if random.chance(style.late) { sent } else { sent.min(3 * model.n() as usize) };
+    sent - 1 - random.below(back)
 }

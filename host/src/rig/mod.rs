@@ -5,6 +5,7 @@
 //! - [`draw`]: a tree as text, DOT and SVG
 //! - [`random`], [`generate`]: random lists that reach something
 //! - [`compare`], [`shrink`]: two implementations side by side, and the shortest list that tells them apart
+//! - [`rehearsal`]: what the rehearsal program prints
 //! - [`search`]: random orders, for a property that fails
 
 pub mod compare;
@@ -13,5 +14,6 @@ pub mod explain;
 pub mod generate;
 pub mod notation;
 pub mod random;
+pub mod rehearsal;
 pub mod search;
 pub mod shrink;

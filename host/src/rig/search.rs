@@ -3,7 +3,7 @@
 use super::compare::{self, Left, Lent};
 use super::generate::{self, Case};
 use super::random::Random;
-use super::shrink::shrink;
+use super::shrink::{shortest, shrink};
 use crate::second::model::{Made, Model};
 use crate::second::{self, message};
 use crate::{nodes, number_of, Calls, EventList, Refusal, Status, STORE_ROW, TABLE_ROW};
@@ -231,7 +231,9 @@ impl Search<'_> {
 
     fn smallest(&self, property: &'static Property, case: Case) -> Found {
         let how = |case: &Case| (property.fails)(self.calls, &Run::new(self.calls, case));
-        let case = shrink(case, &mut |case| runs(case) && how(case).is_some());
+        let mut fails = |case: &Case| runs(case) && how(case).is_some();
+        let any_list = self.members.is_none() && self.orders_of.is_none();
+        let case = if any_list { shortest(case, &mut fails) } else { shrink(case, &mut fails) };
         Found { property, how: how(&case).unwrap_or_default(), case }
     }
 }

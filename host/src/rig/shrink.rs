@@ -1,9 +1,39 @@
 //! Makes a case smaller for as long as it still fails.
 
-use super::generate::Case;
+use super::compare::Lent;
+use super::generate::{self, Case};
+use super::random::Random;
 use crate::second::member::size_allowed;
 use crate::second::model::Model;
-use crate::{Event, EventList, MessageNumber, STORE_ROW, TABLE_ROW};
+use crate::{Event, EventList, MessageNumber, Round, STORE_ROW, TABLE_ROW};
+
+/// How many short lists are tried for one that fails too.
+const TRIES: usize = 20_000;
+
+/// The shortest case found that fails, from one that does: shrunk, and then random lists of three members that are
+/// shorter still.
+pub fn shortest(case: Case, fails: &mut dyn FnMut(&Case) -> bool) -> Case {
+    let mut case = shrink(case, fails);
+    let mut random = Random::new(1);
+    let mut tries = 0;
+    while tries < TRIES && case.list.events.len() > 1 {
+        tries += 1;
+        let other = shorter(&case, &mut random);
+        if fails(&other) {
+            case = shrink(other, fails);
+            tries = 0;
+        }
+    }
+    case
+}
+
+/// A random list of three members with fewer events, and clean memory with as many rows.
+fn shorter(case: &Case, random: &mut Random) -> Case {
+    let (store_rows, table_rows) = (case.lent.store.div_ceil(STORE_ROW), case.lent.table.div_ceil(TABLE_ROW));
+    let events = random.between(1, case.list.events.len() - 1);
+    let list = generate::list(random, 3, events, store_rows, table_rows.max(1));
+    Case { list, lent: Lent { answers: events, dirt: 0, ..case.lent } }
+}
 
 /// The smallest case found that still fails, from one that does: with fewer events, then smaller numbers and less
 /// memory.
@@ -85,29 +115,37 @@ fn moved(event: &Event, new_numbers: &[Option<u32>]) -> Option<Event> {
 
 /// Fewer members, lower rounds and offers.
 fn smaller_numbers(mut case: Case, fails: &mut dyn FnMut(&Case) -> bool) -> Case {
-    for n in [3, 5] {
-        if n < case.list.n {
-            let mut smaller = case.clone();
-            smaller.list.n = n;
-            if fails(&smaller) {
-                case = smaller;
-            }
-        }
-    }
+    let n = case.list.n;
+    let fewer = [3, 5].into_iter().filter(|fewer| *fewer < n);
+    case = first_that_fails(case, fails, fewer, |case, fewer| case.list.n = fewer);
     for at in 0..case.list.events.len() {
-        let Event::Start { member, round, offer } = case.list.events[at] else { continue };
-        for smaller_offer in [0, 10, 20] {
-            if smaller_offer < offer {
-                let mut smaller = case.clone();
-                smaller.list.events[at] = Event::Start { member, round, offer: smaller_offer };
-                if fails(&smaller) {
-                    case = smaller;
-                    break;
-                }
-            }
+        if let Event::Start { member, round, offer } = case.list.events[at] {
+            let start = |round, offer| Event::Start { member, round, offer };
+            let lower = (0..9).map(|turn| Round(round.0 % n.max(1) + turn * n)).filter(|lower| *lower < round);
+            case = first_that_fails(case, fails, lower, |case, lower| case.list.events[at] = start(lower, offer));
+        }
+        if let Event::Start { member, round, offer } = case.list.events[at] {
+            let start = |offer| Event::Start { member, round, offer };
+            let lower = [0, 10, 20].into_iter().filter(|lower| *lower < offer);
+            case = first_that_fails(case, fails, lower, |case, lower| case.list.events[at] = start(lower));
         }
     }
     case
+}
+
+/// The case with the first of some changes with which it still fails, or as it is.
+fn first_that_fails<T>(
+    case: Case,
+    fails: &mut dyn FnMut(&Case) -> bool,
+    mut changes: impl Iterator<Item = T>,
+    change: impl Fn(&mut Case, T),
+) -> Case {
+    let changed = |to| {
+        let mut changed = case.clone();
+        change(&mut changed, to);
+        Some(changed).filter(|changed| fails(changed))
+    };
+    changes.find_map(changed).unwrap_or(case)
 }
 
 /// Clean memory, few rows, no spare answers.
