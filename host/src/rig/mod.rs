@@ -6,6 +6,7 @@
 //! - [`random`], [`generate`]: random lists that reach something
 //! - [`compare`], [`shrink`]: two implementations side by side, and the shortest list that tells them apart
 //! - [`rehearsal`]: what the rehearsal program prints
+//! - [`suite`]: the whole comparison, part by part
 //! - [`search`]: random orders, for a property that fails
 
 pub mod compare;
@@ -17,3 +18,4 @@ pub mod random;
 pub mod rehearsal;
 pub mod search;
 pub mod shrink;
+pub mod suite;
