@@ -26,9 +26,9 @@ fn main() {
 
 /// KALEBASIN_LIB, or the repository's target/staticlib.
 fn archive_folder() -> PathBuf {
-    match env::var_os("KALEBASIN_LIB") {
-        Some(folder) => PathBuf::from(folder),
-        None => PathBuf::from(env::var_os("CARGO_MANIFEST_DIR").expect("cargo sets CARGO_MANIFEST_DIR"))
-            .join("../target/staticlib"),
+    if let Some(folder) = env::var_os("KALEBASIN_LIB") {
+        return PathBuf::from(folder);
     }
+    let package = PathBuf::from(env::var_os("CARGO_MANIFEST_DIR").expect("cargo sets CARGO_MANIFEST_DIR"));
+    package.parent().unwrap_or(&package).join("target").join("staticlib")
 }

@@ -130,7 +130,8 @@ fn svg_node(place: &Placed, out: &mut String) {
     let (left, top, fill) = (place.left(), place.top(), colour(place.node.status));
     let _ = writeln!(
         out,
-        "<rect x=\"{left}\" y=\"{top}\" width=\"{BOX_WIDTH}\" height=\"{BOX_HEIGHT}\" rx=\"6\" fill=\"{fill}\" stroke=\"#404040\"/>"
+        "<rect x=\"{left}\" y=\"{top}\" width=\"{BOX_WIDTH}\" height=\"{BOX_HEIGHT}\" rx=\"6\" fill=\"{fill}\" \
+         stroke=\"#404040\"/>"
     );
     let lines = label(&place.node);
     let first = top + (BOX_HEIGHT - lines.len() * LINE) / 2 + LINE - 4;

@@ -6,7 +6,8 @@
 //!
 //! let list = parse("n=3 s(1,1,70)\n# to member 0\nd(0, 0)", None).unwrap();
 //! assert_eq!(list.to_string(), "n=3 s(1,1,70) d(0,0)");
-//! assert_eq!(parse("n=3\ns(1,x,70)", None).unwrap_err().to_string(), "line 2, column 5: a round number is missing here");
+//! let mistake = parse("n=3\ns(1,x,70)", None).unwrap_err();
+//! assert_eq!(mistake.to_string(), "line 2, column 5: a round number is missing here");
 //! ```
 
 use crate::{Event, EventList, Member, MessageNumber, Round};

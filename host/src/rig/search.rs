@@ -38,7 +38,7 @@ pub struct Property {
 pub const ALWAYS: &[Property] = &[
     Property {
         name: "third-demand",
-        about: "proposals and decisions get OK in a fresh tree, that tree is the one left, decided values are equal and offered",
+        about: "proposals and decisions get OK in a fresh tree, the one left; decided values are equal and offered",
         fails: third_demand,
     },
     Property { name: "model", about: "answers and store are those of the model", fails: model },

@@ -22,6 +22,7 @@ pub fn run(options: &Options) -> Outcome {
         "rehearse" => rehearse(options),
         "message" => message(options),
         "search" => search(options),
+        "compare" => compare_all(options),
         "causes" => causes(),
         other => Err(format!("there is no command {other}; see --help")),
     }
@@ -293,6 +294,41 @@ fn show(options: &Options, found: &Found) -> Outcome {
     failed()
 }
 
+#[cfg(not(feature = "core"))]
+fn compare_all(_: &Options) -> Outcome {
+    Err("compare needs the proved core, and this program was built without it".into())
+}
+
+/// The whole comparison of the core with the second implementation, with as many random lists as asked for.
+#[cfg(feature = "core")]
+fn compare_all(options: &Options) -> Outcome {
+    use kalebasin::rig::suite::{self, Compared, Pair};
+    let pair: Pair = [&kalebasin::proved::CALLS, &second::CALLS];
+    let (seed, lists) = (options.seed, options.lists as usize);
+    let mut reporter = Reporter::new(options.lists);
+    let mut tell = |lists: usize| reporter.tell(&Progress { lists: lists as u64, ..Progress::default() });
+    let parts: &mut [(&str, &mut dyn FnMut() -> Compared)] = &mut [
+        ("every list of up to four events", &mut || suite::short_lists(pair)),
+        ("every three events after each part of the rehearsal", &mut || suite::rehearsal_tails(pair)),
+        ("every damaged byte of some lists", &mut || suite::damaged_lists(pair)),
+        ("every small byte string as a list", &mut || suite::small_list_bytes(pair)),
+        ("every small message and every damaged byte", &mut || suite::messages(pair)),
+        ("every small table", &mut || suite::small_tables(pair)),
+        ("random trees", &mut || suite::random_trees(pair, seed, lists / 5)),
+        ("random lists", &mut || suite::random_lists(pair, seed, lists, &mut tell)),
+    ];
+    for (what, part) in parts {
+        match part() {
+            Ok(calls) => println!("{what}: {calls} calls, no difference"),
+            Err(report) => {
+                println!("{what}: {report}");
+                return failed();
+            }
+        }
+    }
+    done()
+}
+
 /// Says once a second on standard error how far a search is.
 struct Reporter {
     lists: u64,
@@ -317,10 +353,10 @@ impl Reporter {
 
     fn end(&self) {
         let Progress { lists, events, proposed, decided } = self.last;
-        let seconds = self.began.elapsed().as_secs_f32();
-        eprintln!(
-            "{lists} of {} lists, {events} events, {proposed} lists with a proposal, {decided} with a decision, {seconds:.1} s",
-            self.lists
-        );
+        let reached = match events {
+            0 => String::new(),
+            _ => format!(", {events} events, {proposed} lists with a proposal, {decided} with a decision"),
+        };
+        eprintln!("{lists} of {} lists{reached}, {:.1} s", self.lists, self.began.elapsed().as_secs_f32());
     }
 }

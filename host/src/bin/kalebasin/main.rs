@@ -21,7 +21,9 @@ Commands
   decode    turns the bytes of a list into notation
   rehearse  runs the bytes of a list and prints what the rehearsal program prints
   message   explains one message, given in hexadecimal digits as FILE
-  search    tries random lists for a property that fails and shows a short one; with FILE or -e, random orders of that list
+  search    tries random lists for a property that fails and shows the shortest found; with FILE or -e, random orders of
+            that list
+  compare   compares the proved core with the second implementation, call by call
   causes    prints the numbers of refusals and their causes
 
 Without FILE, or where it is -, standard input is read.
@@ -36,8 +38,8 @@ Options
   --format F        draw: text, dot or svg (text)
   --dot FILE        run: writes the tree to FILE in the DOT language
   --svg FILE        run: writes the tree to FILE as a picture
-  --seed S          search: another seed gives other lists (1)
-  --lists L         search: how many lists to try (100000)
+  --seed S          search, compare: another seed gives other lists (1)
+  --lists L         search, compare: how many random lists to try (100000)
   --property NAME   search: a property to try, any number of times; --property list shows them all
   --second          works on the second implementation instead of the proved core
   --help            prints this
