@@ -1,11 +1,10 @@
 //! The comparison has teeth: copies of the second implementation, each with one fault, are told apart from it, and the
-//! report has a short list. A fault is an edit of the source: the copy is compiled beside this crate and compared with
-//! the reference by the parts of the comparison.
+//! report has a short list. A fault is an edit of the source; the copies are compiled beside this crate and compared
+//! with the reference by the parts of the comparison.
 
 use std::fs;
 use std::path::{Path, PathBuf};
 use std::process::Command;
-use std::sync::atomic::{AtomicUsize, Ordering::Relaxed};
 
 /// A fault: its name, the file, the text there and what stands in its place.
 struct Fault(&'static str, &'static str, &'static str, &'static str);
@@ -67,20 +66,15 @@ const FAULTS: &[Fault] = &[
     Fault("a path that just fits is refused", "tree.rs", "if out.len() < count {", "if out.len() <= count {"),
 ];
 
-/// Compares a faulty copy with the reference, cheap parts first, and prints the first report.
+/// Compares the faulty copy with the number given to the program with the reference, and prints the first report.
 const MAIN: &str = r#"
-pub use kalebasin::*;
-#[allow(dead_code, unused_variables, unused_imports, unused_mut)]
-#[path = "second/mod.rs"]
-mod faulty;
-
 fn main() {
     use kalebasin::rig::suite;
-    let calls = kalebasin::Calls { name: "the faulty copy", ..faulty::CALLS };
+    let number: usize = std::env::args().nth(1).unwrap().parse().unwrap();
+    let calls = kalebasin::Calls { name: "the faulty copy", ..FAULTY[number] };
     let pair = [&calls, &kalebasin::second::CALLS];
-    let compared = suite::random_lists(pair, 1, 20_000, &mut |_| ())
-        .and_then(|_| suite::damaged_lists(pair))
-        .and_then(|_| suite::random_trees(pair, 1, 3_000))
+    let compared = suite::random_lists(pair, 1, 5_000, &mut |_| ())
+        .and_then(|_| suite::random_trees(pair, 1, 2_000))
         .and_then(|_| suite::small_tables(pair))
         .and_then(|_| suite::messages(pair));
     if let Err(report) = compared {
@@ -91,63 +85,60 @@ fn main() {
 
 fn rustc(folder: &Path, args: &[&str]) {
     let rustc = std::env::var("RUSTC").unwrap_or("rustc".into());
-    let output =
-        Command::new(rustc).current_dir(folder).args(["--edition=2021", "-Cdebuginfo=0"]).args(args).output().unwrap();
+    let mut command = Command::new(rustc);
+    let output = command.current_dir(folder).args(["--edition=2021", "-Cdebuginfo=0"]).args(args).output().unwrap();
     assert!(output.status.success(), "{args:?}\n{}", String::from_utf8_lossy(&output.stderr));
 }
 
 /// Copies the second implementation with a fault into a folder.
 fn faulty_copy(fault: &Fault, source: &Path, folder: &Path) {
-    fs::create_dir_all(folder.join("second")).unwrap();
-    fs::write(folder.join("main.rs"), MAIN).unwrap();
+    let Fault(name, file_to_edit, old, new) = fault;
+    fs::create_dir_all(folder).unwrap();
     for entry in fs::read_dir(source.join("second")).unwrap() {
-        let file = entry.unwrap().file_name().into_string().unwrap();
-        let mut text = fs::read_to_string(source.join("second").join(&file)).unwrap();
-        if file == fault.1 && !fault.2.is_empty() {
-            assert_eq!(text.matches(fault.2).count(), 1, "{}: the text to edit stands once in {file}", fault.0);
-            text = text.replace(fault.2, fault.3);
+        let entry = entry.unwrap();
+        let mut text = fs::read_to_string(entry.path()).unwrap();
+        if entry.file_name() == *file_to_edit && !old.is_empty() {
+            assert_eq!(text.matches(old).count(), 1, "{name}: the text to edit stands once in {file_to_edit}");
+            text = text.replace(old, new);
         }
-        fs::write(folder.join("second").join(file), text).unwrap();
+        fs::write(folder.join(entry.file_name()), text).unwrap();
     }
 }
 
+/// A program with all faulty copies, each a module. They take the crate's types from its front, as the original does.
+fn build(source: &Path, folder: &Path) -> PathBuf {
+    fs::create_dir_all(folder).unwrap();
+    let mut main = String::from("#![allow(dead_code, unused)]\npub use kalebasin::*;\n");
+    let mut faulty = String::new();
+    for (at, fault) in FAULTS.iter().enumerate() {
+        faulty_copy(fault, source, &folder.join(format!("fault_{at}")));
+        main += &format!("mod fault_{at};\n");
+        faulty += &format!("fault_{at}::CALLS, ");
+    }
+    main += &format!("const FAULTY: [kalebasin::Calls; {}] = [{faulty}];\n{MAIN}", FAULTS.len());
+    fs::write(folder.join("main.rs"), main).unwrap();
+    let root = source.join("lib.rs");
+    let features = "--check-cfg=cfg(feature, values(\"core\"))";
+    let library = ["--crate-type=rlib", "--crate-name=kalebasin", "-Copt-level=2", features, root.to_str().unwrap()];
+    rustc(folder, &library);
+    rustc(folder, &["-Copt-level=0", "--extern=kalebasin=libkalebasin.rlib", "-o", "compare", "main.rs"]);
+    folder.join("compare")
+}
+
 /// What the comparison reports of a fault.
-fn report(fault: &Fault, source: &Path, library: &Path, folder: &Path) -> String {
-    faulty_copy(fault, source, folder);
-    let library = format!("kalebasin={}", library.display());
-    rustc(folder, &["-Copt-level=1", "--extern", &library, "-o", "compare", "main.rs"]);
-    let output = Command::new(folder.join("compare")).output().unwrap();
-    assert!(output.status.success(), "{}\n{}", fault.0, String::from_utf8_lossy(&output.stderr));
+fn report(program: &Path, number: usize) -> String {
+    let output = Command::new(program).arg(number.to_string()).output().unwrap();
+    assert!(output.status.success(), "{}\n{}", FAULTS[number].0, String::from_utf8_lossy(&output.stderr));
     String::from_utf8(output.stdout).unwrap()
 }
 
 #[test]
 fn each_fault_is_found() {
     let source = PathBuf::from(env!("CARGO_MANIFEST_DIR")).join("src");
-    let folder = PathBuf::from(env!("CARGO_TARGET_TMPDIR")).join("teeth");
-    fs::create_dir_all(&folder).unwrap();
-    let root = source.join("lib.rs");
-    rustc(
-        &folder,
-        &[
-            "--crate-type=rlib",
-            "--crate-name=kalebasin",
-            "-Copt-level=2",
-            "--check-cfg=cfg(feature, values(\"core\"))",
-            root.to_str().unwrap(),
-        ],
-    );
-    let library = folder.join("libkalebasin.rlib");
-    let next = AtomicUsize::new(0);
-    let work = || {
-        while let Some((at, fault)) = FAULTS.iter().enumerate().nth(next.fetch_add(1, Relaxed)) {
-            let report = report(fault, &source, &library, &folder.join(at.to_string()));
-            println!("{}:\n{report}", fault.0);
-            assert_eq!(report.is_empty(), fault.2.is_empty(), "{}: {report}", fault.0);
-        }
-    };
-    std::thread::scope(|scope| {
-        scope.spawn(work);
-        work();
-    });
+    let program = build(&source, &PathBuf::from(env!("CARGO_TARGET_TMPDIR")).join("teeth"));
+    for (number, Fault(name, _, old, _)) in FAULTS.iter().enumerate() {
+        let report = report(&program, number);
+        println!("{name}:\n{report}");
+        assert_eq!(report.is_empty(), old.is_empty(), "{name}: {report}");
+    }
 }

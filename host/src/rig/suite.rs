@@ -188,14 +188,13 @@ pub fn valid_messages() -> Vec<Vec<u8>> {
     messages.iter().map(bytes).collect()
 }
 
-/// Looks at message bytes: every byte string of up to 3 bytes, every sequence of a few words, every one-byte damage of
-/// valid messages, each shorter one, and each longer by a byte.
+/// Looks at message bytes: every one-byte damage of valid messages, each shorter one, and each longer by a byte; every
+/// sequence of a few words; every byte string of up to 3 bytes.
 pub fn each_message(look: &mut Look) -> Result<(), String> {
-    each_byte_string(3, look)?;
-    let words = [0, 1, 2, 3, 4, 5, 6, 7, 1_000_000, 1_000_001, u32::MAX];
-    each_word_string(&words, 5, look)?;
-    each_word_string(&[0, 1, 2, 5, 7, 1_000_001], 8, look)?;
-    valid_messages().iter().try_for_each(|message| each_damage(message, look))
+    valid_messages().iter().try_for_each(|message| each_damage(message, look))?;
+    each_word_string(&[0, 1, 2, 5, 7, 1_000_001], 7, look)?;
+    each_word_string(&[0, 1, 2, 3, 4, 5, 6, 7, 1_000_000, 1_000_001, u32::MAX], 5, look)?;
+    each_byte_string(3, look)
 }
 
 /// The message reader on all that [`each_message`] gives.
