@@ -2,7 +2,8 @@
 //!
 //! Run it with `cargo run --release --example office`.
 
-use kalebasin::{nodes, play, read_message, EventList, Member, MessageNumber, Refusal, Round, STORE_ROW, TABLE_ROW};
+use kalebasin::{nodes, play, read_message, sent};
+use kalebasin::{EventList, Member, MessageNumber, Refusal, Round, STORE_ROW, TABLE_ROW};
 
 fn main() -> Result<(), Refusal> {
     // What happened in the office. Messages count from 0 in the order they are sent.
@@ -34,8 +35,8 @@ fn main() -> Result<(), Refusal> {
     }
 
     println!("Messages");
-    for (number, row) in store.chunks(STORE_ROW).take(played.messages as usize).enumerate() {
-        println!("  {number}: {}", read_message(message_in(row))?);
+    for (number, bytes) in sent(&store, played.messages).enumerate() {
+        println!("  {number}: {}", read_message(bytes)?);
     }
 
     println!("Tree");
@@ -44,15 +45,4 @@ fn main() -> Result<(), Refusal> {
     }
     println!("{} proposals, {} decisions", played.proposals, played.decisions);
     Ok(())
-}
-
-/// The message at the front of a row. The first word is its kind; a JOIN is longer if it tells a vote.
-fn message_in(row: &[u8]) -> &[u8] {
-    let length = match (row[3], row[15]) {
-        (1 | 4, _) => 12,
-        (2, 0) => 16,
-        (3, _) => 20,
-        _ => 28,
-    };
-    &row[..length]
 }

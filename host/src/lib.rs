@@ -8,7 +8,7 @@
 //! # Calling the core
 //!
 //! Build an [`EventList`], lend [`play`] the memory it works in, and read what it left:
-//! the answers by [`Refusal::from_number`], the messages by [`read_message`], the tree by [`nodes`].
+//! the answers by [`Refusal::from_number`], the messages by [`sent`] and [`read_message`], the tree by [`nodes`].
 //! `examples/office.rs` is a program to start from. These functions need the feature `core` (on by default) and the
 //! archive of the core; without the feature the rest of this crate is still there.
 //!
@@ -19,6 +19,8 @@
 //! - `ffi`: the C functions, as the archive has them
 //!
 //! "Document 01" is the product's scope document; its numbers and terms are used throughout.
+
+#![cfg_attr(not(feature = "core"), allow(rustdoc::broken_intra_doc_links))]
 
 mod calls;
 mod event;
@@ -32,6 +34,7 @@ pub mod proved;
 mod refusal;
 pub mod rig;
 pub mod second;
+mod store;
 
 pub use calls::{Calls, Played, STORE_ROW, STORE_ROWS, TABLE_ROW, TABLE_ROWS};
 pub use event::{Event, EventList};
@@ -41,3 +44,4 @@ pub use node::{nodes, Node, Status};
 #[cfg(feature = "core")]
 pub use proved::{play, read_message, tree_add, tree_commit, tree_fresh, tree_path};
 pub use refusal::{number_of, Refusal};
+pub use store::sent;

@@ -5,13 +5,10 @@ use kalebasin::rig::compare::{play, Left, Lent};
 use kalebasin::rig::notation::parse;
 use kalebasin::rig::random::Random;
 use kalebasin::rig::search::{Run, ALWAYS};
+use kalebasin::rig::suite::REHEARSAL;
 use kalebasin::rig::{generate, rehearsal};
 use kalebasin::second::model::Made;
-use kalebasin::{nodes, number_of, second, EventList, Played, Status};
-
-const REHEARSAL: &str =
-    "n=3 s(1,1,70) d(0,0) d(0,1) d(1,1) d(1,1) d(2,1) d(3,0) s(2,2,80) d(5,0) d(5,2) d(7,2) d(6,2) \
-                         d(3,1) d(4,1) d(9,1)";
+use kalebasin::{nodes, number_of, second, sent, EventList, Played, Status};
 
 fn list(notation: &str) -> EventList {
     parse(notation, None).unwrap()
@@ -35,6 +32,10 @@ fn rehearsal_to_the_letter() {
     assert_eq!(rehearsal::output(&second::CALLS, &[0; 7]), "26\n");
     let played = run(REHEARSAL, 1000, 64).result;
     assert_eq!(played, Ok(Played { accepted: 14, messages: 10, proposals: 2, decisions: 1 }));
+    let left = run(REHEARSAL, 1000, 64);
+    let kinds = sent(left.store(), 10).map(|bytes| second::message::read(bytes).unwrap().kind());
+    let order = ["START", "JOIN", "JOIN", "PROPOSE", "VOTE", "START", "JOIN", "JOIN", "PROPOSE", "VOTE"];
+    assert_eq!(kinds.collect::<Vec<_>>(), order);
 }
 
 fn number(list: &[u8], lent: Lent) -> u32 {

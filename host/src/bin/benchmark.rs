@@ -82,6 +82,13 @@ fn measure(what: String, mut works: Vec<Work>) -> Row {
     Row { what, nanoseconds: samples.into_iter().map(median).collect() }
 }
 
+/// Measures work that makes so many calls, for one of them.
+fn measure_each(what: String, works: Vec<Work>, calls: usize) -> Row {
+    let mut row = measure(what, works);
+    row.nanoseconds.iter_mut().for_each(|time| *time /= calls as f64);
+    row
+}
+
 /// Nanoseconds for one call, from many.
 fn sample(work: &mut Work, repeats: u32) -> f64 {
     let began = Instant::now();
@@ -150,13 +157,17 @@ fn undisturbed(events: usize) -> EventList {
     list
 }
 
+/// Messages read in a call of the work; one takes too short a time.
+const READS: usize = 100;
+
 /// The readers as such: the C function, and the function of the second implementation.
 fn readers() -> Vec<fn(&[u8])> {
     fn second(bytes: &[u8]) {
-        let _ = black_box(second::message::read(bytes));
+        let _ = black_box(second::message::read(black_box(bytes)));
     }
     #[cfg(feature = "core")]
     fn core(bytes: &[u8]) {
+        let bytes = black_box(bytes);
         // SAFETY: pointer and length come from one slice.
         black_box(unsafe { kalebasin::ffi::kalebasin_read_message(bytes.as_ptr(), bytes.len()) });
     }
@@ -180,21 +191,14 @@ fn reader_rows() -> Vec<Row> {
     for (name, kind, length) in kinds {
         let bytes = messages.iter().find(|bytes| bytes[3] == kind && bytes.len() == length);
         let bytes = bytes.expect("there is a message of each kind");
-        let raw = readers().into_iter().map(|read| repeat(bytes.clone(), read)).collect();
-        rows.push(measure(format!("read a message, {name}"), raw));
-        let typed = |calls: Calls| {
-            repeat(bytes.clone(), move |bytes| {
-                let _ = black_box((calls.read_message)(bytes));
-            })
-        };
-        let typed = implementations().into_iter().map(typed).collect();
-        rows.push(measure(format!("the same as an enum, {name}"), typed));
+        let works = readers().into_iter().map(|read| read_many(bytes.clone(), read)).collect();
+        rows.push(measure_each(format!("read a message, {name}"), works, READS));
     }
     rows
 }
 
-fn repeat(bytes: Vec<u8>, read: impl Fn(&[u8]) + 'static) -> Work {
-    Box::new(move || read(black_box(&bytes)))
+fn read_many(bytes: Vec<u8>, read: fn(&[u8])) -> Work {
+    Box::new(move || (0..READS).for_each(|_| read(&bytes)))
 }
 
 /// A tree of so many rows, the last one free, and the parent of a round to add.
