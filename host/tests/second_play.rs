@@ -113,12 +113,13 @@ fn faults_seen_on_earlier_builds() {
     assert_eq!(answers("n=3 s(1,1,70) d(0,0) d(1,1) d(1,1)"), [0, 0, 0, 25]);
     // START accepted when J = r.
     assert_eq!(answers("n=3 s(1,1,70) d(0,0) d(0,0)"), [0, 0, 22]);
-    // Status GHOST written over COMMITTED: round 1 is decided, then proposed below round 3, which skips round 2.
+    // Status GHOST written over COMMITTED: round 1 is decided, round 3 follows it and strikes out round 2.
     let committed =
         "n=3 s(1,1,70) d(0,0) d(0,1) d(1,1) d(2,1) d(3,0) d(3,1) d(4,1) d(5,1) s(2,2,80) d(6,0) d(6,2) d(7,2) \
                      d(8,2) s(0,3,90) d(10,0) d(10,1) d(11,0) d(12,0)";
     let table = run(committed, 1000, 64).table().to_vec();
-    assert_eq!(nodes(&table).map(|node| node.status).collect::<Vec<_>>()[1], Status::Committed);
+    let statuses: Vec<Status> = nodes(&table).map(|node| node.status).collect();
+    assert_eq!(statuses, [Status::Committed, Status::Committed, Status::Ghost, Status::Added]);
     // The first JOIN's value taken in place of the highest voted round's: member 1 voted for 70 in round 1, member 2
     // for 80 in round 2, and round 3 hears of round 1 first.
     let highest = "n=3 s(1,1,70) d(0,0) d(0,1) d(1,1) d(2,1) d(3,1) s(2,2,80) d(5,0) d(5,2) d(6,2) d(7,2) d(8,2) \
