@@ -18,7 +18,7 @@ const FAULTS: &[Fault] = &[
         "GHOST over COMMITTED",
         "tree.rs",
         "ancestor = node[PARENT];",
-        "ancestor = node[PARENT]; if node[ROUND] > 0 { node[STATUS] = GHOST; }",
+        "ancestor = node[PARENT]; if node[ROUND] > 0 && node[STATUS] == COMMITTED { node[STATUS] = GHOST; }",
     ),
     Fault("the first JOIN's value is taken", "member.rs", "if vote.round > self.b {", "if self.b == Round(0) {"),
     Fault("the last JOIN's value is taken", "member.rs", "if vote.round > self.b {", "if vote.round != self.b {"),
@@ -55,6 +55,12 @@ const FAULTS: &[Fault] = &[
         return Ok(Message::Join { round: round(bytes), sender: sender(bytes), vote: None });
     }
     if bytes.len() < 16 {",
+    ),
+    Fault(
+        "presence after the rest of the length",
+        "message.rs",
+        "_ => return Err(Refusal::MessageField),",
+        "_ => return Err(if bytes.len() == 28 { Refusal::MessageField } else { Refusal::MessageLength }),",
     ),
     Fault("a voted round may be the JOIN's", "message.rs", "vote.round < *round", "vote.round <= *round"),
     Fault(

@@ -27,12 +27,17 @@ pub fn shortest(case: Case, fails: &mut dyn FnMut(&Case) -> bool) -> Case {
     case
 }
 
-/// A random list of three members with fewer events, and clean memory with as many rows.
+/// A random list of three members with fewer events, and clean memory with as many rows, or in half of the cases with
+/// fewer, so that it fills sooner.
 fn shorter(case: &Case, random: &mut Random) -> Case {
-    let (store_rows, table_rows) = (case.lent.store.div_ceil(STORE_ROW), case.lent.table.div_ceil(TABLE_ROW));
     let events = random.between(1, case.list.events.len() - 1);
-    let list = generate::list(random, 3, events, store_rows, table_rows.max(1));
-    Case { list, lent: Lent { answers: events, dirt: 0, ..case.lent } }
+    let mut lent = Lent { answers: events, dirt: 0, ..case.lent };
+    if random.chance(50) {
+        lent.store = random.between(1, (lent.store / STORE_ROW).clamp(1, events + 1)) * STORE_ROW;
+        lent.table = random.between(1, (lent.table / TABLE_ROW).clamp(1, 4)) * TABLE_ROW;
+    }
+    let list = generate::list(random, 3, events, lent.store.div_ceil(STORE_ROW), lent.table.div_ceil(TABLE_ROW).max(1));
+    Case { list, lent }
 }
 
 /// The smallest case found that still fails, from one that does: with fewer events, then smaller numbers and less
