@@ -27,8 +27,7 @@ use Rattle.store.proofs.Stored.{cleared}
 use Rattle.play.specs.declared.answers.Counts.{Counts}
 use Rattle.play.specs.declared.answers.ListRefusal.{ListRefusal}
 use Rattle.play.specs.declared.answers.ListRefusal.the-variants.{NotExact, Members, StoreOrAnswers, TableLength}
-use Rattle.play.specs.declared.answers.PlayAnswer.the-variants.{Played, Refused}
-use Rattle.play.specs.Answers.{refusal-number}
+use Rattle.play.specs.Answers.{refusal-number, no-counts}
 use Rattle.play.specs.Promise.{play-number, sizes-of, Ready, Worked, Taken, Left, Given}
 
 refusal-some : (k : ListRefusal) → refusal-number k ≡ 0 → ⊥
@@ -38,7 +37,7 @@ refusal-some StoreOrAnswers e = omega arith
 refusal-some TableLength e = omega arith
 
 module _ (list store ws answered : List ℕ) where
-  given-refused : (k : ListRefusal) → play-number list store ws answered ≡ refusal-number k → Given list store ws answered (Refused k) store ws answered
+  given-refused : (k : ListRefusal) → play-number list store ws answered ≡ refusal-number k → Given list store ws answered (refusal-number k) no-counts store ws answered
   given-refused k e =
       record {
         number-is = sym e;
@@ -46,27 +45,27 @@ module _ (list store ws answered : List ℕ) where
         refused = λ z. record { counts-none = refl; store-stays = refl; table-stays = refl; answers-stay = refl };
       }
 
-  pub not-exact : list-fits list ≡ false → Given list store ws answered (Refused NotExact) store ws answered
+  pub not-exact : list-fits list ≡ false → Given list store ws answered (refusal-number NotExact) no-counts store ws answered
   unfolding play-number
   not-exact a = given-refused NotExact (rw a refl)
 
   module _ (a : list-fits list ≡ true) where
-    pub not-allowed : allowed (members-of list) ≡ false → Given list store ws answered (Refused Members) store ws answered
+    pub not-allowed : allowed (members-of list) ≡ false → Given list store ws answered (refusal-number Members) no-counts store ws answered
     unfolding play-number
     not-allowed b = given-refused Members (rw (a, b) refl)
 
     module _ (b : allowed (members-of list) ≡ true) where
-      pub store-odd : store-sized store ≡ false → Given list store ws answered (Refused StoreOrAnswers) store ws answered
+      pub store-odd : store-sized store ≡ false → Given list store ws answered (refusal-number StoreOrAnswers) no-counts store ws answered
       unfolding play-number
       store-odd d = given-refused StoreOrAnswers (rw (a, b, d) refl)
 
       module _ (d : store-sized store ≡ true) where
-        pub answers-few : length answered < count-of list → Given list store ws answered (Refused StoreOrAnswers) store ws answered
+        pub answers-few : length answered < count-of list → Given list store ws answered (refusal-number StoreOrAnswers) no-counts store ws answered
         unfolding play-number
         answers-few l = given-refused StoreOrAnswers (rw (a, b, d, lt-ltb (length answered) (count-of list) l) refl)
 
         module _ (l : count-of list ≤ length answered) where
-          pub table-odd : sized ws ≡ false → Given list store ws answered (Refused TableLength) store ws answered
+          pub table-odd : sized ws ≡ false → Given list store ws answered (refusal-number TableLength) no-counts store ws answered
           unfolding play-number
           table-odd t = given-refused TableLength (rw (a, b, d, le-ltb (length answered) (count-of list) l, t) refl)
 
@@ -95,7 +94,7 @@ module _ (list store ws answered : List ℕ) where
             -- what the events came to
             pub played : (c : Counts) (store′ ws′ answered′ : List ℕ) →
                 Worked (sizes-of list (replicate (length store) 0) (fresh-table ws)) (events-of list) (replicate (length store) 0) (fresh-table ws) answered c store′ ws′ answered′ →
-                Given list store ws answered (Played c) store′ ws′ answered′
+                Given list store ws answered 0 c store′ ws′ answered′
             played c store′ ws′ answered′ W =
                 let z : Sizes = sizes-of list store ws in
                 let es = events-of list in

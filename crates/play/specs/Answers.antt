@@ -12,14 +12,14 @@ refusal-number Members = 27
 refusal-number StoreOrAnswers = 28
 refusal-number TableLength = 1
 
-abbrev pub number : PlayAnswer → ℕ
-number (Played c) = 0
-number (Refused k) = refusal-number k
+abbrev pub answer-number : PlayAnswer → ℕ
+answer-number (Played c) = 0
+answer-number (Refused k) = refusal-number k
 
 -- with a refusal each count is 0
 abbrev pub no-counts : Counts
 no-counts = record { accepted = 0; messages = 0; proposals = 0; decisions = 0 }
 
-abbrev pub counts : PlayAnswer → Counts
-counts (Played c) = c
-counts (Refused k) = no-counts
+abbrev pub answer-counts : PlayAnswer → Counts
+answer-counts (Played c) = c
+answer-counts (Refused k) = no-counts

@@ -15,8 +15,7 @@ use Rattle.model.specs.Counts.{tree, zeros, decisions, committed-nodes}
 use Rattle.events.specs.List.{members-of, count-of, list-fits, events-of}
 use Rattle.store.specs.Rows.{store-sized, stored}
 use Rattle.play.specs.declared.answers.Counts.{Counts}
-use Rattle.play.specs.declared.answers.PlayAnswer.{PlayAnswer}
-use Rattle.play.specs.Answers.{number, no-counts, counts}
+use Rattle.play.specs.Answers.{no-counts}
 
 -- the row "list" of the place table: 26 count above 1,000, or bytes, count and kinds don't match; 27 N; 28 store not 1 to 2,000 whole rows, or
 -- too few answer bytes; then 1
@@ -81,8 +80,8 @@ pub record Left (store ws answered : List ℕ) (c : Counts) (store′ ws′ answ
   pub table-stays : ws′ ≡ ws
   pub answers-stay : answered′ ≡ answered
 
--- Play's promise, on every answer.
-pub record Given (list store ws answered : List ℕ) (a : PlayAnswer) (store′ ws′ answered′ : List ℕ) : Type 0 where
-  pub number-is : number a ≡ play-number list store ws answered
-  pub taken : number a ≡ 0 → Taken list store ws answered (counts a) store′ ws′ answered′
-  pub refused : (number a ≡ 0 → ⊥) → Left store ws answered (counts a) store′ ws′ answered′
+-- Play's promise, on every answer: its number and its counts.
+pub record Given (list store ws answered : List ℕ) (n : ℕ) (c : Counts) (store′ ws′ answered′ : List ℕ) : Type 0 where
+  pub number-is : n ≡ play-number list store ws answered
+  pub taken : n ≡ 0 → Taken list store ws answered c store′ ws′ answered′
+  pub refused : (n ≡ 0 → ⊥) → Left store ws answered c store′ ws′ answered′

@@ -6,6 +6,7 @@ use office::Office;
 use office::Worked;
 ghost use mathlib.Core.Path.{_≡_};
 ghost use Rattle.events.specs.List.{event-size, event-at};
+ghost use Rattle.play.specs.Answers.{answer-number, answer-counts};
 ghost use Rattle.play.specs.Standing.{Standing, Works};
 ghost use Rattle.play.specs.Promise.{one, Ready, Ran, Given};
 
@@ -59,7 +60,7 @@ fn run(list: &[u8], messages: &mut [u8], nodes: &mut [u64], answered: &mut [u8])
 
 // Plays a list of events over an office: list, store, table and answers are lent.
 pub fn play(list: &[u8], messages: &mut [u8], nodes: &mut [u64], answered: &mut [u8]) -> PlayAnswer
-    ensures { λ a. ⌜ Given (now (list .entry)) (now (messages .entry)) (now (nodes .entry)) (now (answered .entry)) a (now (messages .exit)) (now (nodes .exit)) (now (answered .exit)) ⌝ }
+    ensures { λ a. ⌜ Given (now (list .entry)) (now (messages .entry)) (now (nodes .entry)) (now (answered .entry)) (answer-number a) (answer-counts a) (now (messages .exit)) (now (nodes .exit)) (now (answered .exit)) ⌝ }
 {
     if !events::fits(list) {
         return PlayAnswer::Refused(ListRefusal::NotExact);

@@ -1,6 +1,6 @@
 // The answers of the tree's calls, a variant for each number of the place table that the call can give.
 ghost use mathlib.Core.Path.{_≡_};
-ghost use Rattle.tree.specs.Answers.{number-of-fresh, number-of-add, number-of-commit, number-of-path};
+ghost use Rattle.tree.specs.Answers.{number-of-fresh, number-of-add, number-of-commit, number-of-path, count-of-path};
 
 pub enum FreshAnswer {
     Made,
@@ -97,6 +97,20 @@ impl PathAnswer {
             PathAnswer::OutOfRange => 3,
             PathAnswer::Absent => 10,
             PathAnswer::SliceTooShort => 13,
+        }
+    }
+
+    // How many rounds were written; 0 with a refusal.
+    pub fn count(self) -> usize
+        ensures { λ n. ⌜ n ≡ count-of-path self ⌝ }
+    {
+        match self {
+            PathAnswer::Written(k) => k,
+            PathAnswer::WrongLength => 0,
+            PathAnswer::NotTree => 0,
+            PathAnswer::OutOfRange => 0,
+            PathAnswer::Absent => 0,
+            PathAnswer::SliceTooShort => 0,
         }
     }
 }

@@ -11,7 +11,7 @@ use Rattle.member.specs.Record.{allowed}
 use Rattle.events.specs.List.{members-of, count-of, list-fits, events-of}
 use Rattle.store.specs.Rows.{store-sized}
 use Rattle.play.specs.declared.answers.ListRefusal.the-variants.{TableLength}
-use Rattle.play.specs.declared.answers.PlayAnswer.the-variants.{Refused}
+use Rattle.play.specs.Answers.{refusal-number, no-counts}
 use Rattle.play.specs.Promise.{Ready, Ran, Given}
 use Rattle.play.proofs.Running.{list-parts}
 use Rattle.play.proofs.Giving.{not-exact, not-allowed, store-odd, answers-few, table-odd, ready, played, fresh-zero, fresh-refused}
@@ -112,7 +112,7 @@ returns-5 c =
     let a = c .before .before .before .before .before .before .before .before .before .before .before .before .before .before .before .before .before .before .before .before .args in
     let nz : fresh-number (now (a .nodes)) ≡ 0 → ⊥ = λ q. c .if5 .taken (c .before .number .ensures ∙ f .ensures .0 ∙ q) in
     let odd = fresh-refused (now (a .nodes)) nz in
-    subst (λ w. Given (now (a .list)) (now (a .messages)) (now (a .nodes)) (now (a .answered)) (Refused TableLength) (now (a .messages)) w (now (a .answered))) (sym (f .ensures .1 ∙ odd .1))
+    subst (λ w. Given (now (a .list)) (now (a .messages)) (now (a .nodes)) (now (a .answered)) (refusal-number TableLength) no-counts (now (a .messages)) w (now (a .answered))) (sym (f .ensures .1 ∙ odd .1))
     (table-odd _ _ _ _ (fitting (e2 .before .before .before)) (few-members e2) (whole-rows e3) (enough e4) (odd .0))
 
 clear-requires : tie.Need-clear-requires

@@ -1,0 +1,185 @@
+// The C functions that the host calls: play, the message reader and the calls of the tree, thin over the proved crates. A slice passes as
+// a pointer and a count of elements. A number is 0 for OK, else 01's refusal.
+use ids::Member;
+use ids::Round;
+use message::Fault;
+use message::Message;
+use message::Read;
+use play::answers::PlayAnswer;
+ghost use mathlib.Core.Path.{_≡_};
+ghost use mathlib.Core.Bool.{true};
+ghost use Rattle.quorum_tree.specs.Machine.{add, commit};
+ghost use Rattle.quorum_tree.specs.Table.{fresh-number, fresh-table};
+ghost use Rattle.tree.specs.Promises.{Called, PathGiven};
+ghost use Rattle.message.specs.Reading.{read};
+ghost use Rattle.play.specs.Promise.{Given};
+ghost use Rattle.exports.specs.Results.{counts-of, voteless, message-result, refused-result, read-result};
+
+// With a refusal each count is 0.
+#[repr(C)]
+pub struct PlayResult {
+    pub number: u32,
+    pub accepted: u32,
+    pub messages: u32,
+    pub proposals: u32,
+    pub decisions: u32,
+}
+
+// Plays a list of events over an office: list, store, table and answers are lent.
+#[no_mangle]
+pub extern "C" fn kalebasin_play(
+    list: &[u8],
+    messages: &mut [u8],
+    nodes: &mut [u64],
+    answered: &mut [u8],
+) -> PlayResult
+    ensures { λ r. ⌜ Given (now (list .entry)) (now (messages .entry)) (now (nodes .entry)) (now (answered .entry)) (r .number) (counts-of r) (now (messages .exit)) (now (nodes .exit)) (now (answered .exit)) ⌝ }
+{
+    let a = play::play(list, messages, nodes, answered);
+    match a {
+        PlayAnswer::Played(c) => PlayResult {
+            number: 0,
+            accepted: c.accepted,
+            messages: c.messages,
+            proposals: c.proposals,
+            decisions: c.decisions,
+        },
+        PlayAnswer::Refused(k) => PlayResult {
+            number: play::answers::number(k),
+            accepted: 0,
+            messages: 0,
+            proposals: 0,
+            decisions: 0,
+        },
+    }
+}
+
+// A field that the kind doesn't have is 0; with a refusal all but the number.
+#[repr(C)]
+pub struct MessageResult {
+    pub number: u32,
+    // 1 START, 2 JOIN, 3 PROPOSE, 4 VOTE.
+    pub kind: u32,
+    pub round: u32,
+    pub sender: u32,
+    // 1 for a JOIN with a vote.
+    pub present: u32,
+    pub voted: u32,
+    pub value: u64,
+}
+
+// A message that tells no vote.
+fn voteless(kind: u32, round: Round, sender: Member, value: u64) -> MessageResult
+    ensures { λ r. ⌜ r ≡ voteless kind round sender value ⌝ }
+{
+    MessageResult {
+        number: 0,
+        kind,
+        round: round.0,
+        sender: sender.0,
+        present: 0,
+        voted: 0,
+        value,
+    }
+}
+
+// The fields of a message.
+fn message_result(m: Message) -> MessageResult
+    ensures { λ r. ⌜ r ≡ message-result m ⌝ }
+{
+    match m {
+        Message::Start { round, sender } => voteless(1, round, sender, 0),
+        Message::Join { round, sender } => voteless(2, round, sender, 0),
+        Message::JoinVoted {
+            round,
+            sender,
+            voted,
+            value,
+        } => MessageResult {
+            number: 0,
+            kind: 2,
+            round: round.0,
+            sender: sender.0,
+            present: 1,
+            voted: voted.0,
+            value,
+        },
+        Message::Propose {
+            round,
+            sender,
+            value,
+        } => voteless(3, round, sender, value),
+        Message::Vote { round, sender } => voteless(4, round, sender, 0),
+    }
+}
+
+// A refusal's number alone.
+fn refused_result(f: Fault) -> MessageResult
+    ensures { λ r. ⌜ r ≡ refused-result f ⌝ }
+{
+    MessageResult {
+        number: message::number(f),
+        kind: 0,
+        round: 0,
+        sender: 0,
+        present: 0,
+        voted: 0,
+        value: 0,
+    }
+}
+
+// Reads one message, neither more nor fewer bytes.
+#[no_mangle]
+pub extern "C" fn kalebasin_read_message(s: &[u8]) -> MessageResult
+    ensures { λ r. ⌜ r ≡ read-result (read (now (s .entry))) ⌝ }
+{
+    let m = message::read_message(s);
+    match m {
+        Read::Got(m) => message_result(m),
+        Read::Refused(f) => refused_result(f),
+    }
+}
+
+// Makes a table fresh.
+#[no_mangle]
+pub extern "C" fn kalebasin_tree_fresh(nodes: &mut [u64]) -> u32
+    ensures number { λ n. ⌜ n ≡ fresh-number (now (nodes .entry)) ⌝ }
+    ensures left { λ _. ⌜ now (nodes .exit) ≡ fresh-table (now (nodes .entry)) ⌝ }
+{
+    tree::fresh(nodes).number()
+}
+
+// add(round, value, parent).
+#[no_mangle]
+pub extern "C" fn kalebasin_tree_add(nodes: &mut [u64], round: u32, value: u64, parent: u32) -> u32
+    ensures { λ n. ⌜ Called true (now (nodes .entry)) (add round value parent) n (now (nodes .exit)) ⌝ }
+{
+    tree::add(nodes, Round(round), value, Round(parent)).number()
+}
+
+// commit(round).
+#[no_mangle]
+pub extern "C" fn kalebasin_tree_commit(nodes: &mut [u64], round: u32) -> u32
+    ensures { λ n. ⌜ Called true (now (nodes .entry)) (commit round) n (now (nodes .exit)) ⌝ }
+{
+    tree::commit(nodes, Round(round)).number()
+}
+
+// With a refusal the count is 0.
+#[repr(C)]
+pub struct PathResult {
+    pub number: u32,
+    pub count: u32,
+}
+
+// path(round): the rounds from the root to this one, written from the first word.
+#[no_mangle]
+pub extern "C" fn kalebasin_tree_path(nodes: &[u64], round: u32, out: &mut [u64]) -> PathResult
+    ensures { λ r. ⌜ PathGiven true (now (nodes .entry)) round (now (out .entry)) (r .number) (r .count) (now (out .exit)) ⌝ }
+{
+    let a = tree::path(nodes, Round(round), out);
+    PathResult {
+        number: a.number(),
+        count: a.count() as u32,
+    }
+}
