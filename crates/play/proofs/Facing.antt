@@ -1,7 +1,7 @@
 -- What holds where a step is to be settled: counts fit, a message to be sent is in range, and the table is a tree. Assumes nothing.
-use mathlib.Core.Path.{_≡_, refl, sym, ap, subst, _∙_}
+use mathlib.Core.Path.{_≡_, refl, sym, subst, _∙_}
 use mathlib.Core.Bool.{true, _||_}
-use mathlib.Core.List.{List, [], _∷_, List·Memᴰ·head as here}
+use mathlib.Core.List.{List, List·Memᴰ·head as here}
 use Prim.Native.Nat.{ℕ, _+_, _*_, _/_, _≤_, _<_}
 use native.Mathlib.Omega.{arith}
 use lib.ListN.{length}
@@ -16,14 +16,14 @@ use Rattle.member.specs.declared.MemberState.{MemberState}
 use Rattle.member.specs.declared.Refusal.{Refusal}
 use Rattle.member.specs.declared.Refusal.the-variants.{NotSound, Field, RoundRange, NotLeader, NotAboveLed, Sender, MovedPast, OtherValue, NotAwaited, CountedAlready}
 use Rattle.member.specs.declared.Answer.{Answer}
-use Rattle.member.specs.declared.Answer.the-variants.{Refused, Sent, Done, Proposed, Decided}
+use Rattle.member.specs.declared.Answer.the-variants.{Sent, Proposed}
 use Rattle.member.specs.declared.Step.{Step}
 use Rattle.member.specs.Answers.{refusal-number, answer-outcome, outcome}
 use Rattle.member.specs.Table.{Outcome}
 use Rattle.model.specs.Model.{Sizes, Event}
 use Rattle.model.specs.Model.{Office as ModelOffice}
 use Rattle.play.specs.declared.office.Office.{Office}
-use Rattle.play.specs.Standing.{Standing, Took, Faced}
+use Rattle.play.specs.Standing.{Took, Faced}
 use Rattle.member.specs.Record.{allowed}
 use Rattle.member.specs.Table.{sound-step}
 use Rattle.member.proofs.Keeping.{step-kept}
@@ -37,7 +37,7 @@ allowed-seven n h =
     or-cases (eqb n 3) (eqb n 5 || eqb n 7) h (λ t. omega tests)
     (λ t. or-cases (eqb n 5) (eqb n 7) t (λ f. omega tests) (λ f. omega tests))
 
--- a refusal's number is a byte, and none is 0
+-- a refusal's number is a byte
 pub refusal-small : (k : Refusal) → refusal-number k < 256
 refusal-small NotSound = omega arith
 refusal-small Field = omega arith
@@ -49,18 +49,6 @@ refusal-small MovedPast = omega arith
 refusal-small OtherValue = omega arith
 refusal-small NotAwaited = omega arith
 refusal-small CountedAlready = omega arith
-
-pub refusal-some : (k : Refusal) → 0 < refusal-number k
-refusal-some NotSound = omega arith
-refusal-some Field = omega arith
-refusal-some RoundRange = omega arith
-refusal-some NotLeader = omega arith
-refusal-some NotAboveLed = omega arith
-refusal-some Sender = omega arith
-refusal-some MovedPast = omega arith
-refusal-some OtherValue = omega arith
-refusal-some NotAwaited = omega arith
-refusal-some CountedAlready = omega arith
 
 -- the step taken, by its answer
 pub retook : {z : Sizes} {o : ModelOffice} {e : Event} {i : ℕ} (s : Step) {b : Answer} → s .answer ≡ b → Took z o e i (outcome s) → Took z o e i (answer-outcome (s .state) b)

@@ -2,10 +2,12 @@
 use mathlib.Core.Path.{_≡_, refl, sym, ap, subst, _∙_}
 use native.Mathlib.Omega.{arith}
 use denote.Ref.{now}
+use Rattle.laws.specs.Tests.{tests}
 use Rattle.member.specs.Answers.{refusal-number, outcome}
+use Rattle.member.proofs.Checks.{numbered}
 use Rattle.play.specs.Standing.{Next}
 use Rattle.play.proofs.Arms.{refuses, fills, has-no-row, goes-silent, goes-sent, goes-proposed, goes-decided}
-use Rattle.play.proofs.Facing.{retook, refusal-small, refusal-some, counts-fit, put-room, sent-ranged, answers-sent, answers-proposed, faced-proposals, faced-tree}
+use Rattle.play.proofs.Facing.{retook, refusal-small, counts-fit, put-room, sent-ranged, answers-sent, answers-proposed, faced-proposals, faced-tree}
 use borrow.Author.Needs.{needs}
 use Rattle.play.proofs.office.settle.Statement.{statement}
 use Rattle.play.proofs.office.settle.Tie as tie
@@ -109,7 +111,7 @@ returns-4 c =
     let a = s .args in
     let eq = c .before .before .a .given in
     let n : c .number .result ≡ refusal-number (eq .0 .0) = c .number .ensures in
-    rw n (refuses z o e (a .office) (a .i) (now (a .messages)) (now (a .nodes)) L R S (refusal-number (eq .0 .0)) _ (retook (a .s) (eq .1) T) (λ q. omega (arith, refusal-some (eq .0 .0))))
+    rw n (refuses z o e (a .office) (a .i) (now (a .messages)) (now (a .nodes)) L R S (refusal-number (eq .0 .0)) _ (retook (a .s) (eq .1) T) (λ q. omega (tests, numbered (eq .0 .0))))
 
 returns-5 : tie.Need-returns-5
 returns-5 c =
