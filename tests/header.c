@@ -1,0 +1,75 @@
+/* Calls each function of kalebasin.h and expects what document 01 says: its rehearsal, a message, a tree of two rounds, and refusals. */
+#include "kalebasin.h"
+#include <stdio.h>
+#include <string.h>
+
+#define EXPECT(fact) \
+    do { \
+        if (!(fact)) { \
+            printf("header: not so: %s\n", #fact); \
+            return 1; \
+        } \
+    } while (0)
+
+_Static_assert(sizeof(KalebasinPlayResult) == 20, "five words");
+_Static_assert(sizeof(KalebasinMessageResult) == 32, "six words and a value");
+_Static_assert(sizeof(KalebasinPathResult) == 8, "two words");
+
+static uint8_t list[400];
+static size_t length;
+
+static void word(uint32_t x) {
+    for (int shift = 24; shift >= 0; shift -= 8) list[length++] = (uint8_t)(x >> shift);
+}
+
+static void start(uint32_t member, uint32_t round, uint32_t offer) {
+    word(1), word(member), word(round), word(0), word(offer);
+}
+
+static void deliver(uint32_t message, uint32_t member) {
+    word(2), word(message), word(member);
+}
+
+static int play(void) {
+    static const uint8_t want_answers[16] = {0, 0, 0, 0, 25, 0, 0, 0, 0, 0, 0, 0, 0, 0, 0, 99};
+    static const uint64_t want_table[16] = {0, 0, 0, 3, 1, 0, 70, 3, 2, 1, 70, 1, 0, 0, 0, 0};
+    uint8_t store[28 * 20], answers[16];
+    uint64_t table[16];
+    memset(answers, 99, sizeof answers);
+    word(3), word(15);
+    start(1, 1, 70), deliver(0, 0), deliver(0, 1), deliver(1, 1), deliver(1, 1), deliver(2, 1), deliver(3, 0), start(2, 2, 80);
+    deliver(5, 0), deliver(5, 2), deliver(7, 2), deliver(6, 2), deliver(3, 1), deliver(4, 1), deliver(9, 1);
+    KalebasinPlayResult r = kalebasin_play(list, length, store, sizeof store, table, 16, answers, sizeof answers);
+    EXPECT(r.number == 0 && r.accepted == 14 && r.messages == 10 && r.proposals == 2 && r.decisions == 1);
+    EXPECT(!memcmp(answers, want_answers, sizeof answers) && !memcmp(table, want_table, sizeof table));
+    r = kalebasin_play(list, length - 1, store, sizeof store, table, 16, answers, sizeof answers);
+    EXPECT(r.number == 26 && !r.accepted && !r.messages && !r.proposals && !r.decisions);
+    return 0;
+}
+
+static int read_message(void) {
+    static const uint8_t join[28] = {0, 0, 0, 2, 0, 0, 0, 9, 0, 0, 0, 3, 0, 0, 0, 1, 0, 0, 0, 8, 1, 2, 3, 4, 5, 6, 7, 8};
+    KalebasinMessageResult r = kalebasin_read_message(join, 28);
+    EXPECT(r.number == 0 && r.kind == 2 && r.round == 9 && r.sender == 3);
+    EXPECT(r.present == 1 && r.voted == 8 && r.value == 0x0102030405060708);
+    r = kalebasin_read_message(join, 27);
+    EXPECT(r.number == 14 && !r.kind && !r.round && !r.sender && !r.present && !r.voted && !r.value);
+    return 0;
+}
+
+static int tree(void) {
+    uint64_t table[16], out[4] = {99, 99, 99, 99};
+    EXPECT(kalebasin_tree_fresh(table, 15) == 1 && kalebasin_tree_fresh(table, 16) == 0);
+    EXPECT(kalebasin_tree_add(table, 16, 3, 5, 0) == 0 && kalebasin_tree_add(table, 16, 7, 5, 3) == 0);
+    EXPECT(kalebasin_tree_add(table, 16, 8, 6, 7) == 7 && kalebasin_tree_add(table, 16, 8, 5, 6) == 5);
+    EXPECT(kalebasin_tree_commit(table, 16, 7) == 0 && kalebasin_tree_commit(table, 16, 7) == 11);
+    KalebasinPathResult r = kalebasin_tree_path(table, 16, 7, out, 4);
+    EXPECT(r.number == 0 && r.count == 3 && out[0] == 0 && out[1] == 3 && out[2] == 7 && out[3] == 99);
+    r = kalebasin_tree_path(table, 16, 7, out, 2);
+    EXPECT(r.number == 13 && r.count == 0);
+    return 0;
+}
+
+int main(void) {
+    return play() || read_message() || tree();
+}
