@@ -16,7 +16,7 @@ use Rattle.xdr.specs.Words.{Bytes}
 use Rattle.quorum_tree.specs.Machine.{after}
 use Rattle.quorum_tree.specs.Table.{sized, table}
 use Rattle.member.specs.Record.{fresh as fresh-member}
-use Rattle.model.specs.Model.{Sizes, Event, member-number, fresh-members, first-office, answer, answers, next, proposals}
+use Rattle.model.specs.Model.{Sizes, Event, at-member, member-number, fresh-members, first-office, answer, answers, next, proposals}
 use Rattle.model.specs.Model.{after as ended-from}
 use Rattle.model.specs.Demand.{calls, ended}
 use Rattle.model.specs.Counts.{tree, zeros, decisions}
@@ -24,11 +24,13 @@ use Rattle.model.proofs.Fold.{after-last, answers-last, length-answers, zeros-a
 use Rattle.events.specs.List.{members-of, count-of, body, list-fits, exact, events-in, events-of, event-at, event-size, behind, rest}
 use Rattle.events.proofs.Events.{events-suc, behind-suc, length-events, due-stands, offers-small, bytes-left}
 use Rattle.store.specs.Rows.{store-sized, stored}
-use Rattle.play.specs.declared.office.Office.{Office}
-use Rattle.play.specs.Standing.{Lent, Reached, Stands, Standing, Works, Next, fresh-office}
+use Rattle.member.specs.declared.MemberState.{MemberState}
+use Rattle.office.specs.declared.Tally.{Tally}
+use Rattle.office.specs.declared.Office.{Office}
+use Rattle.office.specs.Standing.{Held, Lent, Reached, Stands, Standing, Seated, Works, Next, fresh-office, office-of, place-of}
 use Rattle.play.specs.Promise.{sizes-of, one, Ready, Worked}
-use Rattle.play.proofs.Memory.{sent-few, proposals-few, decisions-few}
-use Rattle.play.proofs.Facing.{allowed-seven}
+use Rattle.office.proofs.Memory.{default, place-below, sent-few, proposals-few, decisions-few}
+use Rattle.office.proofs.Facing.{allowed-seven}
 
 -- elements below 256 are bytes
 pub bytes-of : (s : List ℕ) → ((i : ℕ) → getD s i 0 < 256) → Bytes s
@@ -57,14 +59,14 @@ same-table : (s t : List ℕ) → length s ≡ length t → sized s ≡ true →
 same-table s t e h = rw (← e) h
 
 -- after k events
-pub record Running (list store₀ ws₀ answered₀ : List ℕ) (count : ℕ) (store ws answered : List ℕ) (office : Office) (accepted at k : ℕ) : Type 0 where
+pub record Running (list store₀ ws₀ answered₀ : List ℕ) (count : ℕ) (store ws answered : List ℕ) (members : List MemberState) (t : Tally) (accepted at k : ℕ) : Type 0 where
   pub ready : Ready list store₀ ws₀ answered₀
   pub bytes : Bytes list
   pub count-is : count ≡ count-of list
   pub within : k ≤ count
   pub at-within : at ≤ length list
   pub place : drop at list ≡ behind k (body list)
-  pub stands : Stands (sizes-of list store₀ ws₀) (ended (sizes-of list store₀ ws₀) (events-in k (body list))) office store ws
+  pub stands : Stands (sizes-of list store₀ ws₀) (ended (sizes-of list store₀ ws₀) (events-in k (body list))) (office-of t members) store ws
   pub store-long : length store ≡ length store₀
   pub table-long : length ws ≡ length ws₀
   pub answers-long : length answered ≡ length answered₀
@@ -85,7 +87,7 @@ list-parts list h =
 module _ (list store₀ ws₀ answered₀ : List ℕ) (D : Ready list store₀ ws₀ answered₀) where
   -- at first
   pub running-first : Bytes list → (count : ℕ) (k : Office) → count ≡ count-of list → k ≡ fresh-office (members-of list) →
-      Running list store₀ ws₀ answered₀ count store₀ ws₀ answered₀ k 0 8 0
+      Running list store₀ ws₀ answered₀ count store₀ ws₀ answered₀ (k .members) (k .tally) 0 8 0
   unfolding events-in behind first-office ended-from answers zeros fresh-office proposals decisions calls after
   running-first b count k ec ek =
       record {
@@ -116,8 +118,8 @@ module _ (list store₀ ws₀ answered₀ : List ℕ) (D : Ready list store₀ w
       }
 
 -- in a turn
-module _ (list store₀ ws₀ answered₀ : List ℕ) (count : ℕ) (store ws answered : List ℕ) (office : Office) (accepted at k : ℕ)
-    (G : Running list store₀ ws₀ answered₀ count store ws answered office accepted at k) where
+module _ (list store₀ ws₀ answered₀ : List ℕ) (count : ℕ) (store ws answered : List ℕ) (members : List MemberState) (t : Tally) (accepted at k : ℕ)
+    (G : Running list store₀ ws₀ answered₀ count store ws answered members t accepted at k) where
   lent : Lent (sizes-of list store₀ ws₀) store ws
   lent =
       let D = G .ready in
@@ -132,7 +134,7 @@ module _ (list store₀ ws₀ answered₀ : List ℕ) (count : ℕ) (store ws an
   reached : Reached (sizes-of list store₀ ws₀) (ended (sizes-of list store₀ ws₀) (events-in k (body list)))
   reached = record { events = events-in k (body list); is = refl; offers = offers-small k (body list) (bytes-left 8 list (G .bytes)) }
 
-  pub standing : Standing office store ws
+  pub standing : Standing (office-of t members) store ws
   standing = record { z = sizes-of list store₀ ws₀; o = ended (sizes-of list store₀ ws₀) (events-in k (body list)); lent = lent; reached = reached; stands = G .stands }
 
   -- an event stands at the place
@@ -151,16 +153,27 @@ module _ (list store₀ ws₀ answered₀ : List ℕ) (count : ℕ) (store ws an
   pub answer-room : k < count → k < length answered
   answer-room h = omega (arith, G .answers-long, G .ready .room, G .count-is)
 
+  -- the record read at an event's place
+  held : (e : Event) (i : ℕ) (d : MemberState) → i ≡ place-of (at-member e) → Held members (place-of (at-member e)) (getD members i d)
+  held e i d q =
+      let below : place-of (at-member e) < length members = rw (G .stands .seven) (place-below (at-member e)) in
+      record { within = below; is = λ x. default members (place-of (at-member e)) x d below ∙ ap (λ j. getD members j d) (sym q) }
+
+  pub seated : (e : Event) (i : ℕ) (d : MemberState) → i ≡ place-of (at-member e) → Seated t (getD members i d) e store ws
+  seated e i d q = record { members = members; held = held e i d q; standing = standing }
+
   -- the next event
-  after-event : k < count → (office′ : Office) (number : ℕ) (store′ ws′ : List ℕ) → length store′ ≡ length store → length ws′ ≡ length ws →
-      Works office (event-at (drop at list)) store ws office′ number store′ ws′ →
-      Running list store₀ ws₀ answered₀ count store′ ws′ (set answered k number) office′ (accepted + one number) (at + event-size (drop at list)) (k + 1)
-  after-event h office′ number store′ ws′ ls lw W =
+  after-event : k < count → (i : ℕ) (d m′ : MemberState) (t′ : Tally) (number : ℕ) (store′ ws′ : List ℕ) → i ≡ place-of (at-member (event-at (drop at list))) →
+      length store′ ≡ length store → length ws′ ≡ length ws →
+      Works t (getD members i d) (event-at (drop at list)) store ws m′ t′ number store′ ws′ →
+      Running list store₀ ws₀ answered₀ count store′ ws′ (set answered k number) (set members i m′) t′ (accepted + one number) (at + event-size (drop at list)) (k + 1)
+  after-event h i d m′ t′ number store′ ws′ ei ls lw W =
       let z = sizes-of list store₀ ws₀ in
       let o = first-office (members-of list) in
       let es = events-in k (body list) in
       let e = event-at (drop at list) in
-      let N : Next z (ended z es) e office′ number store′ ws′ = W z (ended z es) lent reached (G .stands) in
+      let N : Next z (ended z es) e (office-of t′ (set members i m′)) number store′ ws′ =
+      subst (λ j. Next z (ended z es) e (office-of t′ (set members j m′)) number store′ ws′) (sym ei) (W members z (ended z es) (held e i d ei) lent reached (G .stands)) in
       let more : events-in (k + 1) (body list) ≡ es ++ e ∷ [] = ap (λ n. events-in n (body list)) (add-one k) ∙ events-suc k (body list) ∙ ap (λ s. es ++ event-at s ∷ []) (sym (G .place)) in
       let A = answers z o es in
       let along : answers z o (events-in (k + 1) (body list)) ≡ A ++ number ∷ [] = ap (answers z o) more ∙ answers-last z o es e ∙ ap (λ n. A ++ n ∷ []) (sym (N .number-is)) in
@@ -173,7 +186,7 @@ module _ (list store₀ ws₀ answered₀ : List ℕ) (count : ℕ) (store ws an
         at-within = at-next h;
         place =
             sym (drop-drop (event-size (drop at list)) at list) ∙ ap rest (G .place) ∙ sym (behind-suc k (body list)) ∙ ap (λ n. behind n (body list)) (sym (add-one k));
-        stands = subst (λ l. Stands z (ended z l) office′ store′ ws′) (sym more) (subst (λ p. Stands z p office′ store′ ws′) (sym (after-last z o es e)) (N .stands));
+        stands = subst (λ l. Stands z (ended z l) (office-of t′ (set members i m′)) store′ ws′) (sym more) (subst (λ p. Stands z p (office-of t′ (set members i m′)) store′ ws′) (sym (after-last z o es e)) (N .stands));
         store-long = ls ∙ G .store-long;
         table-long = lw ∙ G .table-long;
         answers-long = length-set answered k number ∙ G .answers-long;
@@ -186,33 +199,37 @@ module _ (list store₀ ws₀ answered₀ : List ℕ) (count : ℕ) (store ws an
         few = omega (arith, G .few, one-most number);
       }
 
-  -- the same of what the turn read: the rest of the list, its event's size, and 1 or 0
-  pub running-next : k < count → (r : List ℕ) → r ≡ drop at list → (office′ : Office) (number n m : ℕ) (store′ ws′ : List ℕ) → n ≡ one number → m ≡ event-size r →
-      length store′ ≡ length store → length ws′ ≡ length ws → Works office (event-at r) store ws office′ number store′ ws′ →
-      Running list store₀ ws₀ answered₀ count store′ ws′ (set answered k number) office′ (accepted + n) (at + m) (k + 1)
-  running-next h r er office′ number n m store′ ws′ en em ls lw W =
+  -- the same of what the turn read: the rest of the list, its event, its size, and 1 or 0
+  pub running-next : k < count → (r : List ℕ) → r ≡ drop at list → (e : Event) → e ≡ event-at r → (i : ℕ) → i ≡ place-of (at-member e) →
+      (d m′ : MemberState) (t′ : Tally) (number n m : ℕ) (store′ ws′ : List ℕ) → n ≡ one number → m ≡ event-size r →
+      length store′ ≡ length store → length ws′ ≡ length ws → Works t (getD members i d) e store ws m′ t′ number store′ ws′ →
+      Running list store₀ ws₀ answered₀ count store′ ws′ (set answered k number) (set members i m′) t′ (accepted + n) (at + m) (k + 1)
+  running-next h r er e ee i ei d m′ t′ number n m store′ ws′ en em ls lw W =
       let em′ : m ≡ event-size (drop at list) = em ∙ ap event-size er in
-      rw (en, em′) (after-event h office′ number store′ ws′ ls lw (subst (λ s. Works office (event-at s) store ws office′ number store′ ws′) er W))
+      let ee′ : e ≡ event-at (drop at list) = ee ∙ ap event-at er in
+      rw (en, em′)
+      (after-event h i d m′ t′ number store′ ws′ (ei ∙ ap (λ x. place-of (at-member x)) ee′) ls lw
+      (subst (λ x. Works t (getD members i d) x store ws m′ t′ number store′ ws′) ee′ W))
 
-  pub counts-small : (office .sent ≤ 2000) × (office .proposals < 256) × (office .decisions < 256)
+  pub counts-small : (t .sent ≤ 2000) × (t .proposals < 256) × (t .decisions < 256)
   counts-small =
       let S = standing in (
-        sent-few (S .z) (S .o) office store ws (S .lent) (S .reached) (S .stands),
-        proposals-few (S .z) (S .o) office store ws (S .lent) (S .reached) (S .stands),
-        decisions-few (S .z) (S .o) office store ws (S .lent) (S .reached) (S .stands),
+        sent-few (S .z) (S .o) (office-of t members) store ws (S .lent) (S .reached) (S .stands),
+        proposals-few (S .z) (S .o) (office-of t members) store ws (S .lent) (S .reached) (S .stands),
+        decisions-few (S .z) (S .o) (office-of t members) store ws (S .lent) (S .reached) (S .stands),
       )
 
   -- after the last event
   pub ran : count ≤ k →
       Worked (sizes-of list store₀ ws₀) (events-of list) store₀ ws₀ answered₀
-      (record { accepted = accepted; messages = office .sent; proposals = office .proposals; decisions = office .decisions }) store ws answered
+      (record { accepted = accepted; messages = t .sent; proposals = t .proposals; decisions = t .decisions }) store ws answered
   unfolding events-of
   ran h =
       let z = sizes-of list store₀ ws₀ in
       let e : k ≡ count-of list = omega (arith, G .within, G .count-is) in
       let all : events-in k (body list) ≡ events-in (count-of list) (body list) = ap (λ n. events-in n (body list)) e in
       let long : length (events-in (count-of list) (body list)) ≡ count-of list = length-events (count-of list) (body list) in
-      let S : Stands z (ended z (events-in (count-of list) (body list))) office store ws = subst (λ l. Stands z (ended z l) office store ws) all (G .stands) in
+      let S : Stands z (ended z (events-in (count-of list) (body list))) (office-of t members) store ws = subst (λ l. Stands z (ended z l) (office-of t members) store ws) all (G .stands) in
       record {
         answers-are = G .said ∙ ap (λ l. answers z (first-office (members-of list)) l ++ drop k answered₀) all ∙ ap (λ n. answers z (first-office (members-of list)) (events-in (count-of list) (body list)) ++ drop n answered₀) (e ∙ sym long);
         store-is = S .messages ∙ ap (λ n. stored n (ended z (events-in (count-of list) (body list)) .sent)) (G .store-long);

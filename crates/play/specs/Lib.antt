@@ -1,4 +1,3 @@
--- What play promises (01, "Play"), and how its memory stands for the model.
+-- What play promises (01, "Play").
 pub mod Answers
-pub mod Standing
 pub mod Promise

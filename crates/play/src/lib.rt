@@ -2,25 +2,11 @@
 use answers::Counts;
 use answers::ListRefusal;
 use answers::PlayAnswer;
-use office::Office;
-use office::Worked;
 ghost use mathlib.Core.Path.{_≡_};
-ghost use Rattle.events.specs.List.{event-size, event-at};
 ghost use Rattle.play.specs.Answers.{answer-number, answer-counts};
-ghost use Rattle.play.specs.Standing.{Standing, Works};
 ghost use Rattle.play.specs.Promise.{one, Ready, Ran, Given};
 
 pub mod answers;
-pub mod office;
-
-// The event at the front of the rest of the list.
-fn turn(rest: &[u8], office: Office, messages: &mut [u8], nodes: &mut [u64]) -> Worked
-    requires { ⌜ (event-size (now rest) ≡ 0 → ⊥) × Standing office (now messages) (now nodes) ⌝ }
-    ensures { λ w. ⌜ Works office (event-at (now (rest .entry))) (now (messages .entry)) (now (nodes .entry)) (w .office) (w .number) (now (messages .exit)) (now (nodes .exit)) ⌝ }
-{
-    let e = events::read_event(rest);
-    office::work(office, e, messages, nodes)
-}
 
 // 1 for an accepted event.
 fn one_if_accepted(number: u8) -> u32
@@ -38,23 +24,30 @@ fn run(list: &[u8], messages: &mut [u8], nodes: &mut [u64], answered: &mut [u8])
     ensures { λ c. ⌜ Ran (now (list .entry)) (now (messages .entry)) (now (nodes .entry)) (now (answered .entry)) c (now (messages .exit)) (now (nodes .exit)) (now (answered .exit)) ⌝ }
 {
     let count = xdr::word_at(list, 4) as usize;
-    let mut office = office::fresh_office(xdr::word_at(list, 0));
+    let first = office::fresh_office(xdr::word_at(list, 0));
+    let mut members = first.members;
+    let mut tally = first.tally;
     let mut accepted: u32 = 0;
     let mut at: usize = 8;
     let mut k: usize = 0;
     while k < count {
-        let w = turn(&list[at..], office, messages, nodes);
+        let e = events::read_event(&list[at..]);
         at += events::event_size(&list[at..]);
-        office = w.office;
+        let i = office::place(e);
+        let m = members[i];
+        let w = office::work(tally, m, e, messages, nodes);
+        let state = w.state;
+        members[i] = state;
+        tally = w.tally;
         answered[k] = w.number;
         accepted += one_if_accepted(w.number);
         k += 1;
     }
     Counts {
         accepted,
-        messages: office.sent as u32,
-        proposals: office.proposals as u32,
-        decisions: office.decisions as u32,
+        messages: tally.sent as u32,
+        proposals: tally.proposals as u32,
+        decisions: tally.decisions as u32,
     }
 }
 

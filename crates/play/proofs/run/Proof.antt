@@ -6,129 +6,157 @@ use lib.ListN.{length, set, drop, take}
 use borrow.Author.Needs.{needs}
 use denote.Ref.{now}
 use Rattle.laws.specs.Parts.{to-end}
-use Rattle.events.specs.List.{event-size, event-at}
-use Rattle.play.specs.Standing.{fresh-office, Works}
-use Rattle.play.specs.Promise.{one}
-use Rattle.play.proofs.Running.{Running, list-parts, bytes-of, running-first, standing, due, at-next, counted-few, answer-room, running-next, counts-small, one-most, ran}
+use Rattle.events.specs.List.{event-size}
+use Rattle.events.specs.Value.{model-event}
+use Rattle.model.specs.Model.{at-member}
+use Rattle.office.specs.Standing.{fresh-office}
+use Rattle.office.proofs.Memory.{place-below}
+use Rattle.play.proofs.Running.{Running, list-parts, bytes-of, running-first, seated, due, at-next, counted-few, answer-room, running-next, counts-small, one-most, ran}
 use Rattle.play.proofs.run.Statement.{statement}
 use Rattle.play.proofs.run.Tie as tie
 
 abbrev Inv-loop : tie.InvT-loop
-Inv-loop list messages₀ nodes₀ answered₀ count office₀ accepted₀ at₀ k₀ messages nodes answered office accepted at k =
-    Running list messages₀ nodes₀ answered₀ count messages nodes answered office accepted at k
+Inv-loop list messages₀ nodes₀ answered₀ count members₀ tally₀ accepted₀ at₀ k₀ messages nodes answered members tally accepted at k =
+    Running list messages₀ nodes₀ answered₀ count messages nodes answered members tally accepted at k
 
 abbrev μ-loop : tie.MeasureT-loop
-μ-loop list messages₀ nodes₀ answered₀ count office₀ accepted₀ at₀ k₀ messages nodes answered office accepted at k =
+μ-loop list messages₀ nodes₀ answered₀ count members₀ tally₀ accepted₀ at₀ k₀ messages nodes answered members tally accepted at k =
     count - k
 
 word-at-requires : tie.Need-word-at-requires Inv-loop μ-loop
 word-at-requires c κs =
-    let s = c .before .before .before .before in omega (arith, list-parts (now (s .args .list)) (s .pre .fits) .0)
+    omega (arith, list-parts (now (c .before .before .before .before .args .list)) (c .before .before .before .before .pre .fits) .0)
 
 cast-count : tie.Need-cast-count Inv-loop μ-loop
-cast-count c = search needs
+cast-count c =
+    search needs
 
 word-at-requires-2 : tie.Need-word-at-requires-2 Inv-loop μ-loop
 word-at-requires-2 c κs =
-    let s = c .before .before .before .before .before in omega (arith, list-parts (now (s .args .list)) (s .pre .fits) .0)
+    omega (arith, list-parts (now (c .before .before .before .before .before .args .list)) (c .before .before .before .before .before .pre .fits) .0)
 
 fresh-office-requires : tie.Need-fresh-office-requires Inv-loop μ-loop
-fresh-office-requires c κs = search needs
+fresh-office-requires c κs =
+    search needs
 
 loop-holds : tie.Need-loop-holds Inv-loop μ-loop
 loop-holds c =
-    let s = c .before .before .before .before .before .before .before in
-    let a = s .args in
-    running-first (now (a .list)) (now (a .messages)) (now (a .nodes)) (now (a .answered)) (s .pre)
-    (bytes-of (now (a .list)) (λ i. omega (arith, c .before .before .before .before .before .before .shared-slice-known .given i)))
-    _ _ (c .before .before .word-at .ensures) (c .fresh-office .ensures ∙ ap fresh-office (c .before .word-at2 .ensures))
+    running-first (now (c .before .before .before .before .before .before .before .before .before .args .list)) (now (c .before .before .before .before .before .before .before .before .before .args .messages)) (now (c .before .before .before .before .before .before .before .before .before .args .nodes)) (now (c .before .before .before .before .before .before .before .before .before .args .answered)) (c .before .before .before .before .before .before .before .before .before .pre)
+    (bytes-of (now (c .before .before .before .before .before .before .before .before .before .args .list)) (λ i. omega (arith, c .before .before .before .before .before .before .before .before .shared-slice-known .given i)))
+    _ _ (c .before .before .before .before .word-at .ensures) (c .before .before .fresh-office .ensures ∙ ap fresh-office (c .before .before .before .word-at2 .ensures))
 
-sub-turn : tie.Need-sub-turn Inv-loop μ-loop
-sub-turn c = omega (arith, c .before .loop .inv .at-within)
+sub-read-event : tie.Need-sub-read-event Inv-loop μ-loop
+sub-read-event c =
+    omega (arith, c .before .loop .inv .at-within)
 
-part-turn-start : tie.Need-part-turn-start Inv-loop μ-loop
-part-turn-start c = omega (arith, c .before .loop .inv .at-within)
+part-read-event-start : tie.Need-part-read-event-start Inv-loop μ-loop
+part-read-event-start c =
+    omega (arith, c .before .loop .inv .at-within)
 
-part-turn-end : tie.Need-part-turn-end Inv-loop μ-loop
-part-turn-end c = omega (arith, c .before .loop .inv .at-within)
+part-read-event-end : tie.Need-part-read-event-end Inv-loop μ-loop
+part-read-event-end c =
+    omega (arith, c .before .loop .inv .at-within)
 
-turn-requires : tie.Need-turn-requires Inv-loop μ-loop
-turn-requires c κs =
-    let l = c .before .before .before .before .loop in
-    ((λ q. due _ _ _ _ _ _ _ _ _ _ _ _ (l .inv) (c .before .before .before .loop-test .taken) .0 (ap event-size (sym (to-end (l .at) _)) ∙ q)), standing _ _ _ _ _ _ _ _ _ _ _ _ (l .inv))
+read-event-requires : tie.Need-read-event-requires Inv-loop μ-loop
+read-event-requires c κs =
+    λ q. due _ _ _ _ _ _ _ _ _ _ _ _ _ (c .before .before .loop .inv) (c .before .loop-test .taken) .0 (ap event-size (sym (to-end (c .before .before .loop .at) _)) ∙ q)
 
 sub-event-size : tie.Need-sub-event-size Inv-loop μ-loop
-sub-event-size c = omega arith
+sub-event-size c =
+    omega arith
 
 part-event-size-start : tie.Need-part-event-size-start Inv-loop μ-loop
-part-event-size-start c = omega arith
+part-event-size-start c =
+    omega arith
 
 part-event-size-end : tie.Need-part-event-size-end Inv-loop μ-loop
-part-event-size-end c = omega arith
+part-event-size-end c =
+    omega arith
 
 event-size-requires : tie.Need-event-size-requires Inv-loop μ-loop
-event-size-requires c κs = search needs
+event-size-requires c κs =
+    search needs
 
 add-at : tie.Need-add-at Inv-loop μ-loop
 add-at c =
-    let l = c .before .before .before .before .before .before .before .before .before .before .before .loop in
-    let list = now (c .before .before .before .before .before .before .before .before .before .before .before .before .before .before .before .before .before .before .before .args .list) in
-    omega (arith, at-next _ _ _ _ _ _ _ _ _ _ _ _ (l .inv) (c .before .before .before .before .before .before .before .before .before .before .loop-test .taken), c .event-size .ensures, ap event-size (to-end (l .at) list), c .before .before .before .before .before .before .before .before .before .before .before .before .before .before .before .before .before .before .before .good .0 .0)
+    omega (arith, at-next _ _ _ _ _ _ _ _ _ _ _ _ _ (c .before .before .before .before .before .loop .inv) (c .before .before .before .before .loop-test .taken), c .event-size .ensures, ap event-size (to-end (c .before .before .before .before .before .loop .at) (now (c .before .before .before .before .before .before .before .before .before .before .before .before .before .before .before .args .list))), c .before .before .before .before .before .before .before .before .before .before .before .before .before .before .before .good .0 .0)
+
+place-requires : tie.Need-place-requires Inv-loop μ-loop
+place-requires c κs =
+    search needs
+
+mul-m : tie.Need-mul-m Inv-loop μ-loop
+mul-m c =
+    omega (arith, place-below (at-member (model-event (c .before .before .before .read-event .result))), c .place .ensures)
+
+array-copy-out-m : tie.Need-array-copy-out-m Inv-loop μ-loop
+array-copy-out-m c =
+    omega (arith, place-below (at-member (model-event (c .before .before .before .read-event .result))), c .place .ensures)
+
+work-requires : tie.Need-work-requires Inv-loop μ-loop
+work-requires c κs =
+    seated _ _ _ _ _ _ _ _ _ _ _ _ _ (c .before .before .before .before .before .before .before .before .before .loop .inv) _ _ _ (c .before .before .before .place .ensures)
+
+mul-members : tie.Need-mul-members Inv-loop μ-loop
+mul-members c =
+    omega (arith, place-below (at-member (model-event (c .before .before .before .before .before .before .before .before .before .before .before .before .read-event .result))), c .before .before .before .before .before .before .before .before .before .place .ensures)
+
+array-set-from-members : tie.Need-array-set-from-members Inv-loop μ-loop
+array-set-from-members c =
+    omega (arith, place-below (at-member (model-event (c .before .before .before .before .before .before .before .before .before .before .before .before .read-event .result))), c .before .before .before .before .before .before .before .before .before .place .ensures)
 
 slice-write-answered : tie.Need-slice-write-answered Inv-loop μ-loop
 slice-write-answered c =
-    let l = c .before .before .before .before .before .before .before .before .before .before .before .before .loop in
-    answer-room _ _ _ _ _ _ _ _ _ _ _ _ (l .inv) (c .before .before .before .before .before .before .before .before .before .before .before .loop-test .taken)
+    answer-room _ _ _ _ _ _ _ _ _ _ _ _ _ (c .before .before .before .before .before .before .before .before .before .before .before .before .before .before .before .before .loop .inv) (c .before .before .before .before .before .before .before .before .before .before .before .before .before .before .before .loop-test .taken)
 
 one-if-accepted-requires : tie.Need-one-if-accepted-requires Inv-loop μ-loop
-one-if-accepted-requires c κs = search needs
+one-if-accepted-requires c κs =
+    search needs
 
 add-accepted : tie.Need-add-accepted Inv-loop μ-loop
 add-accepted c =
-    let l = c .before .before .before .before .before .before .before .before .before .before .before .before .before .loop in
-    let number = c .before .before .before .before .before .before .before .before .turn .result .number in
-    omega (arith, counted-few _ _ _ _ _ _ _ _ _ _ (l .at) (l .k) (l .inv), c .one-if-accepted .ensures, one-most number)
+    omega (arith, counted-few _ _ _ _ _ _ _ _ _ _ _ (c .before .before .before .before .before .before .before .before .before .before .before .before .before .before .before .before .before .loop .at) (c .before .before .before .before .before .before .before .before .before .before .before .before .before .before .before .before .before .loop .k) (c .before .before .before .before .before .before .before .before .before .before .before .before .before .before .before .before .before .loop .inv), c .one-if-accepted .ensures, one-most (c .before .before .before .before .before .before .before .work .result .number))
 
 add-k : tie.Need-add-k Inv-loop μ-loop
-add-k c = omega arith
+add-k c =
+    omega (arith, list-parts (now (c .before .before .before .before .before .before .before .before .before .before .before .before .before .before .before .before .before .before .before .before .before .before .before .before .before .before .before .args .list)) (c .before .before .before .before .before .before .before .before .before .before .before .before .before .before .before .before .before .before .before .before .before .before .before .before .before .before .before .pre .fits) .1, c .before .before .before .before .before .before .before .before .before .before .before .before .before .before .before .before .before .loop .inv .count-is, c .before .before .before .before .before .before .before .before .before .before .before .before .before .before .before .before .loop-test .taken)
 
 loop-less : tie.Need-loop-less Inv-loop μ-loop
-loop-less c = omega arith
+loop-less c =
+    omega arith
 
 loop-again : tie.Need-loop-again Inv-loop μ-loop
 loop-again c =
-    let l = c .before .before .before .before .before .before .before .before .before .before .before .before .before .loop in
-    let t = c .before .before .before .before .before .before .before .before .turn in
-    running-next _ _ _ _ _ _ _ _ _ _ _ _ (l .inv) (c .before .before .before .before .before .before .before .before .before .before .before .before .loop-test .taken) _ (to-end (l .at) _) _ _ _ _ _ _ (c .one-if-accepted .ensures) (c .before .before .event-size .ensures)
-    (t .kept .1 .1 .0) (t .kept .1 .1 .1 .0) (t .ensures)
+    running-next _ _ _ _ _ _ _ _ _ _ _ _ _ (c .before .before .before .before .before .before .before .before .before .before .before .before .before .before .before .before .before .loop .inv) (c .before .before .before .before .before .before .before .before .before .before .before .before .before .before .before .before .loop-test .taken) _ (to-end (c .before .before .before .before .before .before .before .before .before .before .before .before .before .before .before .before .before .loop .at) _) _ (c .before .before .before .before .before .before .before .before .before .before .before .before .before .before .read-event .ensures) _ (c .before .before .before .before .before .before .before .before .before .before .before .place .ensures) _ _ _ _ _ _ _ _ (c .one-if-accepted .ensures) (c .before .before .before .before .before .before .before .before .before .before .before .before .event-size .ensures)
+    (c .before .before .before .before .before .before .before .work .kept .1 .1 .1 .0) (c .before .before .before .before .before .before .before .work .kept .1 .1 .1 .1 .0) (c .before .before .before .before .before .before .before .work .ensures)
 
-cast-t11 : tie.Need-cast-t11 Inv-loop μ-loop
-cast-t11 c =
-    let l = c .before .before .loop in
-    omega (arith, counts-small _ _ _ _ _ (l .messages) (l .nodes) (l .answered) (l .office) (l .accepted) (l .at) (l .k) (l .inv) .0)
+cast-t17 : tie.Need-cast-t17 Inv-loop μ-loop
+cast-t17 c =
+    omega (arith, counts-small _ _ _ _ _ (c .before .before .loop .messages) (c .before .before .loop .nodes) (c .before .before .loop .answered) (c .before .before .loop .members) (c .before .before .loop .tally) (c .before .before .loop .accepted) (c .before .before .loop .at) (c .before .before .loop .k) (c .before .before .loop .inv) .0)
 
-cast-t27 : tie.Need-cast-t27 Inv-loop μ-loop
-cast-t27 c =
-    let l = c .before .before .before .loop in
-    omega (arith, counts-small _ _ _ _ _ (l .messages) (l .nodes) (l .answered) (l .office) (l .accepted) (l .at) (l .k) (l .inv) .1)
+cast-t38 : tie.Need-cast-t38 Inv-loop μ-loop
+cast-t38 c =
+    omega (arith, counts-small _ _ _ _ _ (c .before .before .before .loop .messages) (c .before .before .before .loop .nodes) (c .before .before .before .loop .answered) (c .before .before .before .loop .members) (c .before .before .before .loop .tally) (c .before .before .before .loop .accepted) (c .before .before .before .loop .at) (c .before .before .before .loop .k) (c .before .before .before .loop .inv) .1)
 
-cast-t28 : tie.Need-cast-t28 Inv-loop μ-loop
-cast-t28 c =
-    let l = c .before .before .before .before .loop in
-    omega (arith, counts-small _ _ _ _ _ (l .messages) (l .nodes) (l .answered) (l .office) (l .accepted) (l .at) (l .k) (l .inv) .2)
+cast-t39 : tie.Need-cast-t39 Inv-loop μ-loop
+cast-t39 c =
+    omega (arith, counts-small _ _ _ _ _ (c .before .before .before .before .loop .messages) (c .before .before .before .before .loop .nodes) (c .before .before .before .before .loop .answered) (c .before .before .before .before .loop .members) (c .before .before .before .before .loop .tally) (c .before .before .before .before .loop .accepted) (c .before .before .before .before .loop .at) (c .before .before .before .before .loop .k) (c .before .before .before .before .loop .inv) .2)
 
 same-length : tie.Need-same-length Inv-loop μ-loop
-same-length c = c .before .before .before .before .loop .inv .store-long
+same-length c =
+    c .before .before .before .before .loop .inv .store-long
 
 same-length-2 : tie.Need-same-length-2 Inv-loop μ-loop
-same-length-2 c = c .before .before .before .before .loop .inv .table-long
+same-length-2 c =
+    c .before .before .before .before .loop .inv .table-long
 
 same-length-3 : tie.Need-same-length-3 Inv-loop μ-loop
-same-length-3 c = c .before .before .before .before .loop .inv .answers-long
+same-length-3 c =
+    c .before .before .before .before .loop .inv .answers-long
 
 returns : tie.Need-returns Inv-loop μ-loop
 returns c =
-    let l = c .before .before .before .before .loop in ran _ _ _ _ _ _ _ _ _ _ _ _ (l .inv) (c .before .before .before .loop-test .left)
+    ran _ _ _ _ _ _ _ _ _ _ _ _ _ (c .before .before .before .before .loop .inv) (c .before .before .before .loop-test .left)
 
 pub run-spec : {M : Type 1} → statement M
 run-spec =
@@ -141,24 +169,30 @@ run-spec =
     word-at-requires-2
     fresh-office-requires
     loop-holds
-    sub-turn
-    part-turn-start
-    part-turn-end
-    turn-requires
+    sub-read-event
+    part-read-event-start
+    part-read-event-end
+    read-event-requires
     sub-event-size
     part-event-size-start
     part-event-size-end
     event-size-requires
     add-at
+    place-requires
+    mul-m
+    array-copy-out-m
+    work-requires
+    mul-members
+    array-set-from-members
     slice-write-answered
     one-if-accepted-requires
     add-accepted
     add-k
     loop-less
     loop-again
-    cast-t11
-    cast-t27
-    cast-t28
+    cast-t17
+    cast-t38
+    cast-t39
     same-length
     same-length-2
     same-length-3

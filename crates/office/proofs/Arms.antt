@@ -1,0 +1,107 @@
+-- What becomes of a step, for each answer of a member: the number, and the memory after it. Assumes nothing.
+use mathlib.Core.Path.{_≡_, refl, sym, ap, subst, _∙_}
+use mathlib.Core.Bool.{true}
+use mathlib.Core.List.{List, [], _∷_, _++_, append-nil}
+use Prim.Native.Nat.{ℕ, suc, _+_, _*_, _/_, _≤_, _<_}
+use native.Mathlib.Omega.{arith}
+use native.Mathlib.Nat.{add-zero}
+use lib.ListN.{length, set, take, drop}
+use Rattle.quorum_tree.specs.Machine.{Call, add, commit, step}
+use Rattle.quorum_tree.specs.Table.{nodes, rows, table}
+use Rattle.message.specs.declared.Message.{Message}
+use Rattle.message.specs.Writing.{in-front}
+use Rattle.member.specs.declared.MemberState.{MemberState}
+use Rattle.member.specs.Table.{Outcome, refused, sends, silent, nothing, proposal, decision}
+use Rattle.model.specs.Model.{Sizes, Event, outcome, sends-one, proposes-one, answer, taken, next, proposals}
+use Rattle.model.specs.Model.{Office as ModelOffice}
+use Rattle.model.specs.Counts.{tree, decisions}
+use Rattle.model.proofs.Tree.{tree-nothing, tree-proposal, tree-decision}
+use Rattle.store.specs.Rows.{row-at, stored}
+use Rattle.store.proofs.Stored.{put-stored}
+use Rattle.tree.specs.Promises.{Stepped}
+use Rattle.office.specs.declared.Tally.{Tally}
+use Rattle.office.specs.Standing.{Lent, Reached, Stands, Next, Took, Held, office-of}
+use Rattle.office.proofs.Settling.{placed, stays, unchanged, refused-step, store-full, no-row, sent-one, proposed-one, silent-one, goes-on}
+use Rattle.office.proofs.Memory.{nodes-held}
+
+-- what a step that proposes, or decides, comes to
+abbrev pub proposing : MemberState → Message → ℕ → ℕ → ℕ → Outcome
+proposing m g r x b = record { number = 0; state = m; sent = g ∷ []; named = proposal r x b }
+
+abbrev pub deciding : MemberState → ℕ → ℕ → Outcome
+deciding m r x = record { number = 0; state = m; sent = []; named = decision r x }
+
+module _ (z : Sizes) (o : ModelOffice) (e : Event) (t : Tally) (ms : List MemberState) (i : ℕ) (was : MemberState) (H : Held ms i was) (store ws : List ℕ) (L : Lent z store ws) (R : Reached z o)
+    (S : Stands z o (office-of t ms) store ws) where
+  -- a refusal leaves the record
+  stays-put : (number : ℕ) → answer z o e ≡ number → (number ≡ 0 → ⊥) → Next z o e (office-of t (set ms i was)) number store ws
+  stays-put number a n = unchanged z o e t ms i was number store ws H (stays z o e (office-of t ms) number store ws S a n)
+
+  pub refuses : (n : ℕ) (m : MemberState) → Took z o e i (refused n m) → (n ≡ 0 → ⊥) → Next z o e (office-of t (set ms i was)) n store ws
+  refuses n m T h = stays-put n (refused-step z o e i (refused n m) T h) h
+
+  nothing-more : (a b c : ℕ) {l : List MemberState} →
+      office-of (record { n = t .n; sent = a + 0; proposals = b + 0; decisions = c + 0 }) l ≡ office-of (record { n = t .n; sent = a; proposals = b; decisions = c }) l
+  nothing-more a b c = rw (add-zero a, add-zero b, add-zero c) refl
+
+  -- nothing is sent and nothing is named
+  pub goes-silent : (m : MemberState) → Took z o e i (silent m) → Next z o e (office-of t (set ms i m)) 0 store ws
+  unfolding proposals decisions
+  goes-silent m T =
+      subst (λ k. Next z o e k 0 store ws) (nothing-more (t .sent) (t .proposals) (t .decisions))
+      (goes-on z o e i (silent m) T (office-of t ms) store ws store ws 0 0 0 S (silent-one z o e i (silent m) T refl refl refl) refl refl refl
+      (S .messages ∙ ap (stored (length store)) (sym (append-nil (o .sent))))
+      (S .nodes-are ∙ ap (table (length ws)) (sym (tree-nothing z o e (ap (λ (u : Outcome). u .named) (sym (T .equals)))))))
+
+  -- no row of the store is free
+  pub fills : (u : Outcome) → Took z o e i u → u .number ≡ 0 → sends-one (u .sent) ≡ true → length store / 28 ≤ t .sent → Next z o e (office-of t (set ms i was)) 30 store ws
+  fills u T n s h = stays-put 30 (store-full z o e i u T n s (omega (arith, L .store-rows, S .sent))) (λ q. omega arith)
+
+  free : t .sent < length store / 28 → length (o .sent) < z .store
+  free h = omega (arith, L .store-rows, S .sent)
+
+  put-behind : (g : Message) (store′ : List ℕ) → t .sent < length store / 28 →
+      store′ ≡ take (28 * t .sent) store ++ in-front g (row-at store (t .sent)) ++ drop (28 * t .sent + 28) store → store′ ≡ stored (length store) (o .sent ++ g ∷ [])
+  put-behind g store′ h w = w ∙ put-stored store (o .sent) g (t .sent) (S .messages) (S .sent) (omega (arith, S .sent))
+
+  -- a message is sent and nothing is named
+  pub goes-sent : (m : MemberState) (g : Message) (store′ : List ℕ) → Took z o e i (sends m g) → t .sent < length store / 28 → length store′ ≡ length store →
+      store′ ≡ take (28 * t .sent) store ++ in-front g (row-at store (t .sent)) ++ drop (28 * t .sent + 28) store → Next z o e (placed (office-of t ms) i m 1 0 0) 0 store′ ws
+  unfolding proposals decisions
+  goes-sent m g store′ T h l w =
+      goes-on z o e i (sends m g) T (office-of t ms) store ws store′ ws 1 0 0 S (sent-one z o e i (sends m g) T refl refl (free h) refl) refl refl refl
+      (put-behind g store′ h w ∙ ap (λ n. stored n (o .sent ++ g ∷ [])) (sym l))
+      (S .nodes-are ∙ ap (table (length ws)) (sym (tree-nothing z o e (ap (λ (u : Outcome). u .named) (sym (T .equals))))))
+
+  -- no row of the table is free
+  pub has-no-row : (m : MemberState) (g : Message) (r x b : ℕ) → Took z o e i (proposing m g r x b) → t .sent < length store / 28 → length ws / 4 ≤ t .proposals + 1 →
+      Next z o e (office-of t (set ms i was)) 9 store ws
+  has-no-row m g r x b T h f =
+      stays-put 9 (no-row z o e i (proposing m g r x b) T refl refl (free h) refl (omega (arith, L .table-rows, S .proposed))) (λ q. omega arith)
+
+  -- the tree's step on the table is the machine's on the model's tree
+  stepped : (c : Call) (number : ℕ) (ws′ : List ℕ) → Stepped true ws c number ws′ → length ws′ ≡ length ws → ws′ ≡ table (length ws′) (step true (z .table) (tree z o) c)
+  stepped c number ws′ P l =
+      P .table-is ∙ ap (λ ns. table (length ws) (step true (rows ws) ns c)) (nodes-held z o (office-of t ms) store ws L R S) ∙
+      ap (λ n. table (length ws) (step true n (tree z o) c)) (sym (L .table-rows)) ∙ ap (λ n. table n (step true (z .table) (tree z o) c)) (sym l)
+
+  -- the proposal is sent and added
+  pub goes-proposed : (m : MemberState) (g : Message) (r x b : ℕ) (number : ℕ) (store′ ws′ : List ℕ) → Took z o e i (proposing m g r x b) → t .sent < length store / 28 →
+      t .proposals + 1 < length ws / 4 → length store′ ≡ length store →
+      store′ ≡ take (28 * t .sent) store ++ in-front g (row-at store (t .sent)) ++ drop (28 * t .sent + 28) store → length ws′ ≡ length ws →
+      Stepped true ws (add r x b) number ws′ → Next z o e (placed (office-of t ms) i m 1 1 0) 0 store′ ws′
+  unfolding proposals decisions
+  goes-proposed m g r x b number store′ ws′ T h f l w l′ P =
+      goes-on z o e i (proposing m g r x b) T (office-of t ms) store ws store′ ws′ 1 1 0 S
+      (proposed-one z o e i (proposing m g r x b) T refl refl (free h) refl (omega (arith, L .table-rows, S .proposed))) refl refl refl
+      (put-behind g store′ h w ∙ ap (λ n. stored n (o .sent ++ g ∷ [])) (sym l))
+      (stepped (add r x b) number ws′ P l′ ∙ ap (table (length ws′)) (sym (tree-proposal z o e r x b (ap (λ (u : Outcome). u .named) (sym (T .equals))))))
+
+  -- the decision is committed
+  pub goes-decided : (m : MemberState) (r x : ℕ) (number : ℕ) (ws′ : List ℕ) → Took z o e i (deciding m r x) → length ws′ ≡ length ws → Stepped true ws (commit r) number ws′ →
+      Next z o e (placed (office-of t ms) i m 0 0 1) 0 store ws′
+  unfolding proposals decisions
+  goes-decided m r x number ws′ T l P =
+      goes-on z o e i (deciding m r x) T (office-of t ms) store ws store ws′ 0 0 1 S (silent-one z o e i (deciding m r x) T refl refl refl) refl refl refl
+      (S .messages ∙ ap (stored (length store)) (sym (append-nil (o .sent))))
+      (stepped (commit r) number ws′ P l ∙ ap (table (length ws′)) (sym (tree-decision z o e r x (ap (λ (u : Outcome). u .named) (sym (T .equals))))))
