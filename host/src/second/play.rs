@@ -16,7 +16,7 @@ pub fn play(list: &[u8], store: &mut [u8], table: &mut [u64], answers: &mut [u8]
     if !member::size_allowed(n) {
         return Err(Refusal::OfficeSize);
     }
-    let whole_rows = store.len().is_multiple_of(STORE_ROW) && (1..=STORE_ROWS).contains(&(store.len() / STORE_ROW));
+    let whole_rows = store.len() % STORE_ROW == 0 && (1..=STORE_ROWS).contains(&(store.len() / STORE_ROW));
     if !whole_rows || answers.len() < count {
         return Err(Refusal::StoreOrAnswers);
     }

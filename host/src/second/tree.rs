@@ -59,7 +59,7 @@ pub fn path(table: &[u64], round: Round, out: &mut [u64]) -> Result<usize, Refus
 /// A length that a table can have.
 pub fn check_length(table: &[u64]) -> Result<(), Refusal> {
     let rows = table.len() / TABLE_ROW;
-    if table.len().is_multiple_of(TABLE_ROW) && (1..=TABLE_ROWS).contains(&rows) {
+    if table.len() % TABLE_ROW == 0 && (1..=TABLE_ROWS).contains(&rows) {
         Ok(())
     } else {
         Err(Refusal::TableLength)
