@@ -67,7 +67,8 @@ fn colour(status: Status) -> &'static str {
     }
 }
 
-const BOX_WIDTH: usize = 190;
+/// Room for the largest value in a wide font.
+const BOX_WIDTH: usize = 226;
 const BOX_HEIGHT: usize = 58;
 const GAP: usize = 24;
 const LINE: usize = 16;
