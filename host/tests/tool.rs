@@ -26,8 +26,6 @@ fn tool(args: &[&str], input: &[u8]) -> (i32, String, String) {
 #[test]
 fn mistakes_have_line_and_column() {
     let cases = [
-        ("", 1, 1, "the number of members isn't given; write n=3 in front"),
-        ("s(1,1,70)", 1, 1, "the number of members isn't given; write n=3 in front"),
         ("n 3", 1, 3, "= is missing after n"),
         ("n=", 1, 3, "a number of members is missing here"),
         ("n=3 x(1)", 1, 5, "an event starts with s( or d(, not with 'x'"),
@@ -61,13 +59,21 @@ fn notation_and_bytes_and_back() {
     assert_eq!(EventList::from_bytes(&list.to_bytes()[1..]), Err(Refusal::ListShape));
     let largest = "n=4294967295 s(4294967295,4294967295,18446744073709551615) d(4294967295,4294967295)";
     assert_eq!(parse(largest, None).unwrap().to_string(), largest);
-    let (status, hex, _) = tool(&["encode", "--members", "3", "--hex", "-e", "s(1,1,70) d(0,0)"], b"");
+    let (status, hex, _) = tool(&["encode", "--hex", "-e", "s(1,1,70) d(0,0)"], b"");
     assert_eq!(
         (status, hex.trim()),
         (0, "00000003000000020000000100000001000000010000000000000046000000020000000000000000")
     );
     assert_eq!(tool(&["decode", "--hex"], hex.as_bytes()).1, "n=3 s(1,1,70) d(0,0)\n");
     assert_eq!(tool(&["decode"], &[0; 9]).0, 1);
+}
+
+/// Where nothing says how many, an office has three members.
+#[test]
+fn members_of_a_list() {
+    let members = |text, members| parse(text, members).map(|list| list.n);
+    assert_eq!([members("s(1,1,70) d(0,0)", None), members("", None), members(" # none", None)], [Ok(3), Ok(3), Ok(3)]);
+    assert_eq!([members("s(1,1,70)", Some(7)), members("n=5", Some(5)), members("n=5", None)], [Ok(7), Ok(5), Ok(5)]);
 }
 
 #[test]

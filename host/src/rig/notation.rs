@@ -1,11 +1,13 @@
-//! The rig's notation: `n=3` in front, then events `s(member,round,offer)` and `d(message,member)`. Blanks and line
-//! feeds may stand between any two parts; `#` starts a comment that runs to the end of its line.
+//! The rig's notation: events `s(member,round,offer)` and `d(message,member)`, with the number of members in front as
+//! `n=5`, or 3 members where that is left out. Blanks and line feeds may stand between any two parts; `#` starts a
+//! comment that runs to the end of its line.
 //!
 //! ```
 //! use kalebasin::rig::notation::parse;
 //!
-//! let list = parse("n=3 s(1,1,70)\n# to member 0\nd(0, 0)", None).unwrap();
-//! assert_eq!(list.to_string(), "n=3 s(1,1,70) d(0,0)");
+//! let list = parse("n=5 s(1,1,70)\n# to member 0\nd(0, 0)", None).unwrap();
+//! assert_eq!(list.to_string(), "n=5 s(1,1,70) d(0,0)");
+//! assert_eq!(parse("s(1,1,70) d(0,0)", None).unwrap().to_string(), "n=3 s(1,1,70) d(0,0)");
 //! let mistake = parse("n=3\ns(1,x,70)", None).unwrap_err();
 //! assert_eq!(mistake.to_string(), "line 2, column 5: a round number is missing here");
 //! ```
@@ -30,7 +32,11 @@ impl fmt::Display for Mistake {
 
 impl std::error::Error for Mistake {}
 
-/// The list that some notation says. `members` stands in for a missing `n=`, and has to agree with one that is there.
+/// The members of a list of which nothing says how many: those of document 01's rehearsal.
+pub const MEMBERS: u32 = 3;
+
+/// The list that some notation says. `members` stands in for a missing `n=`, and has to agree with one that is there;
+/// where there is neither, the list is for [`MEMBERS`].
 pub fn parse(text: &str, members: Option<u32>) -> Result<EventList, Mistake> {
     let mut reader = Reader { rest: text, line: 1, column: 1 };
     let mut list = EventList::new(head(&mut reader, members)?);
@@ -40,12 +46,12 @@ pub fn parse(text: &str, members: Option<u32>) -> Result<EventList, Mistake> {
     Ok(list)
 }
 
-/// `n=3`, or the number of members from elsewhere.
+/// `n=5`, or the number of members from elsewhere.
 fn head(reader: &mut Reader, members: Option<u32>) -> Result<u32, Mistake> {
     reader.skip_blanks();
     let before = reader.clone();
     if !reader.take('n') {
-        return members.ok_or_else(|| reader.mistake("the number of members isn't given; write n=3 in front"));
+        return Ok(members.unwrap_or(MEMBERS));
     }
     reader.expect('=', "after n")?;
     let n = reader.number("number of members")?;

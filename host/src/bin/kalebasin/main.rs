@@ -11,8 +11,8 @@ kalebasin: tools for the rig
 
 usage: kalebasin COMMAND [OPTIONS] [FILE]
 
-A list is written  n=3 s(1,1,70) d(0,0)  : n= is the number of members, s(member,round,offer) starts a round, and
-d(message,member) delivers a message sent earlier, counted from 0. # starts a comment.
+A list is written  s(1,1,70) d(0,0)  : s(member,round,offer) starts a round, and d(message,member) delivers a message
+sent earlier, counted from 0. The office has 3 members; n=5 or n=7 in front gives it more. # starts a comment.
 
 Commands
   run       runs a list, explains it event by event and draws the tree
@@ -30,7 +30,7 @@ Without FILE, or where it is -, standard input is read.
 
 Options
   -e TEXT           the list's notation, instead of FILE
-  --members N       the number of members where the notation has no n=; for search: only lists for N members
+  --members N       the number of members where the notation has no n= (3); for search: only lists for N members
   --bytes           run, draw, search: FILE holds the bytes of a list, not notation
   --hex             encode, decode, rehearse: the bytes are written in hexadecimal digits
   --store-rows R    rows of the store, 1 to 2000 (1000)
@@ -48,7 +48,7 @@ Exit status: 0 done; 1 the list is refused, a property fails, or an answer isn't
 notation or the command.
 
 Try
-  kalebasin run -e 'n=3 s(1,1,70) d(0,0) d(0,1) d(1,1) d(2,1) d(3,0) d(3,1) d(4,1) d(5,1)'
+  kalebasin run -e 's(1,1,70) d(0,0) d(0,1) d(1,1) d(2,1) d(3,0) d(3,1) d(4,1) d(5,1)'
   kalebasin search --property no-late-decision
 ";
 
