@@ -299,34 +299,46 @@ fn compare_all(_: &Options) -> Outcome {
     Err("compare needs the proved core, and this program was built without it".into())
 }
 
-/// The whole comparison of the core with the second implementation, with as many random lists as asked for.
+/// The comparison of the core with the second implementation: whole or its random parts, with as many random lists as
+/// asked for.
 #[cfg(feature = "core")]
 fn compare_all(options: &Options) -> Outcome {
-    use kalebasin::rig::suite::{self, Compared, Pair};
-    let pair: Pair = [&kalebasin::proved::CALLS, &second::CALLS];
-    let (seed, lists) = (options.seed, options.lists as usize);
-    let mut reporter = Reporter::new(options.lists);
-    let mut tell = |lists: usize| reporter.tell(&Progress { lists: lists as u64, ..Progress::default() });
-    let parts: &mut [(&str, &mut dyn FnMut() -> Compared)] = &mut [
-        ("every list of up to four events", &mut || suite::short_lists(pair)),
-        ("every three events after each part of the rehearsal", &mut || suite::rehearsal_tails(pair)),
-        ("every damaged byte of some lists", &mut || suite::damaged_lists(pair)),
-        ("every small byte string as a list", &mut || suite::small_list_bytes(pair)),
-        ("every small message and every damaged byte", &mut || suite::messages(pair)),
-        ("every small table", &mut || suite::small_tables(pair)),
-        ("random trees", &mut || suite::random_trees(pair, seed, lists / 5)),
-        ("random lists", &mut || suite::random_lists(pair, seed, lists, &mut tell)),
+    use kalebasin::rig::suite;
+    let pair: suite::Pair = [&kalebasin::proved::CALLS, &second::CALLS];
+    let every: [(&str, fn(suite::Pair) -> suite::Compared); 6] = [
+        ("every list of up to four events", suite::short_lists),
+        ("every three events after each part of the rehearsal", suite::rehearsal_tails),
+        ("every damaged byte of some lists", suite::damaged_lists),
+        ("every small byte string as a list", suite::small_list_bytes),
+        ("every small message and every damaged byte", suite::messages),
+        ("every small table", suite::small_tables),
     ];
-    for (what, part) in parts {
-        match part() {
-            Ok(calls) => println!("{what}: {calls} calls, no difference"),
-            Err(report) => {
-                println!("{what}: {report}");
-                return failed();
-            }
-        }
+    let lists = options.lists as usize;
+    let random_lists = || {
+        let mut reporter = Reporter::new(options.lists);
+        let mut tell = |lists: usize| reporter.tell(&Progress { lists: lists as u64, ..Progress::default() });
+        let compared = suite::random_lists(pair, options.seed, lists, &mut tell);
+        reporter.end();
+        compared
+    };
+    let all_same = (options.random || every.iter().all(|(what, part)| same(what, part(pair))))
+        && same("random trees", suite::random_trees(pair, options.seed, lists / 5))
+        && same("random lists", random_lists());
+    if all_same {
+        done()
+    } else {
+        failed()
     }
-    done()
+}
+
+/// Says how a part of the comparison went; whether there was no difference.
+#[cfg(feature = "core")]
+fn same(what: &str, compared: kalebasin::rig::suite::Compared) -> bool {
+    match &compared {
+        Ok(calls) => println!("{what}: {calls} calls, no difference"),
+        Err(report) => println!("{what}: {report}"),
+    }
+    compared.is_ok()
 }
 
 /// Says once a second on standard error how far a search is.

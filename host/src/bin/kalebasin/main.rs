@@ -40,6 +40,7 @@ Options
   --svg FILE        run: writes the tree to FILE as a picture
   --seed S          search, compare: another seed gives other lists (1)
   --lists L         search, compare: how many random lists to try (100000)
+  --random          compare: only the random trees and lists, for another seed or more of them
   --property NAME   search: a property to try, any number of times; --property list shows them all
   --second          works on the second implementation instead of the proved core
   --help            prints this

@@ -18,6 +18,7 @@ pub struct Options {
     pub seed: u64,
     pub lists: u64,
     pub properties: Vec<String>,
+    pub random: bool,
     pub second: bool,
 }
 
@@ -38,6 +39,7 @@ impl Options {
             seed: 1,
             lists: 100_000,
             properties: Vec::new(),
+            random: false,
             second: false,
         }
     }
@@ -52,6 +54,7 @@ impl Options {
                 "-h" | "--help" | "help" => return Ok(None),
                 "--bytes" => options.bytes = true,
                 "--hex" => options.hex = true,
+                "--random" => options.random = true,
                 "--second" => options.second = true,
                 name if name.starts_with('-') && name.len() > 1 => {
                     let value = args.next().ok_or(format!("{name} needs a value; see --help"))?;
