@@ -2,9 +2,11 @@
 
 #![cfg(feature = "core")]
 
+use kalebasin::rig::random::Random;
 use kalebasin::rig::suite::{self, Compared, REHEARSAL};
-use kalebasin::rig::{notation, rehearsal};
-use kalebasin::{ffi, number_of, proved, second, Calls, Message, Refusal};
+use kalebasin::rig::{generate, notation, rehearsal};
+use kalebasin::{ffi, number_of, proved, second, Calls, EventList, Message, Refusal, Round};
+use kalebasin::{STORE_ROW, STORE_ROWS, TABLE_ROW, TABLE_ROWS};
 
 const PAIR: [&Calls; 2] = [&proved::CALLS, &second::CALLS];
 
@@ -117,4 +119,42 @@ fn refused_results_field_by_field() {
     };
     assert_eq!(played, ffi::PlayResult { number: 27, accepted: 0, messages: 0, proposals: 0, decisions: 0 });
     assert_eq!(path, ffi::PathResult { number: 2, count: 0 });
+}
+
+/// Runs some work on a thread whose whole stack is 64 KiB; more than that ends the program.
+fn on_a_small_stack<T: Send>(work: impl FnOnce() -> T + Send) -> T {
+    std::thread::scope(|scope| {
+        let thread = std::thread::Builder::new().stack_size(64 * 1024).spawn_scoped(scope, work);
+        thread.unwrap().join().unwrap()
+    })
+}
+
+/// The largest play, of any order: 1,000 events, seven members, 2,000 store rows, 256 table rows.
+#[test]
+fn the_largest_play_on_a_stack_of_64_kib() {
+    let list = generate::list(&mut Random::new(5), 7, EventList::MOST, STORE_ROWS, TABLE_ROWS).to_bytes();
+    let lent = || (vec![1; STORE_ROWS * STORE_ROW], vec![1; TABLE_ROWS * TABLE_ROW], vec![1; EventList::MOST]);
+    let play = |calls: &Calls, (store, table, answers): &mut (Vec<u8>, Vec<u64>, Vec<u8>)| {
+        (calls.play)(&list, store, table, answers).unwrap()
+    };
+    let (mut left, mut expected) = (lent(), lent());
+    let played = on_a_small_stack(|| play(&proved::CALLS, &mut left));
+    assert_eq!((played, &left), (play(&second::CALLS, &mut expected), &expected));
+    assert!(played.accepted > 900 && played.proposals > 30 && played.decisions > 1, "{played:?}");
+}
+
+/// The deepest recursion of the core: a path of 256 rounds.
+#[test]
+fn the_longest_path_on_a_stack_of_64_kib() {
+    let (mut table, mut path) = (vec![1; TABLE_ROWS * TABLE_ROW], vec![0; TABLE_ROWS]);
+    let count = on_a_small_stack(|| {
+        proved::tree_fresh(&mut table)?;
+        for round in 1..TABLE_ROWS as u32 {
+            proved::tree_add(&mut table, Round(round), 70, Round(round - 1))?;
+            proved::tree_commit(&mut table, Round(round))?;
+        }
+        proved::tree_path(&table, Round(TABLE_ROWS as u32 - 1), &mut path)
+    });
+    assert_eq!(count, Ok(TABLE_ROWS));
+    assert!(path.iter().copied().eq(0..TABLE_ROWS as u64));
 }
