@@ -1,14 +1,38 @@
 #!/usr/bin/env bash
-# host/include/kalebasin.h fits the archive: a C program over it calls each function. It needs a C compiler, which .ci/run installs where
-# it is missing.
+# The archive as a C program sees it: host/include/kalebasin.h fits it, and it asks its host for functions that copy, fill or compare memory
+# and for nothing else, so for no heap. It needs a C compiler and nm, which .ci/run installs where they are missing.
 cd "$(dirname "$0")/.." || exit 2
 work=$(mktemp -d)
 trap 'rm -rf "$work"' EXIT
-if rt staticlib exports &&
-    cc -std=c11 -Wall -Wextra -Werror -pedantic -Ihost/include -o "$work/header" tests/header.c target/staticlib/libexports.a && "$work/header"; then
-    echo "1 passed, 0 failed"
-else
-    echo "header: host/include/kalebasin.h and the archive differ"
-    echo "0 passed, 1 failed"
-    exit 1
-fi
+archive=target/staticlib/libexports.a
+passed=0
+failed=0
+
+# Counts a command; where it fails, says what that means.
+check() {
+    local what=$1
+    shift
+    if "$@"; then
+        passed=$((passed + 1))
+    else
+        echo "header: $what"
+        failed=$((failed + 1))
+    fi
+}
+
+# A C program over the header calls each function.
+fits() {
+    rt staticlib exports &&
+        cc -std=c11 -Wall -Wextra -Werror -pedantic -Ihost/include -o "$work/header" tests/header.c "$archive" && "$work/header"
+}
+
+# The names that the archive leaves to its host.
+asks_for_memory_functions_alone() {
+    nm -u "$archive" >"$work/asked" && awk 'NF == 2 { print $2 }' "$work/asked" >"$work/names" &&
+        ! grep -vxE 'memcpy|memmove|memset|memcmp|bcmp' "$work/names"
+}
+
+check "host/include/kalebasin.h and the archive differ" fits
+check "the archive asks for the functions above" asks_for_memory_functions_alone
+echo "$passed passed, $failed failed"
+[ "$failed" -eq 0 ]
