@@ -303,9 +303,10 @@ fn compare_all(_: &Options) -> Outcome {
 /// asked for.
 #[cfg(feature = "core")]
 fn compare_all(options: &Options) -> Outcome {
-    use kalebasin::rig::suite;
-    let pair: suite::Pair = [&kalebasin::proved::CALLS, &second::CALLS];
-    let every: [(&str, fn(suite::Pair) -> suite::Compared); 6] = [
+    use kalebasin::rig::suite::{self, Compared, Pair};
+    type Part = fn(Pair) -> Compared;
+    let pair: Pair = [&kalebasin::proved::CALLS, &second::CALLS];
+    let every: [(&str, Part); 6] = [
         ("every list of up to four events", suite::short_lists),
         ("every three events after each part of the rehearsal", suite::rehearsal_tails),
         ("every damaged byte of some lists", suite::damaged_lists),
