@@ -4,7 +4,7 @@
 
 use std::fs;
 use std::path::{Path, PathBuf};
-use std::process::Command;
+use std::process::{Child, Command, Stdio};
 
 /// A fault: its name, the file, the text there and what stands in its place.
 struct Fault(&'static str, &'static str, &'static str, &'static str);
@@ -131,10 +131,16 @@ fn build(source: &Path, folder: &Path) -> PathBuf {
     folder.join("compare")
 }
 
+/// Starts the comparison of a fault.
+fn start(program: &Path, number: usize) -> Child {
+    let mut command = Command::new(program);
+    command.arg(number.to_string()).stdout(Stdio::piped()).stderr(Stdio::piped()).spawn().unwrap()
+}
+
 /// What the comparison reports of a fault.
-fn report(program: &Path, number: usize) -> String {
-    let output = Command::new(program).arg(number.to_string()).output().unwrap();
-    assert!(output.status.success(), "{}\n{}", FAULTS[number].0, String::from_utf8_lossy(&output.stderr));
+fn report(name: &str, started: Child) -> String {
+    let output = started.wait_with_output().unwrap();
+    assert!(output.status.success(), "{name}\n{}", String::from_utf8_lossy(&output.stderr));
     String::from_utf8(output.stdout).unwrap()
 }
 
@@ -142,8 +148,9 @@ fn report(program: &Path, number: usize) -> String {
 fn each_fault_is_found() {
     let source = PathBuf::from(env!("CARGO_MANIFEST_DIR")).join("src");
     let program = build(&source, &PathBuf::from(env!("CARGO_TARGET_TMPDIR")).join("teeth"));
-    for (number, Fault(name, _, old, _)) in FAULTS.iter().enumerate() {
-        let report = report(&program, number);
+    let started: Vec<Child> = (0..FAULTS.len()).map(|number| start(&program, number)).collect();
+    for (started, Fault(name, _, old, _)) in started.into_iter().zip(FAULTS) {
+        let report = report(name, started);
         println!("{name}:\n{report}");
         assert_eq!(report.is_empty(), old.is_empty(), "{name}: {report}");
     }
