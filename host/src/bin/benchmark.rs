@@ -1,12 +1,15 @@
 //! Measures the proved core side by side with the second implementation and prints a table in markdown.
 //!
-//! Run it with `cargo run --release --bin benchmark`.
+//! Run it with `cargo run --release --bin benchmark`. `benchmark --add ROWS SHAPE CALLS` makes so many checked adds of the
+//! core and nothing else, for a tool that counts instructions: SHAPE is `path` or `star`, of a tree that fills all rows but
+//! one.
 
 use kalebasin::rig::generate;
 use kalebasin::rig::random::Random;
 use kalebasin::rig::suite::valid_messages;
-use kalebasin::{second, Calls, Event, EventList, Member, MessageNumber, Round, STORE_ROW, TABLE_ROW};
+use kalebasin::{second, Calls, Event, EventList, Member, MessageNumber, Round, STORE_ROW, TABLE_ROW, TABLE_ROWS};
 use std::hint::black_box;
+use std::process::ExitCode;
 use std::time::Instant;
 
 /// Samples of each measure; the median counts.
@@ -32,14 +35,54 @@ struct Row {
     nanoseconds: Vec<f64>,
 }
 
-fn main() {
-    let rows = [play_rows(), reader_rows(), add_rows("one path", path_tree), add_rows("all below the root", star_tree)];
-    println!("{}, {}, release build.", processor(), std::env::consts::ARCH);
-    println!("Medians of {SAMPLES} samples, each of as many calls as take about {} µs.", SAMPLE_NANOSECONDS / 1000);
-    println!("Lent memory isn't cleared between calls: play clears store and table itself, and that is in its time.");
-    println!("Before each add the table is copied from a tree with one free row, and that is in its time.");
+impl Row {
+    /// The core's time, where the second implementation's is 1.
+    fn ratio(&self) -> Option<f64> {
+        match self.nanoseconds[..] {
+            [core, second] => Some(core / second),
+            _ => None,
+        }
+    }
+}
+
+fn main() -> ExitCode {
+    let args: Vec<String> = std::env::args().skip(1).collect();
+    match args.iter().map(String::as_str).collect::<Vec<_>>()[..] {
+        [] => print_times(),
+        ["--add", rows, shape, calls] if add_many(rows, shape, calls).is_some() => {}
+        _ => {
+            eprintln!("usage: benchmark, or benchmark --add ROWS SHAPE CALLS: 3 to 256 rows, shape path or star");
+            return ExitCode::from(2);
+        }
+    }
+    ExitCode::SUCCESS
+}
+
+/// Measures all and prints it, a page in markdown.
+fn print_times() {
+    let adds = [add_rows("one path", path_tree), add_rows("all below the root", star_tree)].concat();
+    let groups = [("play", play_rows()), ("the reader", reader_rows()), ("the checked add", adds)];
+    print_conditions();
     println!();
-    print_table(&rows.concat());
+    print_table(&groups.each_ref().map(|(_, rows)| &rows[..]).concat());
+    if implementations().len() > 1 {
+        println!("\nOf the plain Rust's time: {}.", groups.each_ref().map(|(name, rows)| range(name, rows)).join(", "));
+    }
+}
+
+fn print_conditions() {
+    let cores = std::thread::available_parallelism().map_or(1, |cores| cores.get());
+    println!("- {}, {}, {cores} cores, release builds.", processor(), std::env::consts::ARCH);
+    println!(
+        "- Medians of {SAMPLES} samples, the two sides in turns, each sample of as many calls as take about {} µs.",
+        SAMPLE_NANOSECONDS / 1000
+    );
+    println!("- Buffers aren't cleared before a call. Play clears the store and makes the table fresh, in its time.");
+    println!(
+        "- Before each add the table is copied from a tree with one free row, in the add's time. Each add checks that"
+    );
+    println!("  the table is a tree.");
+    println!("- The reader is measured as the C function, without the step to the host's enum.");
 }
 
 fn processor() -> String {
@@ -55,12 +98,15 @@ fn print_table(rows: &[Row]) {
     println!("|---|{}", "---:|".repeat(names.len() + names.len() / 2));
     for row in rows {
         let times: Vec<String> = row.nanoseconds.iter().map(|time| words(*time)).collect();
-        let ratio = match row.nanoseconds[..] {
-            [core, second] => format!(" {:.2} |", core / second),
-            _ => String::new(),
-        };
+        let ratio = row.ratio().map_or(String::new(), |ratio| format!(" {ratio:.2} |"));
         println!("| {} | {} |{ratio}", row.what, times.join(" | "));
     }
+}
+
+/// The least and the greatest ratio of some rows.
+fn range(name: &str, rows: &[Row]) -> String {
+    let ratios = || rows.iter().filter_map(Row::ratio);
+    format!("{name} {:.2} to {:.2}", ratios().fold(f64::INFINITY, f64::min), ratios().fold(0.0, f64::max))
 }
 
 fn words(nanoseconds: f64) -> String {
@@ -207,6 +253,15 @@ type Tree = fn(usize) -> (Vec<u64>, u32);
 fn add_rows(shape: &str, tree: Tree) -> Vec<Row> {
     let works = |rows| implementations().iter().map(|calls| add_work(calls, rows, tree)).collect();
     [16, 64, 256].into_iter().map(|rows| measure(format!("checked add, {rows} rows, {shape}"), works(rows))).collect()
+}
+
+/// Makes checked adds of the first implementation; none where the arguments are wrong.
+fn add_many(rows: &str, shape: &str, calls: &str) -> Option<()> {
+    let tree = [("path", path_tree as Tree), ("star", star_tree)].into_iter().find(|(name, _)| *name == shape)?.1;
+    let rows = rows.parse().ok().filter(|rows| (3..=TABLE_ROWS).contains(rows))?;
+    let mut work = add_work(&implementations()[0], rows, tree);
+    (0..calls.parse().ok()?).for_each(|_: u32| work());
+    Some(())
 }
 
 fn add_work(calls: &Calls, rows: usize, tree: Tree) -> Work {
