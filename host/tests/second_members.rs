@@ -1,10 +1,12 @@
 //! The second implementation's members against document 01: soundness field by field, each row of the member table,
 //! and that a refused step changes nothing.
 
+use kalebasin::rig::notation::parse;
+use kalebasin::rig::suite::REHEARSAL;
 use kalebasin::second::member::{deliver, fresh, start, Record, COLLECTING, DECIDED, PROPOSED};
-use kalebasin::second::member::{Decision, Proposal};
+use kalebasin::second::member::{Decision, Proposal, Step};
 use kalebasin::second::message::{read, write};
-use kalebasin::{number_of, Member, Message, Refusal, Round, Vote};
+use kalebasin::{number_of, Event, Member, Message, Refusal, Round, Vote};
 
 fn member(number: u32) -> Record {
     fresh(Member(number), 3).unwrap()
@@ -209,4 +211,44 @@ fn vote_messages() {
 #[test]
 fn quorums() {
     assert_eq!([3, 5, 7].map(kalebasin::second::member::quorum), [2, 3, 4]);
+}
+
+/// A step's line as the program `contest` prints it: the number, the message sent, what is proposed or decided.
+fn line(answer: Result<Step, Refusal>) -> String {
+    let mut line = number_of(&answer).to_string();
+    let Ok(step) = answer else { return line };
+    if let Some(message) = step.sent {
+        let (name, numbers) = match message {
+            Message::Start { .. } => ("START", String::new()),
+            Message::Join { vote: None, .. } => ("JOIN", String::new()),
+            Message::Join { vote: Some(vote), .. } => ("JOIN", format!(" {} {}", vote.round, vote.value)),
+            Message::Propose { value, .. } => ("PROPOSE", format!(" {value}")),
+            Message::Vote { .. } => ("VOTE", String::new()),
+        };
+        line += &format!(" {name} {} {}{numbers}", message.round(), message.sender());
+    }
+    if let Some(Proposal { round, value, parent }) = step.proposal {
+        line += &format!(" add {round} {value} {parent}");
+    }
+    if let Some(Decision { round, value }) = step.decision {
+        line += &format!(" commit {round} {value}");
+    }
+    line
+}
+
+/// The program `contest` takes the proved member steps through the rehearsal; these steps give each of its lines.
+#[test]
+fn the_program_contest() {
+    let mut members = [0, 1, 2].map(member);
+    let (mut sent, mut lines) = (Vec::new(), String::new());
+    for event in parse(REHEARSAL, None).unwrap().events {
+        let record = &mut members[event.member().0 as usize];
+        let answer = match event {
+            Event::Start { round, offer, .. } => record.start(round, offer),
+            Event::Deliver { message, .. } => record.deliver(&sent[message.0 as usize]),
+        };
+        sent.extend(answer.ok().and_then(|step| step.sent));
+        lines += &(line(answer) + "\n");
+    }
+    assert_eq!(lines, include_str!("../../crates/contest/stdout"));
 }
