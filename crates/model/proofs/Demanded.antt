@@ -4,9 +4,11 @@ use mathlib.Core.Path.{_≡_, refl, sym, _∙_}
 use mathlib.Core.Bool.{true}
 use mathlib.Core.List.{List, List·Memᴰ·tail as there}
 use Prim.Native.Nat.{ℕ, _<_}
+use lib.ListN.{length}
 use borrow.Author.Tests.{eqb-true}
 use Rattle.laws.specs.Lists.{_∈_}
 use Rattle.quorum_tree.specs.Machine.{Call, Node, COMMITTED, fresh, after}
+use Rattle.quorum_tree.specs.Table.{table}
 use Rattle.quorum_tree.specs.Properties.{Properties, InRange, AllOk, adds-in, history}
 use Rattle.quorum_tree.proofs.Calls.{commits-intro}
 use Rattle.quorum_tree.proofs.Rebuilt.{made, in-added, history-committed, round-positive}
@@ -17,6 +19,7 @@ use Rattle.member.specs.Record.{allowed}
 use Rattle.member.specs.Table.{decision}
 use Rattle.model.specs.Model.{Sizes, Event, first-office, offered}
 use Rattle.model.specs.Demand.{calls, ended, Demand}
+use Rattle.model.specs.Counts.{tree}
 use Rattle.model.proofs.Made.{adds-in-calls, proposal-call, decision-call}
 use Rattle.model.proofs.Invariant.{Added, MadeSo}
 use Rattle.model.proofs.Events.{holds}
@@ -57,9 +60,11 @@ module _ (z : Sizes) (es : List Event) (ok : allowed (z .n) ≡ true) where
         f (made h r x (a .parent)) (rw (tree-told .nodes) (there (in-added h h (proposal-call (ended z es .made) (a .is-made)))))
         (eqb-true (history h r) COMMITTED (history-committed h r pos ∙ commits-intro h (decision-call (ended z es .made) i))) pos refl
 
-    pub demand : Demand z es
-    demand = record {
+    -- given that the table left is the tree of what the model made
+    pub demand : (left : List ℕ) → left ≡ table (length left) (tree z (ended z es)) → Demand z es left
+    demand left t = record {
       ok = all-ok;
+      table-is = t;
       equal = λ r x s y i j. decided-node r x i (λ n k c p e. decided-node s y j (λ n′ k′ c′ p′ e′.
           sym e ∙ agreement (z .table) (calls (ended z es .made)) n n′ k k′ c c′ p p′ ∙ e′));
       earlier = λ pre post r x e i. offered-before pre r x i;

@@ -3,8 +3,11 @@ use mathlib.Core.Path.{_≡_}
 use mathlib.Core.Bool.{true}
 use mathlib.Core.List.{List, [], _∷_, _++_}
 use Prim.Native.Nat.{ℕ}
+use lib.ListN.{length}
 use Rattle.laws.specs.Lists.{_∈_}
-use Rattle.quorum_tree.specs.Machine.{Call, add, commit}
+use Rattle.quorum_tree.specs.Machine.{Call, add, commit, fresh}
+use Rattle.quorum_tree.specs.Machine.{after as after-calls}
+use Rattle.quorum_tree.specs.Table.{table}
 use Rattle.quorum_tree.specs.Properties.{AllOk}
 use Rattle.member.specs.Table.{Named, nothing, proposal, decision}
 use Rattle.model.specs.Model.{Sizes, Event, Office, first-office, after, offered}
@@ -20,9 +23,12 @@ calls (decision r x ∷ ns) = commit r ∷ calls ns
 abbrev pub ended : Sizes → List Event → Office
 ended z es = after z (first-office (z .n)) es
 
-pub record Demand (z : Sizes) (es : List Event) : Type 0 where
+-- `left` is the table that play leaves
+pub record Demand (z : Sizes) (es : List Event) (left : List ℕ) : Type 0 where
   -- entered in the order made into a fresh tree of the table's rows, each proposal and decision gets OK
   pub ok : AllOk true (z .table) (calls (ended z es .made))
+  -- the table left is that tree, in every row, free rows too
+  pub table-is : left ≡ table (length left) (after-calls true (z .table) fresh (calls (ended z es .made)))
   -- all decided values are equal
   pub equal : (r x s y : ℕ) → decision r x ∈ ended z es .made → decision s y ∈ ended z es .made → x ≡ y
   -- and each was offered at an accepted start earlier in the list

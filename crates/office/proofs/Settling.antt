@@ -22,7 +22,8 @@ use Rattle.model.specs.Counts.{tree, decisions}
 use Rattle.store.specs.Rows.{stored}
 use Rattle.office.specs.declared.Office.{Office}
 use Rattle.office.specs.declared.Tally.{Tally}
-use Rattle.office.specs.Standing.{Held, Lent, Reached, Stands, Next, Took, counted, office-of}
+use Rattle.office.specs.declared.Worked.{Worked}
+use Rattle.office.specs.Standing.{Held, Lent, Reached, Stands, Next, Took, counted, left, office-of}
 
 -- the record stands beside every answer
 pub state-of : (m : MemberState) (a : Answer) → answer-outcome m a .state ≡ m
@@ -59,6 +60,11 @@ set-same (x ∷ ms) (suc i) m h = ap (λ l. x ∷ l) (set-same ms i m (record { 
 pub unchanged : (z : Sizes) (o : ModelOffice) (e : Event) (t : Tally) (ms : List MemberState) (i : ℕ) (m : MemberState) (number : ℕ) (store nodes : List ℕ) →
     Held ms i m → Next z o e (office-of t ms) number store nodes → Next z o e (office-of t (set ms i m)) number store nodes
 unchanged z o e t ms i m number store nodes h N = subst (λ l. Next z o e (office-of t l) number store nodes) (sym (set-same ms i m h)) N
+
+-- what a refused event hands back
+pub as-left : (z : Sizes) (o : ModelOffice) (e : Event) (ms : List MemberState) (i : ℕ) (store nodes : List ℕ) (w : Worked) {m : MemberState} {t : Tally} {number : ℕ} →
+    w ≡ left m t number → Next z o e (office-of t (set ms i m)) number store nodes → Next z o e (office-of (w .tally) (set ms i (w .state))) (w .number) store nodes
+as-left z o e ms i store nodes w q N = subst (λ (v : Worked). Next z o e (office-of (v .tally) (set ms i (v .state))) (v .number) store nodes) (sym q) N
 
 -- a refused event changes nothing
 pub stays : (z : Sizes) (o : ModelOffice) (e : Event) (k : Office) (number : ℕ) (store nodes : List ℕ) → Stands z o k store nodes →

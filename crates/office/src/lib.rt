@@ -13,7 +13,7 @@ ghost use Rattle.member.specs.Record.{fresh};
 ghost use Rattle.member.specs.Answers.{outcome};
 ghost use Rattle.model.specs.Model.{member-number, at-member, start, deliver};
 ghost use Rattle.events.specs.Value.{model-event};
-ghost use Rattle.office.specs.Standing.{Seated, Faced, Works, Settles, fresh-office, counted, place-of};
+ghost use Rattle.office.specs.Standing.{Seated, Faced, Works, Settles, fresh-office, counted, left, store-full, place-of};
 
 // N, and how many messages were sent, proposals and decisions made.
 pub struct Tally {
@@ -105,6 +105,24 @@ fn counted(tally: Tally, sent: usize, proposals: usize, decisions: usize) -> Tal
     }
 }
 
+// A refused event leaves the record and the tally.
+fn left(m: MemberState, tally: Tally, number: u8) -> Worked
+    ensures { λ w. ⌜ w ≡ left m tally number ⌝ }
+{
+    Worked {
+        state: m,
+        tally,
+        number,
+    }
+}
+
+// Whether the messages sent fill the store.
+fn store_full(tally: Tally, messages: &[u8]) -> bool
+    ensures { λ b. ⌜ b ≡ store-full tally (now (messages .entry)) ⌝ }
+{
+    messages.len() / store::ROW <= tally.sent
+}
+
 // What becomes of a step of the member with record m: its number, or what it sends and names.
 fn settle(tally: Tally, m: MemberState, s: Step, messages: &mut [u8], nodes: &mut [u64]) -> Worked
     requires { ⌜ Faced tally m (outcome s) (now messages) (now nodes) ⌝ }
@@ -113,23 +131,15 @@ fn settle(tally: Tally, m: MemberState, s: Step, messages: &mut [u8], nodes: &mu
     let state = s.state;
     let a = s.answer;
     match a {
-        Answer::Refused(k) => Worked {
-            state: m,
-            tally,
-            number: member::number(k) as u8,
-        },
+        Answer::Refused(k) => left(m, tally, member::number(k) as u8),
         Answer::Done => Worked {
             state,
             tally,
             number: 0,
         },
         Answer::Sent(g) => {
-            if messages.len() / store::ROW <= tally.sent {
-                return Worked {
-                    state: m,
-                    tally,
-                    number: 30,
-                };
+            if store_full(tally, messages) {
+                return left(m, tally, 30);
             }
             store::put(messages, tally.sent, g);
             Worked {
@@ -144,19 +154,11 @@ fn settle(tally: Tally, m: MemberState, s: Step, messages: &mut [u8], nodes: &mu
             value,
             parent,
         } => {
-            if messages.len() / store::ROW <= tally.sent {
-                return Worked {
-                    state: m,
-                    tally,
-                    number: 30,
-                };
+            if store_full(tally, messages) {
+                return left(m, tally, 30);
             }
             if nodes.len() / 4 <= tally.proposals + 1 {
-                return Worked {
-                    state: m,
-                    tally,
-                    number: 9,
-                };
+                return left(m, tally, 9);
             }
             store::put(messages, tally.sent, sent);
             tree::add_in_tree(nodes, round, value, parent);
@@ -191,11 +193,7 @@ fn work_start(
     ensures { λ w. ⌜ Works tally m (start (member .0) (round .0) offer) (now (messages .entry)) (now (nodes .entry)) (w .state) (w .tally) (w .number) (now (messages .exit)) (now (nodes .exit)) ⌝ }
 {
     if tally.n <= member.0 {
-        return Worked {
-            state: m,
-            tally,
-            number: 29,
-        };
+        return left(m, tally, 29);
     }
     let s = member::start_sound(m, round, offer);
     settle(tally, m, s, messages, nodes)
@@ -214,27 +212,15 @@ fn work_deliver(
     ensures { λ w. ⌜ Works tally m (deliver message (member .0)) (now (messages .entry)) (now (nodes .entry)) (w .state) (w .tally) (w .number) (now (messages .exit)) (now (nodes .exit)) ⌝ }
 {
     if tally.n <= member.0 {
-        return Worked {
-            state: m,
-            tally,
-            number: 29,
-        };
+        return left(m, tally, 29);
     }
     let row = message as usize;
     if tally.sent <= row {
-        return Worked {
-            state: m,
-            tally,
-            number: 29,
-        };
+        return left(m, tally, 29);
     }
     let got = store::fetch(messages, row);
     match got {
-        Read::Refused(f) => Worked {
-            state: m,
-            tally,
-            number: message::number(f) as u8,
-        },
+        Read::Refused(f) => left(m, tally, message::number(f) as u8),
         Read::Got(g) => {
             let s = member::deliver_sound(m, g);
             settle(tally, m, s, messages, nodes)

@@ -111,6 +111,8 @@ module _ (list store ws answered : List ℕ) where
                   proposals-made = subst (λ y. c .proposals ≡ proposals (ended y es .made)) e (W .proposals-made);
                   decisions-made = subst (λ y. c .decisions ≡ decisions (ended y es .made)) e (W .decisions-made);
                 } in
+                let long : length ws′ ≡ length ws =
+                ap length (U .table-is) ∙ length-table (length ws) (tree z (ended z es)) (grown-fit true ws (tree z (ended z es)) t (all-grown true (rows ws) (calls (ended z es .made)))) in
                 let held : nodes ws′ ≡ tree z (ended z es) =
                 ap nodes (U .table-is) ∙
                 nodes-table (length ws) (tree z (ended z es)) (grown-fit true ws (tree z (ended z es)) t (all-grown true (rows ws) (calls (ended z es .made))))
@@ -120,7 +122,7 @@ module _ (list store ws answered : List ℕ) where
                   taken = λ q.
                       record {
                         worked = U;
-                        demand = demand z es b (sized-rows ws t);
+                        demand = demand z es b (sized-rows ws t) ws′ (U .table-is ∙ ap (λ n. table n (tree z (ended z es))) (sym long));
                         proposals-are = ap suc (U .proposals-made) ∙ sym (ap length held ∙ nodes-counted z es b (sized-rows ws t));
                         decisions-are = ap suc (U .decisions-made) ∙ sym (ap committed-nodes held ∙ committed-counted z es b (sized-rows ws t));
                       };

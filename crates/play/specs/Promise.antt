@@ -68,7 +68,7 @@ Ran list store ws answered c store′ ws′ answered′ = Worked (sizes-of list 
 pub record Taken (list store ws answered : List ℕ) (c : Counts) (store′ ws′ answered′ : List ℕ) : Type 0 where
   pub worked : Worked (sizes-of list store ws) (events-of list) store ws answered c store′ ws′ answered′
   -- the third demand
-  pub demand : Demand (sizes-of list store ws) (events-of list)
+  pub demand : Demand (sizes-of list store ws) (events-of list) ws′
   -- proposals are the nodes less the root, decisions the COMMITTED less the root
   pub proposals-are : suc (c .proposals) ≡ length (nodes ws′)
   pub decisions-are : suc (c .decisions) ≡ committed-nodes (nodes ws′)

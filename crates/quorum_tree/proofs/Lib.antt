@@ -15,3 +15,4 @@ pub mod Fits
 pub mod Trees
 pub mod Checks
 pub mod Steps
+pub mod CallsOnWords

@@ -94,6 +94,17 @@ unfoldable pub call-table : Bool → List ℕ → Call → List ℕ
 unfolding call-number table change
 call-table valued ws c = cond (eqb (call-number valued ws c) 0) (table (length ws) (change (nodes ws) c)) ws
 
+-- a list of calls on a lent table, one after another: the numbers, and the table after
+unfoldable pub call-numbers : Bool → List ℕ → List Call → List ℕ
+unfolding call-table
+call-numbers valued ws [] = []
+call-numbers valued ws (c ∷ cs) = call-number valued ws c ∷ call-numbers valued (call-table valued ws c) cs
+
+unfoldable pub calls-table : Bool → List ℕ → List Call → List ℕ
+unfolding call-table
+calls-table valued ws [] = ws
+calls-table valued ws (c ∷ cs) = calls-table valued (call-table valued ws c) cs
+
 -- fresh checks length only
 unfoldable pub fresh-number : List ℕ → ℕ
 fresh-number ws = first (not (sized ws) gives 1 ∷ [])

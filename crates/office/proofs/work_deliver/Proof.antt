@@ -4,20 +4,29 @@ use native.Mathlib.Omega.{arith}
 use denote.Ref.{now}
 use Rattle.model.specs.Model.{deliver}
 use Rattle.office.specs.Standing.{place-of}
+use Rattle.office.proofs.Settling.{as-left}
 use Rattle.office.proofs.Working.{no-member, no-message, sound-member, row-within, read-here, never-refused, took-deliver, fault-small}
 use borrow.Author.Needs.{needs}
 use Rattle.office.proofs.work_deliver.Statement.{statement}
 use Rattle.office.proofs.work_deliver.Tie as tie
 
+left-requires : tie.Need-left-requires
+left-requires c κs = search needs
+
 returns : tie.Need-returns
 returns c =
     λ ms z o H L R S.
-    no-member z o (c .before .before .before .before .before .args .tally) ms (now (c .before .before .before .before .before .args .messages)) (now (c .before .before .before .before .before .args .nodes)) L R S (deliver (c .before .before .before .before .before .args .message) (c .before .before .before .before .before .args .member .0)) (c .before .before .before .before .before .args .m) H (c .if1 .taken)
+    as-left z o (deliver (c .before .before .before .before .before .before .args .message) (c .before .before .before .before .before .before .args .member .0)) ms (place-of (c .before .before .before .before .before .before .args .member .0)) (now (c .before .before .before .before .before .before .args .messages)) (now (c .before .before .before .before .before .before .args .nodes)) _ (c .left .ensures)
+    (no-member z o (c .before .before .before .before .before .before .args .tally) ms (now (c .before .before .before .before .before .before .args .messages)) (now (c .before .before .before .before .before .before .args .nodes)) L R S (deliver (c .before .before .before .before .before .before .args .message) (c .before .before .before .before .before .before .args .member .0)) (c .before .before .before .before .before .before .args .m) H (c .before .if1 .taken))
+
+left-requires-2 : tie.Need-left-requires-2
+left-requires-2 c κs = search needs
 
 returns-2 : tie.Need-returns-2
 returns-2 c =
     λ ms z o H L R S.
-    no-message z o (c .before .before .before .before .before .before .before .args .tally) ms (now (c .before .before .before .before .before .before .before .args .messages)) (now (c .before .before .before .before .before .before .before .args .nodes)) L R S (c .before .before .before .before .before .before .before .args .message) (c .before .before .before .before .before .before .before .args .member .0) (c .before .before .before .before .before .before .before .args .m) H (c .before .before .if1 .left) (c .if2 .taken)
+    as-left z o (deliver (c .before .before .before .before .before .before .before .before .args .message) (c .before .before .before .before .before .before .before .before .args .member .0)) ms (place-of (c .before .before .before .before .before .before .before .before .args .member .0)) (now (c .before .before .before .before .before .before .before .before .args .messages)) (now (c .before .before .before .before .before .before .before .before .args .nodes)) _ (c .left2 .ensures)
+    (no-message z o (c .before .before .before .before .before .before .before .before .args .tally) ms (now (c .before .before .before .before .before .before .before .before .args .messages)) (now (c .before .before .before .before .before .before .before .before .args .nodes)) L R S (c .before .before .before .before .before .before .before .before .args .message) (c .before .before .before .before .before .before .before .before .args .member .0) (c .before .before .before .before .before .before .before .before .args .m) H (c .before .before .before .if1 .left) (c .before .if2 .taken))
 
 fetch-requires : tie.Need-fetch-requires
 fetch-requires c κs =
@@ -29,9 +38,12 @@ enum-known-got c = search needs
 number-requires : tie.Need-number-requires
 number-requires c κs = search needs
 
-cast-t17 : tie.Need-cast-t17
-cast-t17 c =
+cast-left : tie.Need-cast-left
+cast-left c =
     omega (arith, c .number .ensures, fault-small (c .before .before .got .given .0 .0))
+
+left-requires-3 : tie.Need-left-requires-3
+left-requires-3 c κs = search needs
 
 enum-known-got-2 : tie.Need-enum-known-got-2
 enum-known-got-2 c = search needs
@@ -57,7 +69,7 @@ same-length c = search needs
 returns-3 : tie.Need-returns-3
 returns-3 c =
     λ ms z o H L R S.
-    never-refused z o (c .before .before .before .before .before .before .before .before .before .before .before .before .before .args .tally) ms (now (c .before .before .before .before .before .before .before .before .before .before .before .before .before .args .messages)) (now (c .before .before .before .before .before .before .before .before .before .before .before .before .before .args .nodes)) L R S (c .before .before .before .before .before .before .before .before .before .before .before .before .before .args .message) (c .before .before .before .before .before .before .if2 .left) _ (c .before .before .before .before .fetch .ensures) _ (c .before .before .got .given .1)
+    never-refused z o (c .before .before .before .before .before .before .before .before .before .before .before .before .before .before .args .tally) ms (now (c .before .before .before .before .before .before .before .before .before .before .before .before .before .before .args .messages)) (now (c .before .before .before .before .before .before .before .before .before .before .before .before .before .before .args .nodes)) L R S (c .before .before .before .before .before .before .before .before .before .before .before .before .before .before .args .message) (c .before .before .before .before .before .before .before .if2 .left) _ (c .before .before .before .before .before .fetch .ensures) _ (c .before .before .before .got .given .1)
 
 same-length-2 : tie.Need-same-length-2
 same-length-2 c = search needs
@@ -75,12 +87,15 @@ pub work-deliver-spec : {M : Type 1} → statement M
 work-deliver-spec =
     tie.close
     (tie.spec
+    left-requires
     returns
+    left-requires-2
     returns-2
     fetch-requires
     enum-known-got
     number-requires
-    cast-t17
+    cast-left
+    left-requires-3
     enum-known-got-2
     deliver-sound-requires
     settle-requires

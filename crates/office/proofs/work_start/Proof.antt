@@ -3,15 +3,20 @@ use mathlib.Core.Path.{_≡_, refl}
 use denote.Ref.{now}
 use Rattle.model.specs.Model.{start}
 use Rattle.office.specs.Standing.{place-of}
+use Rattle.office.proofs.Settling.{as-left}
 use Rattle.office.proofs.Working.{no-member, sound-member, took-start}
 use borrow.Author.Needs.{needs}
 use Rattle.office.proofs.work_start.Statement.{statement}
 use Rattle.office.proofs.work_start.Tie as tie
 
+left-requires : tie.Need-left-requires
+left-requires c κs = search needs
+
 returns : tie.Need-returns
 returns c =
     λ ms z o H L R S.
-    no-member z o (c .before .before .before .before .before .args .tally) ms (now (c .before .before .before .before .before .args .messages)) (now (c .before .before .before .before .before .args .nodes)) L R S (start (c .before .before .before .before .before .args .member .0) (c .before .before .before .before .before .args .round .0) (c .before .before .before .before .before .args .offer)) (c .before .before .before .before .before .args .m) H (c .if1 .taken)
+    as-left z o (start (c .before .before .before .before .before .before .args .member .0) (c .before .before .before .before .before .before .args .round .0) (c .before .before .before .before .before .before .args .offer)) ms (place-of (c .before .before .before .before .before .before .args .member .0)) (now (c .before .before .before .before .before .before .args .messages)) (now (c .before .before .before .before .before .before .args .nodes)) _ (c .left .ensures)
+    (no-member z o (c .before .before .before .before .before .before .args .tally) ms (now (c .before .before .before .before .before .before .args .messages)) (now (c .before .before .before .before .before .before .args .nodes)) L R S (start (c .before .before .before .before .before .before .args .member .0) (c .before .before .before .before .before .before .args .round .0) (c .before .before .before .before .before .before .args .offer)) (c .before .before .before .before .before .before .args .m) H (c .before .if1 .taken))
 
 start-sound-requires : tie.Need-start-sound-requires
 start-sound-requires c κs =
@@ -43,4 +48,11 @@ returns-2 c =
 pub work-start-spec : {M : Type 1} → statement M
 work-start-spec =
     tie.close
-    (tie.spec returns start-sound-requires settle-requires same-length same-length-2 returns-2)
+    (tie.spec
+    left-requires
+    returns
+    start-sound-requires
+    settle-requires
+    same-length
+    same-length-2
+    returns-2)
