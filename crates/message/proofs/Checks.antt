@@ -1,16 +1,19 @@
--- The messages and the lengths of the kinds, and where only the rest of the message row is open. Each goes by the tests on kind and presence. Assumes nothing.
-use mathlib.Core.Path.{_≡_, refl, sym, ap}
+-- The messages and the lengths of the kinds, and what bytes read as by kind, presence and length. Each goes by the tests on these. Assumes nothing.
+use mathlib.Core.Path.{_≡_, refl, sym, ap, _∙_}
+use mathlib.Core.Bool.{true, false, not}
 use mathlib.Core.List.{List, _++_}
 use Prim.Native.Nat.{ℕ, _≤_, _<_}
 use native.Mathlib.Omega.{arith}
-use lib.ListN.{length}
+use lib.ListN.{length, take, drop, take-append-drop}
+use lib.Seq.{length-take-le}
 use lib.Dec.{eqb, lit≤}
-use borrow.Author.Tests.{ne-eqb, le-ltb, lt-ltb, eqb-true}
-use Rattle.laws.specs.Tests.{by-test}
+use borrow.Author.Tests.{ne-eqb, eq-eqb, le-ltb, lt-ltb, eqb-true}
+use Rattle.laws.specs.Tests.{by-test, or-none}
 use Rattle.xdr.proofs.Laws.{word-at-front}
-use Rattle.message.specs.declared.Fault.the-variants.{Length}
+use Rattle.message.specs.declared.Fault.the-variants.{Length, Field}
 use Rattle.message.specs.declared.Read.the-variants.{Refused}
-use Rattle.message.specs.Reading.{inexact, size, decoded, read, read-rest}
+use Rattle.message.specs.Fields.{in-range}
+use Rattle.message.specs.Reading.{is-join, under-4, no-kind, wrong-length, wrong-presence, inexact, size, decoded, ranged, read}
 use Rattle.message.specs.Layout.{byte-count, kind, round, sender, presence, voted, voted-value, proposed}
 use Rattle.message.specs.declared.Message.{Message}
 use Rattle.message.specs.declared.Message.the-variants.{Start, Join, JoinVoted, Propose, Vote}
@@ -80,21 +83,20 @@ module _ (s : List ℕ) where
   unfolding size decoded
   size-join-least k = by-test (eqb (presence s) 1) (λ p. rw (k, p) (lit≤ tt)) (λ p. rw (k, p) (lit≤ tt))
 
-  -- the size of a whole message, whatever comes behind it
-  pub size-front : (behind : List ℕ) → length s ≡ size s → size (s ++ behind) ≡ size s
+  -- the size is told by the kind, and by the presence of a JOIN, whatever comes behind them
+  pub size-front : (behind : List ℕ) → 4 ≤ length s → (kind s ≡ 2 → 16 ≤ length s) → size (s ++ behind) ≡ size s
   unfolding size decoded
-  size-front behind e =
-      let least : 12 ≤ length s = omega (arith, size-least) in
-      let first = word-at-front s behind 0 (omega arith) in
+  size-front behind l room =
+      let first = word-at-front s behind 0 l in
       by-test (eqb (kind s) 1)
       (λ k. rw (first, k) refl)
       (λ k.
       by-test (eqb (kind s) 2)
       (λ j.
-      let room : 16 ≤ length s = omega (arith, size-join-least (eqb-true (kind s) 2 j)) in
+      let second = word-at-front s behind 12 (room (eqb-true (kind s) 2 j)) in
       by-test (eqb (presence s) 1)
-      (λ p. rw (first, word-at-front s behind 12 room, k, j, p) refl)
-      (λ p. rw (first, word-at-front s behind 12 room, k, j, p) refl))
+      (λ p. rw (first, second, k, j, p) refl)
+      (λ p. rw (first, second, k, j, p) refl))
       (λ j. by-test (eqb (kind s) 3) (λ p. rw (first, k, j, p) refl) (λ p. rw (first, k, j, p) refl)))
 
   -- a JOIN under 16 has the wrong length, whatever would be its presence
@@ -102,15 +104,50 @@ module _ (s : List ℕ) where
   unfolding read
   join-short k l h = simp (k, le-ltb (length s) 4 l, lt-ltb (length s) 16 h)
 
-  -- of a JOIN with its presence word the rest is open where that is 0 or 1
-  pub join-rest : kind s ≡ 2 → 16 ≤ length s → presence s ≤ 1 → read s ≡ read-rest s
-  unfolding read read-rest
-  join-rest k l p = simp (k, le-ltb (length s) 4 (omega arith), le-ltb (length s) 16 l, le-ltb 1 (presence s) p)
+  -- then the presence is 0 or 1
+  pub join-neither : kind s ≡ 2 → 16 ≤ length s → 1 < presence s → read s ≡ Refused Field
+  unfolding read
+  join-neither k l p = simp (k, le-ltb (length s) 4 (omega arith), le-ltb (length s) 16 l, lt-ltb 1 (presence s) p)
 
-  -- of the other kinds every wrong length is the same fault
-  pub other-rest : (k : ℕ) → k ≡ kind s → 4 ≤ length s → (k ≡ 0 → ⊥) → k ≤ 4 → (k ≡ 2 → ⊥) → read s ≡ read-rest s
-  unfolding read read-rest
-  other-rest k e l n m j =
-      by-test (inexact s)
-      (λ t. simp (sym e, le-ltb (length s) 4 l, ne-eqb k 0 n, le-ltb 4 k m, ne-eqb k 2 j, t))
-      (λ t. simp (sym e, le-ltb (length s) 4 l, ne-eqb k 0 n, le-ltb 4 k m, ne-eqb k 2 j, t))
+  -- kind and presence are right
+  pub record Known : Type 0 where
+    pub low : 1 ≤ kind s
+    pub high : kind s ≤ 4
+    pub present : wrong-presence s ≡ false
+
+  known : Known → no-kind s ≡ false
+  known K = or-none (ne-eqb (kind s) 0 (λ z. omega (arith, K .low))) (le-ltb 4 (kind s) (K .high))
+
+  -- then, where they are there, any length but that of the kind is refused
+  pub wrong-size : Known → 4 ≤ length s → (kind s ≡ 2 → 16 ≤ length s) → (length s ≡ size s → ⊥) → read s ≡ Refused Length
+  unfolding read
+  wrong-size K l room e =
+      let t : inexact s ≡ true = ap not (ne-eqb (length s) (size s) e) in
+      by-test (is-join s)
+      (λ j.
+      let w : wrong-length s ≡ false = rw j (le-ltb (length s) 16 (room (eqb-true (kind s) 2 j))) in
+      rw (le-ltb (length s) 4 l, known K, w, K .present, t))
+      (λ j. let w : wrong-length s ≡ true = rw j t in rw (le-ltb (length s) 4 l, known K, w))
+
+  -- and with the length of the kind only the ranges are open
+  pub right-size : Known → length s ≡ size s → read s ≡ ranged (decoded s)
+  unfolding read
+  right-size K e =
+      let l : under-4 s ≡ false = le-ltb (length s) 4 (omega (arith, size-least)) in
+      let t : inexact s ≡ false = ap not (eq-eqb (length s) (size s) e) in
+      let w : wrong-length s ≡ false =
+      by-test (is-join s)
+      (λ j. rw j (le-ltb (length s) 16 (omega (arith, size-join-least (eqb-true (kind s) 2 j)))))
+      (λ j. rw j t) in
+      by-test (in-range (decoded s)) (λ r. rw (l, known K, w, K .present, t, r)) (λ r. rw (l, known K, w, K .present, t, r))
+
+-- the part of bytes that is as long as they tell tells the same
+pub own-length : (s : List ℕ) → size s ≤ length s → length (take (size s) s) ≡ size (take (size s) s)
+own-length s h =
+    let front = take (size s) s in
+    let behind = drop (size s) s in
+    let both : front ++ behind ≡ s = take-append-drop (size s) s in
+    let long : length front ≡ size s = length-take-le (size s) s h in
+    let least : 12 ≤ length front = omega (arith, size-least s) in
+    let same : kind s ≡ kind front = sym (ap kind both) ∙ word-at-front front behind 0 (omega arith) in
+    long ∙ sym (ap size both) ∙ size-front front behind (omega arith) (λ k. omega (arith, size-join-least s (same ∙ k)))

@@ -10,9 +10,9 @@ use native.Mathlib.Omega.{arith}
 use lib.ListN.{length, take, drop}
 use lib.Seq.{take-at}
 use lib.Dec.{eqb, ltb, leb}
-use borrow.Author.Tests.{not-true, not-false, ne-eqb, eq-eqb, le-ltb, eqb-true}
-use Rattle.laws.specs.Tests.{tests, by-test, and-left, and-right, or-left, or-right, or-none}
-use Rattle.laws.specs.First.{first, passed, zero-of}
+use borrow.Author.Tests.{not-true, not-false, le-ltb, eqb-true}
+use Rattle.laws.specs.Tests.{tests, by-test, and-left, and-right, or-left, or-right}
+use Rattle.laws.specs.First.{first, passed}
 use Rattle.laws.specs.Answers.{number-kept}
 use Rattle.ids.specs.declared.Round.{Round}
 use Rattle.ids.specs.declared.Member.{Member}
@@ -26,10 +26,10 @@ use Rattle.message.specs.declared.Message.the-variants.{Start, Join, Joi
 use Rattle.message.specs.declared.Read.the-variants.{Got}
 use Rattle.message.specs.Fields.{head-in-range, vote-in-range, in-range}
 use Rattle.message.specs.Layout.{head, words, bytes, byte-count, kind, round, sender, presence, voted, voted-value, proposed, Held}
-use Rattle.message.specs.Reading.{under-4, no-kind, wrong-length, is-join, wrong-presence, inexact, size, decoded, message-row, answer, read-number, read}
+use Rattle.message.specs.Reading.{is-join, size, decoded, message-row, answer, read-number, read}
 use Rattle.message.specs.declared.Written.the-variants.{Sent}
 use Rattle.message.specs.Writing.{writer-row, answer-of, written, written-number, buffer-after, in-front}
-use Rattle.message.proofs.Checks.{size-least, size-front, size-join-least, size-join, size-join-voted, size-propose, size-other, decoded-start, decoded-join, decoded-join-voted, decoded-propose, decoded-vote}
+use Rattle.message.proofs.Checks.{Known, right-size, size-least, size-front, size-join-least, size-join, size-join-voted, size-propose, size-other, decoded-start, decoded-join, decoded-join-voted, decoded-propose, decoded-vote}
 
 -- an answer has the number of the first cause of its row
 pub read-numbered : (s : List ℕ) → read-number (read s) ≡ first (message-row s)
@@ -73,26 +73,12 @@ module _ (k : ℕ) (r : Round) (s : Member) (small : k < 5) (h : head-in-range r
 
 -- bytes of the length of their kind and presence
 record Whole (s : List ℕ) : Type 0 where
-  low : 1 ≤ kind s
-  high : kind s ≤ 4
-  present : wrong-presence s ≡ false
+  known : Known s
   exact : length s ≡ size s
 
 -- they read as the message that they spell, if it is in range
 whole-read : (s : List ℕ) (m : Message) → Whole s → decoded s ≡ m → in-range m ≡ true → read s ≡ Got m
-unfolding read
-whole-read s m w e h =
-    let least = size-least s in
-    let exact = w .exact in
-    let long-enough : under-4 s ≡ false = omega tests in
-    let known : no-kind s ≡ false = or-none (ne-eqb (kind s) 0 (λ z. omega (arith, w .low))) (le-ltb 4 (kind s) (w .high)) in
-    let sized : inexact s ≡ false = ap not (eq-eqb (length s) (size s) exact) in
-    let ranged : not (in-range (decoded s)) ≡ false = rw (e, h) in
-    let length-right : wrong-length s ≡ false =
-    by-test (is-join s)
-    (λ j. rw j (le-ltb (length s) 16 (omega (arith, size-join-least s (eqb-true (kind s) 2 j)))))
-    (λ j. rw j sized) in
-    ap (λ (n : ℕ). answer n (decoded s)) (zero-of (message-row s) (long-enough, (known, (length-right, (w .present, (sized, (ranged, tt))))))) ∙ ap Got e
+whole-read s m w e h = right-size s (w .known) (w .exact) ∙ rw (e, h)
 
 -- bytes that read as a message get no number of the row, spell it, and it is in range
 pub got : (s : List ℕ) (m : Message) → read s ≡ Got m → (first (message-row s) ≡ 0) × (decoded s ≡ m) × (in-range m ≡ true)
@@ -114,9 +100,7 @@ read-whole s m h =
     let small : ltb 4 (kind s) ≡ false = or-right (eqb (kind s) 0) (ltb 4 (kind s)) known in
     let whole : Whole s =
     record {
-      low = omega tests;
-      high = omega tests;
-      present = present;
+      known = record { low = omega tests; high = omega tests; present = present };
       exact = eqb-true (length s) (size s) (not-false (eqb (length s) (size s)) sized);
     } in
     (whole, same, ranged)
@@ -125,11 +109,11 @@ read-whole s m h =
 by-kind {ℓ} : {C : Type ℓ} (s : List ℕ) → Whole s → (kind s ≡ 1 → C) → (kind s ≡ 2 → presence s ≡ 0 → C) → (kind s ≡ 2 → presence s ≡ 1 → C) →
     (kind s ≡ 3 → C) → (kind s ≡ 4 → C) → C
 by-kind s w start join join-voted propose vote =
-    let low = w .low in
-    let high = w .high in
+    let low = w .known .low in
+    let high = w .known .high in
     by-test (eqb (kind s) 1) (λ t. start (eqb-true (kind s) 1 t))
     (λ t. by-test (is-join s)
-    (λ j. let few : ltb 1 (presence s) ≡ false = rw j at (w .present) in
+    (λ j. let few : ltb 1 (presence s) ≡ false = rw j at (w .known .present) in
     by-test (eqb (presence s) 0) (λ p. join (eqb-true (kind s) 2 j) (eqb-true (presence s) 0 p)) (λ p. join-voted (eqb-true (kind s) 2 j) (omega tests)))
     (λ j. by-test (eqb (kind s) 3) (λ p. propose (eqb-true (kind s) 3 p)) (λ p. vote (omega tests))))
 
@@ -170,10 +154,10 @@ one-reading s t m b c h k = only-written s b m h .0 ∙ sym (only-written t c m 
 -- a message of a kind is whole
 module _ (s : List ℕ) (m : Message) (e : length s ≡ byte-count m) where
   whole-join : kind s ≡ 2 → presence s ≤ 1 → size s ≡ byte-count m → Whole s
-  whole-join k p z = record { low = omega arith; high = omega arith; present = rw k (le-ltb 1 (presence s) p); exact = e ∙ sym z }
+  whole-join k p z = record { known = record { low = omega arith; high = omega arith; present = rw k (le-ltb 1 (presence s) p) }; exact = e ∙ sym z }
 
   whole-other : (k : ℕ) → kind s ≡ k → 1 ≤ k → k ≤ 4 → eqb k 2 ≡ false → size s ≡ byte-count m → Whole s
-  whole-other k q low high j z = record { low = omega arith; high = omega arith; present = rw (q, j); exact = e ∙ sym z }
+  whole-other k q low high j z = record { known = record { low = omega arith; high = omega arith; present = rw (q, j) }; exact = e ∙ sym z }
 
 -- the bytes of a message in range are whole, and spell it
 spelt : (m : Message) → Held m → in-range m ≡ true → Whole (bytes m) × (decoded (bytes m) ≡ m)
@@ -225,11 +209,14 @@ spelt (Vote r s) v h =
 pub reads-back : (m : Message) → Held m → in-range m ≡ true → read (bytes m) ≡ Got m
 reads-back m v h = let (w, e) = spelt m v h in whole-read (bytes m) m w e h
 
--- whatever comes behind it
-pub reads-back-front : (m : Message) (behind : List ℕ) → Held m → in-range m ≡ true → read (take (size (bytes m ++ behind)) (bytes m ++ behind)) ≡ Got m
-reads-back-front m behind v h =
-    let e : length (bytes m) ≡ size (bytes m) = spelt m v h .0 .exact in
-    rw (size-front (bytes m) behind e, take-at (bytes m) behind (size (bytes m)) e) (reads-back m v h)
+-- and in longer bytes the part of its own length spells it
+pub spelt-front : (m : Message) (behind : List ℕ) → Held m → in-range m ≡ true → decoded (take (size (bytes m ++ behind)) (bytes m ++ behind)) ≡ m
+spelt-front m behind v h =
+    let (w, e) = spelt m v h in
+    let l = bytes m in
+    let exact : length l ≡ size l = w .exact in
+    let own : size (l ++ behind) ≡ size l = size-front l behind (omega (arith, size-least l)) (λ k. omega (arith, size-join-least l k)) in
+    rw (own, take-at l behind (size l) exact) e
 
 -- every message in range is written, with the length of its kind, into a buffer that has room for any
 pub in-range-written : (m : Message) (old : List ℕ) → 28 ≤ length old → in-range m ≡ true → written m old ≡ Sent (byte-count m)

@@ -36,8 +36,11 @@ byte-count (Vote r s) = 12
 abbrev pub kind : List ℕ → ℕ
 kind s = word-at s 0
 
+abbrev pub round-at : List ℕ → ℕ → Round
+round-at s at = record { 0 = word-at s at }
+
 abbrev pub round : List ℕ → Round
-round s = record { 0 = word-at s 4 }
+round s = round-at s 4
 
 abbrev pub sender : List ℕ → Member
 sender s = record { 0 = word-at s 8 }
@@ -46,7 +49,7 @@ abbrev pub presence : List ℕ → ℕ
 presence s = word-at s 12
 
 abbrev pub voted : List ℕ → Round
-voted s = record { 0 = word-at s 16 }
+voted s = round-at s 16
 
 abbrev pub voted-value : List ℕ → ℕ
 voted-value s = hyper-at s 20

@@ -59,28 +59,23 @@ wrong-length s = cond (is-join s) (ltb (length s) 16) (inexact s)
 abbrev pub wrong-presence : List ℕ → Bool
 wrong-presence s = is-join s && ltb 1 (presence s)
 
--- the rest of the length, then the other fields
-unfoldable pub rest : List ℕ → List Cause
-rest s = inexact s gives 14 ∷ not (in-range (decoded s)) gives 16 ∷ []
-
 -- the message row: a cause and its number, in 01's order
 unfoldable pub message-row : List ℕ → List Cause
-unfolding rest
 message-row s =
     under-4 s gives 14 ∷
     no-kind s gives 15 ∷
     wrong-length s gives 14 ∷
     wrong-presence s gives 16 ∷
-    rest s
+    inexact s gives 14 ∷
+    not (in-range (decoded s)) gives 16 ∷ []
 
 -- the answer of a number; 0 comes with the message
 abbrev pub answer : ℕ → Message → Read
 answer n m = cond (eqb n 0) (Got m) (cond (eqb n 14) (Refused Length) (cond (eqb n 15) (Refused Kind) (Refused Field)))
 
--- what bytes read as where only the rest is open
-unfoldable pub read-rest : List ℕ → Read
-unfolding rest
-read-rest s = answer (first (rest s)) (decoded s)
+-- what a message reads as where only its ranges are open
+abbrev pub ranged : Message → Read
+ranged m = cond (in-range m) (Got m) (Refused Field)
 
 unfoldable pub read : List ℕ → Read
 unfolding message-row

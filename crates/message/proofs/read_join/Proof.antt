@@ -1,35 +1,84 @@
 -- `message::read_join` meets its contract: each return goes by the tests that led there. Assumes nothing.
-use mathlib.Core.Path.{sym, _∙_}
+use mathlib.Core.Path.{_≡_, sym, ap, _∙_}
+use Prim.Native.Nat.{_≤_}
 use native.Mathlib.Omega.{arith}
-use borrow.Author.Tests.{lt-ltb, le-ltb}
-use denote.Ref.{now}
-use Rattle.message.specs.Reading.{read}
-use Rattle.message.proofs.Checks.{join-short, size-join, size-join-voted, join-rest}
+use lib.ListN.{length}
+use borrow.Author.Tests.{le-ltb}
 use borrow.Author.Needs.{needs}
+use denote.Ref.{now}
+use Rattle.message.specs.Layout.{presence}
+use Rattle.message.specs.declared.Fault.the-variants.{Length}
+use Rattle.message.specs.declared.Read.the-variants.{Refused}
+use Rattle.message.specs.Reading.{size, ranged, read}
+use Rattle.message.proofs.Checks.{Known, join-short, join-neither, wrong-size, right-size, size-join, size-join-voted, decoded-join, decoded-join-voted}
 use Rattle.message.proofs.read_join.Statement.{statement}
 use Rattle.message.proofs.read_join.Tie as tie
 
 returns : tie.Need-returns
-returns c = sym (join-short (now (c .before .before .args .s)) (c .before .before .pre .1) (c .before .before .pre .0) (omega arith))
+returns c = let s = c .before .before in sym (join-short _ (s .pre .1) (s .pre .0) (c .if1 .taken))
 
 word-at-requires : tie.Need-word-at-requires
 word-at-requires c κs = search needs
 
-read-rest-requires : tie.Need-read-rest-requires
-read-rest-requires c κs = sym (size-join _ (c .before .before .before .before .pre .1) (sym (c .before .word-at .ensures) ∙ c .if2 .taken))
+-- where the presence is 0 or 1
+known : (c : tie.After-word-at) →
+    let s = now (c .before .before .before .args .s) in
+    presence s ≤ 1 → Known s
+known c p =
+    let s = c .before .before .before in
+    record { low = rw (s .pre .1) (omega arith); high = rw (s .pre .1) (omega arith); present = rw (s .pre .1) (le-ltb 1 _ p) }
+
+refused : (c : tie.After-word-at) →
+    let s = now (c .before .before .before .args .s) in
+    presence s ≤ 1 → (length s ≡ size s → ⊥) → Refused Length ≡ read s
+refused c p e = sym (wrong-size _ (known c p) (c .before .before .before .pre .0) (λ k. c .before .if1 .left) e)
 
 returns-2 : tie.Need-returns-2
-returns-2 c = c .read-rest .ensures ∙ sym (join-rest _ (c .before .before .before .before .before .pre .1) (c .before .before .before .if1 .left) (rw (sym (c .before .before .word-at .ensures) ∙ c .before .if2 .taken) (omega arith)))
+returns-2 c =
+    let b = c .before .before in
+    let s = b .before .before .before in
+    let none = sym (b .word-at .ensures) ∙ c .before .if2 .taken in
+    refused b (rw none (omega arith)) (λ e. c .if3 .taken (e ∙ size-join _ (s .pre .1) none))
 
-read-rest-requires-2 : tie.Need-read-rest-requires-2
-read-rest-requires-2 c κs = sym (size-join-voted _ (c .before .before .before .before .before .pre .1) (sym (c .before .before .word-at .ensures) ∙ c .if3 .taken))
+as-join-requires : tie.Need-as-join-requires
+as-join-requires c κs = search needs
+
+ranged-requires : tie.Need-ranged-requires
+ranged-requires c κs = search needs
 
 returns-3 : tie.Need-returns-3
-returns-3 c = c .read-rest2 .ensures ∙ sym (join-rest _ (c .before .before .before .before .before .before .pre .1) (c .before .before .before .before .if1 .left) (rw (sym (c .before .before .before .word-at .ensures) ∙ c .before .if3 .taken) (omega arith)))
+returns-3 c =
+    let b = c .before .before .before .before in
+    let s = b .before .before .before in
+    let none = sym (b .word-at .ensures) ∙ c .before .before .before .if2 .taken in
+    c .ranged .ensures ∙ ap ranged (c .before .as-join .ensures ∙ sym (decoded-join _ (s .pre .1) none)) ∙
+    sym (right-size _ (known b (rw none (omega arith))) (c .before .before .if3 .left ∙ sym (size-join _ (s .pre .1) none)))
 
 returns-4 : tie.Need-returns-4
-unfolding read
-returns-4 c = simp (c .before .before .before .before .before .pre .1, le-ltb _ _ (c .before .before .before .before .before .pre .0), le-ltb _ _ (c .before .before .before .if1 .left), sym (c .before .before .word-at .ensures), lt-ltb 1 (c .before .before .word-at .result) (omega arith))
+returns-4 c =
+    let b = c .before .before .before in
+    let s = b .before .before .before in
+    let one = sym (b .word-at .ensures) ∙ c .before .if4 .taken in
+    refused b (rw one (omega arith)) (λ e. c .if5 .taken (e ∙ size-join-voted _ (s .pre .1) one))
+
+as-join-voted-requires : tie.Need-as-join-voted-requires
+as-join-voted-requires c κs = search needs
+
+ranged-requires-2 : tie.Need-ranged-requires-2
+ranged-requires-2 c κs = search needs
+
+returns-5 : tie.Need-returns-5
+returns-5 c =
+    let b = c .before .before .before .before .before in
+    let s = b .before .before .before in
+    let one = sym (b .word-at .ensures) ∙ c .before .before .before .if4 .taken in
+    c .ranged2 .ensures ∙ ap ranged (c .before .as-join-voted .ensures ∙ sym (decoded-join-voted _ (s .pre .1) one)) ∙
+    sym (right-size _ (known b (rw one (omega arith))) (c .before .before .if5 .left ∙ sym (size-join-voted _ (s .pre .1) one)))
+
+returns-6 : tie.Need-returns-6
+returns-6 c =
+    let b = c .before .before in
+    sym (join-neither _ (b .before .before .before .pre .1) (b .before .if1 .left) (omega (arith, b .word-at .ensures)))
 
 pub read-join-spec : {M : Type 1} → statement M
 read-join-spec =
@@ -37,8 +86,12 @@ read-join-spec =
     (tie.spec
     returns
     word-at-requires
-    read-rest-requires
     returns-2
-    read-rest-requires-2
+    as-join-requires
+    ranged-requires
     returns-3
-    returns-4)
+    returns-4
+    as-join-voted-requires
+    ranged-requires-2
+    returns-5
+    returns-6)

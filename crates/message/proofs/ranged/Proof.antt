@@ -1,0 +1,17 @@
+-- `message::ranged` meets its contract: each return goes by the test that led there. Assumes nothing.
+use mathlib.Core.Path.{sym, _∙_}
+use borrow.Author.Needs.{needs}
+use Rattle.message.proofs.ranged.Statement.{statement}
+use Rattle.message.proofs.ranged.Tie as tie
+
+in-range-requires : tie.Need-in-range-requires
+in-range-requires c κs = search needs
+
+returns : tie.Need-returns
+returns c = rw (sym (c .before .in-range .ensures) ∙ c .if1 .taken)
+
+returns-2 : tie.Need-returns-2
+returns-2 c = rw (sym (c .before .in-range .ensures) ∙ c .if1 .left)
+
+pub ranged-spec : {M : Type 1} → statement M
+ranged-spec = tie.close (tie.spec in-range-requires returns returns-2)
