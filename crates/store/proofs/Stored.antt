@@ -1,5 +1,5 @@
--- The store holds messages row by row: a message put at the first free row is one more message stored, and each row is read as its message.
--- Every row is 28 bytes, so that row k starts behind the k rows before it; what stands behind a message doesn't matter to reading it.
+-- The store holds messages row by row: a message put at the first free row is one more message stored, and each row gives its message.
+-- Every row is 28 bytes, so that row k starts behind the k rows before it; what stands behind a message doesn't matter to it.
 -- Assumes nothing.
 use mathlib.Core.Path.{_≡_, refl, sym, ap, _∙_}
 use mathlib.Core.Bool.{true}
@@ -12,13 +12,12 @@ use Rattle.laws.specs.Lists.{_∈_}
 use Rattle.laws.specs.Elements.{getD-in}
 use Rattle.message.specs.declared.Message.{Message}
 use Rattle.message.specs.declared.Message.the-variants.{Start, Join, JoinVoted, Propose, Vote}
-use Rattle.message.specs.declared.Read.the-variants.{Got}
 use Rattle.message.specs.Fields.{in-range}
 use Rattle.message.specs.Layout.{bytes, byte-count, Held}
-use Rattle.message.specs.Reading.{size, read}
+use Rattle.message.specs.Reading.{size, decoded}
 use Rattle.message.specs.Writing.{in-front}
-use Rattle.message.proofs.RoundTrip.{length-bytes, reads-back-front}
-use Rattle.store.specs.Rows.{row-of, rows-of, stored, row-at, read-at}
+use Rattle.message.proofs.RoundTrip.{length-bytes, spelt-front}
+use Rattle.store.specs.Rows.{row-of, rows-of, stored, row-at, fetched}
 
 -- no message is longer than a row
 longest : (g : Message) → length (bytes g) ≤ 28
@@ -103,12 +102,12 @@ row-found (g ∷ gs) behind (suc k) d h =
     rw (e, ← drop-drop (28 * k) 28 (row-of g ++ rows-of gs ++ behind), append-assoc (row-of g) (rows-of gs) behind, drop-at (row-of g) (rows-of gs ++ behind) 28 (length-row g))
     (row-found gs behind k d (omega arith))
 
--- row k reads as message k
+-- the message of row k is message k
 pub fetch-stored : (s : List ℕ) (gs : List Message) (k : ℕ) (d : Message) → s ≡ stored (length s) gs → k < length gs →
-    ((g : Message) → g ∈ gs → in-range g ≡ true) → ((g : Message) → g ∈ gs → Held g) → read-at s k ≡ Got (getD gs k d)
-unfolding stored read-at row-of
+    ((g : Message) → g ∈ gs → in-range g ≡ true) → ((g : Message) → g ∈ gs → Held g) → fetched s k ≡ getD gs k d
+unfolding stored fetched row-of
 fetch-stored s gs k d e h ranged held =
     let g = getD gs k d in
     let m : g ∈ gs = getD-in gs k d h in
     let row : row-at s k ≡ row-of g = ap (λ (t : List ℕ). row-at t k) e ∙ row-found gs (zeros (length s - 28 * length gs)) k d h in
-    ap (λ (r : List ℕ). read (take (size r) r)) row ∙ reads-back-front g (zeros (28 - length (bytes g))) (held g m) (ranged g m)
+    ap (λ (r : List ℕ). decoded (take (size r) r)) row ∙ spelt-front g (zeros (28 - length (bytes g))) (held g m) (ranged g m)

@@ -5,9 +5,8 @@ use Prim.Native.Nat.{ℕ, _-_, _*_, _/_, _%_}
 use lib.ListN.{length, take, drop, replicate}
 use lib.Dec.{leb, eqb}
 use Rattle.message.specs.declared.Message.{Message}
-use Rattle.message.specs.declared.Read.{Read}
 use Rattle.message.specs.Layout.{bytes}
-use Rattle.message.specs.Reading.{size, read}
+use Rattle.message.specs.Reading.{size, decoded}
 
 -- 1 to 2,000 whole rows
 abbrev pub store-sized : List ℕ → Bool
@@ -34,6 +33,6 @@ stored len gs = rows-of gs ++ replicate (len - 28 * length gs) 0
 abbrev pub row-at : List ℕ → ℕ → List ℕ
 row-at s k = take 28 (drop (28 * k) s)
 
--- what is read of the message at the front of row k: its own length, and not the whole row
-unfoldable pub read-at : List ℕ → ℕ → Read
-read-at s k = read (take (size (row-at s k)) (row-at s k))
+-- the message at the front of row k: its own length, and not the whole row
+unfoldable pub fetched : List ℕ → ℕ → Message
+fetched s k = decoded (take (size (row-at s k)) (row-at s k))

@@ -1,15 +1,14 @@
 // The message store of play (01, "Play"): lent bytes, 28 a row; message k stands at the front of row k, zeros after.
 use message::Message;
-use message::Read;
 ghost use mathlib.Core.Path.{_≡_};
 ghost use mathlib.Core.Bool.{true};
 ghost use mathlib.Core.List.{_++_};
 ghost use Prim.Native.Nat.{_+_, _*_, _≤_};
 ghost use lib.ListN.{length, take, drop, replicate};
 ghost use Rattle.message.specs.Fields.{in-range};
-ghost use Rattle.message.specs.Reading.{size, read};
+ghost use Rattle.message.specs.Reading.{size, decoded};
 ghost use Rattle.message.specs.Writing.{in-front};
-ghost use Rattle.store.specs.Rows.{store-sized, row-at, read-at};
+ghost use Rattle.store.specs.Rows.{store-sized, row-at, fetched};
 
 // The length of a row.
 pub const ROW: usize = 28;
@@ -67,21 +66,21 @@ fn message_size(row: &[u8]) -> usize
     12
 }
 
-// Reads the message at the front of a row: its own length, and not the whole row.
-fn read_row(row: &[u8]) -> Read
+// The message at the front of a row: its own length, and not the whole row.
+fn decode_row(row: &[u8]) -> Message
     requires { ⌜ 28 ≤ length (now row) ⌝ }
-    ensures { λ r. ⌜ r ≡ read (take (size (now (row .entry))) (now (row .entry))) ⌝ }
+    ensures { λ m. ⌜ m ≡ decoded (take (size (now (row .entry))) (now (row .entry))) ⌝ }
 {
     let n = message_size(row);
-    message::read_message(&row[..n])
+    message::decode(&row[..n])
 }
 
-// Reads the message of row k.
-pub fn fetch(s: &[u8], k: usize) -> Read
+// The message of row k.
+pub fn fetch(s: &[u8], k: usize) -> Message
     requires { ⌜ 28 * k + 28 ≤ length (now s) ⌝ }
-    ensures { λ r. ⌜ r ≡ read-at (now (s .entry)) k ⌝ }
+    ensures { λ m. ⌜ m ≡ fetched (now (s .entry)) k ⌝ }
 {
     let start = ROW * k;
     let end = start + ROW;
-    read_row(&s[start..end])
+    decode_row(&s[start..end])
 }

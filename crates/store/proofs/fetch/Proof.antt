@@ -3,7 +3,7 @@ use mathlib.Core.Path.{_≡_}
 use Prim.Native.Nat.{_+_, _-_, _*_}
 use native.Mathlib.Omega.{arith}
 use borrow.Author.Needs.{needs}
-use Rattle.store.specs.Rows.{read-at}
+use Rattle.store.specs.Rows.{fetched}
 use Rattle.store.proofs.fetch.Statement.{statement}
 use Rattle.store.proofs.fetch.Tie as tie
 
@@ -13,24 +13,24 @@ mul-start c = search needs
 add-end : tie.Need-add-end
 add-end c = search needs
 
-sub-read-row : tie.Need-sub-read-row
-sub-read-row c = search needs
+sub-decode-row : tie.Need-sub-decode-row
+sub-decode-row c = search needs
 
-part-read-row-start : tie.Need-part-read-row-start
-part-read-row-start c = search needs
+part-decode-row-start : tie.Need-part-decode-row-start
+part-decode-row-start c = search needs
 
-part-read-row-end : tie.Need-part-read-row-end
-part-read-row-end c = search needs
+part-decode-row-end : tie.Need-part-decode-row-end
+part-decode-row-end c = search needs
 
-read-row-requires : tie.Need-read-row-requires
-read-row-requires c κs = search needs
+decode-row-requires : tie.Need-decode-row-requires
+decode-row-requires c κs = search needs
 
 returns : tie.Need-returns
-unfolding read-at
+unfolding fetched
 returns c =
     let k = c .before .before .before .args .k in
     let e : 28 * k + 28 - 28 * k ≡ 28 = omega arith in
-    rw e at (c .read-row .ensures)
+    rw e at (c .decode-row .ensures)
 
 pub fetch-spec : {M : Type 1} → statement M
 fetch-spec =
@@ -38,8 +38,8 @@ fetch-spec =
     (tie.spec
     mul-start
     add-end
-    sub-read-row
-    part-read-row-start
-    part-read-row-end
-    read-row-requires
+    sub-decode-row
+    part-decode-row-start
+    part-decode-row-end
+    decode-row-requires
     returns)
