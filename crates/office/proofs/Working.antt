@@ -7,14 +7,8 @@ use native.Mathlib.Omega.{arith}
 use lib.ListN.{length, getD, set}
 use lib.Dec.{leb}
 use borrow.Author.Tests.{le-leb, lt-leb, lt-ltb}
-use Rattle.laws.specs.Tests.{impossible}
 use Rattle.message.specs.declared.Message.{Message}
-use Rattle.message.specs.declared.Fault.{Fault}
-use Rattle.message.specs.declared.Fault.the-variants.{Length, Kind, Field}
-use Rattle.message.specs.declared.Read.{Read}
-use Rattle.message.specs.declared.Read.the-variants.{Got, Refused}
 use Rattle.message.specs.Fields.{in-range}
-use Rattle.message.specs.Reading.{fault-number}
 use Rattle.member.specs.declared.MemberState.{MemberState}
 use Rattle.member.specs.declared.Step.{Step}
 use Rattle.member.specs.Record.{sound, round}
@@ -25,7 +19,7 @@ use Rattle.member.specs.Table.{Event as MemberEvent, start as starts, deliver a
 use Rattle.model.specs.Model.{Sizes, Event, start, deliver, at-member, unsent, event-of, message-at, member-at, event-causes, answer, outcome}
 use Rattle.model.specs.Model.{Office as ModelOffice}
 use Rattle.model.proofs.Kept.{KeptOffice, step-is-sound, message-in}
-use Rattle.store.specs.Rows.{read-at}
+use Rattle.store.specs.Rows.{fetched}
 use Rattle.store.proofs.Stored.{fetch-stored}
 use Rattle.office.specs.declared.Tally.{Tally}
 use Rattle.office.specs.declared.Office.{Office}
@@ -47,26 +41,15 @@ module _ (z : Sizes) (o : ModelOffice) (t : Tally) (ms : List MemberState) (stor
   pub row-within : (row : ℕ) → row < t .sent → 28 * row + 28 ≤ length store
   row-within row h = omega (arith, S .sent, kept z o (office-of t ms) store ws L R S .fits, L .store-rows)
 
-  -- a row holds its message
-  row-reads : (row : ℕ) → row < t .sent → read-at store row ≡ Got (message-at o row)
+  -- a row holds its message, within its ranges
+  row-reads : (row : ℕ) → row < t .sent → fetched store row ≡ message-at o row
   row-reads row h =
       fetch-stored store (o .sent) row _ (S .messages) (omega (arith, S .sent)) (kept z o (office-of t ms) store ws L R S .ranged) (small z o (office-of t ms) store ws L R S)
 
-  row-ranged : (row : ℕ) → row < t .sent → in-range (message-at o row) ≡ true
-  row-ranged row h = kept z o (office-of t ms) store ws L R S .ranged (message-at o row) (message-in o row 0 (lt-leb (length (o .sent)) row (omega (arith, S .sent))))
-
-  -- what was read there, within its ranges
-  pub read-here : (row : ℕ) → row < t .sent → (r : Read) → r ≡ read-at store row → (g : Message) → r ≡ Got g → (read-at store row ≡ Got g) × (in-range g ≡ true)
-  read-here row h r e g q =
-      let same : Got g ≡ Got (message-at o row) = sym q ∙ e ∙ row-reads row h in
-      let g-is : g ≡ message-at o row = cc in
-      (sym e ∙ q, rw g-is (row-ranged row h))
-
-  -- no row is refused
-  pub never-refused : {C : Type 0} (row : ℕ) → row < t .sent → (r : Read) → r ≡ read-at store row → (f : Fault) → r ≡ Refused f → C
-  never-refused row h r e f q =
-      let same : Refused f ≡ Got (message-at o row) = sym q ∙ e ∙ row-reads row h in
-      impossible (cc)
+  pub row-ranged : (row : ℕ) (g : Message) → row < t .sent → g ≡ fetched store row → in-range g ≡ true
+  row-ranged row g h e =
+      rw (e ∙ row-reads row h)
+      (kept z o (office-of t ms) store ws L R S .ranged (message-at o row) (message-in o row 0 (lt-leb (length (o .sent)) row (omega (arith, S .sent)))))
 
   module _ (e : Event) (m : MemberState) (H : Held ms (place-of (at-member e)) m) where
     absent : (leb (z .n) (at-member e) || unsent o e) ≡ true → Next z o e (office-of t (set ms (place-of (at-member e)) m)) 29 store ws
@@ -107,14 +90,7 @@ module _ (z : Sizes) (o : ModelOffice) (t : Tally) (ms : List MemberState) (stor
     pub no-message : k < t .n → t .sent ≤ row → Next z o (deliver row k) (office-of t (set ms (place-of k) m)) 29 store ws
     no-message a h = absent (deliver row k) m H (rw (lt-leb (z .n) k (omega (arith, S .size)), le-leb (length (o .sent)) row (omega (arith, S .sent))) refl)
 
-    pub took-deliver : (g : Message) (s : Step) → k < t .n → row < t .sent → read-at store row ≡ Got g → Stepped m (delivers g) s →
+    pub took-deliver : (g : Message) (s : Step) → k < t .n → row < t .sent → g ≡ fetched store row → Stepped m (delivers g) s →
         Took z o (deliver row k) (place-of k) (step-outcome s)
     took-deliver g s a h e P =
-        let same : Got g ≡ Got (message-at o row) = sym e ∙ row-reads row h in
-        let g-is : g ≡ message-at o row = cc in
-        took (deliver row k) m H (delivers g) s a (lt-leb (length (o .sent)) row (omega (arith, S .sent))) (ap delivers g-is) P
-
-pub fault-small : (f : Fault) → fault-number f < 256
-fault-small Length = omega arith
-fault-small Kind = omega arith
-fault-small Field = omega arith
+        took (deliver row k) m H (delivers g) s a (lt-leb (length (o .sent)) row (omega (arith, S .sent))) (ap delivers (e ∙ row-reads row h)) P

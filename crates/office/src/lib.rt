@@ -6,7 +6,6 @@ use ids::Round;
 use member::Answer;
 use member::MemberState;
 use member::Step;
-use message::Read;
 ghost use mathlib.Core.Path.{_≡_};
 ghost use Prim.Native.Nat.{_+_, _<_};
 ghost use Rattle.member.specs.Record.{fresh};
@@ -218,14 +217,9 @@ fn work_deliver(
     if tally.sent <= row {
         return left(m, tally, 29);
     }
-    let got = store::fetch(messages, row);
-    match got {
-        Read::Refused(f) => left(m, tally, message::number(f) as u8),
-        Read::Got(g) => {
-            let s = member::deliver_sound(m, g);
-            settle(tally, m, s, messages, nodes)
-        }
-    }
+    let g = store::fetch(messages, row);
+    let s = member::deliver_sound(m, g);
+    settle(tally, m, s, messages, nodes)
 }
 
 // One event, at its member's record.

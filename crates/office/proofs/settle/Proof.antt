@@ -50,11 +50,10 @@ returns c =
     (fills z o e (c .before .before .before .before .before .before .before .before .before .before .args .tally) ms i (c .before .before .before .before .before .before .before .before .before .before .args .m) H (now (c .before .before .before .before .before .before .before .before .before .before .args .messages)) (now (c .before .before .before .before .before .before .before .before .before .before .args .nodes)) L R S _ (retook (c .before .before .before .before .before .before .before .before .before .before .args .s) (c .before .before .before .before .before .a2 .given .1) T) refl refl (leb-true _ _ (sym (c .before .before .store-full .ensures) ∙ c .before .if1 .taken)))
 
 put-requires : tie.Need-put-requires
-put-requires c κs =
-    (
-      put-room _ _ _ _ _ (c .before .before .before .before .before .before .before .before .before .before .pre) (leb-false _ _ (sym (c .before .before .store-full .ensures) ∙ c .before .if1 .left)),
-      sent-ranged _ _ _ _ _ (c .before .before .before .before .before .before .before .before .before .before .pre) _ (answers-sent _ _ _ (c .before .before .before .before .before .a2 .given .1)),
-    )
+put-requires c κs = (
+  put-room _ _ _ _ _ (c .before .before .before .before .before .before .before .before .before .before .pre) (leb-false _ _ (sym (c .before .before .store-full .ensures) ∙ c .before .if1 .left)),
+  sent-ranged _ _ _ _ _ (c .before .before .before .before .before .before .before .before .before .before .pre) _ (answers-sent _ _ _ (c .before .before .before .before .before .a2 .given .1)),
+)
 
 counted-requires : tie.Need-counted-requires
 counted-requires c κs =
@@ -95,11 +94,10 @@ returns-3 c =
     (has-no-row z o e (c .before .before .before .before .before .before .before .before .before .before .before .before .args .tally) ms i (c .before .before .before .before .before .before .before .before .before .before .before .before .args .m) H (now (c .before .before .before .before .before .before .before .before .before .before .before .before .args .messages)) (now (c .before .before .before .before .before .before .before .before .before .before .before .before .args .nodes)) L R S _ _ _ _ _ (retook (c .before .before .before .before .before .before .before .before .before .before .before .before .args .s) (c .before .before .before .before .before .before .before .a3 .given .1) T) (leb-false _ _ (sym (c .before .before .before .before .store-full2 .ensures) ∙ c .before .before .before .if2 .left)) (c .before .if3 .taken))
 
 put-requires-2 : tie.Need-put-requires-2
-put-requires-2 c κs =
-    (
-      put-room _ _ _ _ _ (c .before .before .before .before .before .before .before .before .before .before .before .before .pre) (leb-false _ _ (sym (c .before .before .before .before .store-full2 .ensures) ∙ c .before .before .before .if2 .left)),
-      sent-ranged _ _ _ _ _ (c .before .before .before .before .before .before .before .before .before .before .before .before .pre) _ (answers-proposed _ _ _ _ _ _ (c .before .before .before .before .before .before .before .a3 .given .1)),
-    )
+put-requires-2 c κs = (
+  put-room _ _ _ _ _ (c .before .before .before .before .before .before .before .before .before .before .before .before .pre) (leb-false _ _ (sym (c .before .before .before .before .store-full2 .ensures) ∙ c .before .before .before .if2 .left)),
+  sent-ranged _ _ _ _ _ (c .before .before .before .before .before .before .before .before .before .before .before .before .pre) _ (answers-proposed _ _ _ _ _ _ (c .before .before .before .before .before .before .before .a3 .given .1)),
+)
 
 add-in-tree-requires : tie.Need-add-in-tree-requires
 add-in-tree-requires c κs =

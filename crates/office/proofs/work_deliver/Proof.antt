@@ -1,11 +1,10 @@
 -- `office::work_deliver` meets its contract: 29, or the step of the model's member at the message of that row, settled. Assumes nothing.
 use mathlib.Core.Path.{_≡_, refl}
-use native.Mathlib.Omega.{arith}
 use denote.Ref.{now}
 use Rattle.model.specs.Model.{deliver}
 use Rattle.office.specs.Standing.{place-of}
 use Rattle.office.proofs.Settling.{as-left}
-use Rattle.office.proofs.Working.{no-member, no-message, sound-member, row-within, read-here, never-refused, took-deliver, fault-small}
+use Rattle.office.proofs.Working.{no-member, no-message, sound-member, row-within, row-ranged, took-deliver}
 use borrow.Author.Needs.{needs}
 use Rattle.office.proofs.work_deliver.Statement.{statement}
 use Rattle.office.proofs.work_deliver.Tie as tie
@@ -32,56 +31,32 @@ fetch-requires : tie.Need-fetch-requires
 fetch-requires c κs =
     row-within (c .before .before .before .before .before .before .before .before .pre .standing .z) (c .before .before .before .before .before .before .before .before .pre .standing .o) (c .before .before .before .before .before .before .before .before .args .tally) (c .before .before .before .before .before .before .before .before .pre .members) (now (c .before .before .before .before .before .before .before .before .args .messages)) (now (c .before .before .before .before .before .before .before .before .args .nodes)) (c .before .before .before .before .before .before .before .before .pre .standing .lent) (c .before .before .before .before .before .before .before .before .pre .standing .reached) (c .before .before .before .before .before .before .before .before .pre .standing .stands) (c .before .before .before .before .before .before .before .before .args .message) (c .before .if2 .left)
 
-enum-known-got : tie.Need-enum-known-got
-enum-known-got c = search needs
-
-number-requires : tie.Need-number-requires
-number-requires c κs = search needs
-
-cast-left : tie.Need-cast-left
-cast-left c =
-    omega (arith, c .number .ensures, fault-small (c .before .before .got .given .0 .0))
-
-left-requires-3 : tie.Need-left-requires-3
-left-requires-3 c κs = search needs
-
-enum-known-got-2 : tie.Need-enum-known-got-2
-enum-known-got-2 c = search needs
-
 deliver-sound-requires : tie.Need-deliver-sound-requires
 deliver-sound-requires c κs =
-    (sound-member (c .before .before .before .before .before .before .before .before .before .before .before .before .pre .standing .z) (c .before .before .before .before .before .before .before .before .before .before .before .before .pre .standing .o) (c .before .before .before .before .before .before .before .before .before .before .before .before .args .tally) (c .before .before .before .before .before .before .before .before .before .before .before .before .pre .members) (now (c .before .before .before .before .before .before .before .before .before .before .before .before .args .messages)) (now (c .before .before .before .before .before .before .before .before .before .before .before .before .args .nodes)) (c .before .before .before .before .before .before .before .before .before .before .before .before .pre .standing .lent) (c .before .before .before .before .before .before .before .before .before .before .before .before .pre .standing .reached) (c .before .before .before .before .before .before .before .before .before .before .before .before .pre .standing .stands) (deliver (c .before .before .before .before .before .before .before .before .before .before .before .before .args .message) (c .before .before .before .before .before .before .before .before .before .before .before .before .args .member .0)) (c .before .before .before .before .before .before .before .before .before .before .before .before .args .m) (c .before .before .before .before .before .before .before .before .before .before .before .before .pre .held) (c .before .before .before .before .before .before .before .if1 .left), read-here (c .before .before .before .before .before .before .before .before .before .before .before .before .pre .standing .z) (c .before .before .before .before .before .before .before .before .before .before .before .before .pre .standing .o) (c .before .before .before .before .before .before .before .before .before .before .before .before .args .tally) (c .before .before .before .before .before .before .before .before .before .before .before .before .pre .members) (now (c .before .before .before .before .before .before .before .before .before .before .before .before .args .messages)) (now (c .before .before .before .before .before .before .before .before .before .before .before .before .args .nodes)) (c .before .before .before .before .before .before .before .before .before .before .before .before .pre .standing .lent) (c .before .before .before .before .before .before .before .before .before .before .before .before .pre .standing .reached) (c .before .before .before .before .before .before .before .before .before .before .before .before .pre .standing .stands) (c .before .before .before .before .before .before .before .before .before .before .before .before .args .message) (c .before .before .before .before .before .if2 .left) _ (c .before .before .before .fetch .ensures) _ (c .before .got2 .given .1) .1)
+    (sound-member (c .before .before .before .before .before .before .before .before .before .pre .standing .z) (c .before .before .before .before .before .before .before .before .before .pre .standing .o) (c .before .before .before .before .before .before .before .before .before .args .tally) (c .before .before .before .before .before .before .before .before .before .pre .members) (now (c .before .before .before .before .before .before .before .before .before .args .messages)) (now (c .before .before .before .before .before .before .before .before .before .args .nodes)) (c .before .before .before .before .before .before .before .before .before .pre .standing .lent) (c .before .before .before .before .before .before .before .before .before .pre .standing .reached) (c .before .before .before .before .before .before .before .before .before .pre .standing .stands) (deliver (c .before .before .before .before .before .before .before .before .before .args .message) (c .before .before .before .before .before .before .before .before .before .args .member .0)) (c .before .before .before .before .before .before .before .before .before .args .m) (c .before .before .before .before .before .before .before .before .before .pre .held) (c .before .before .before .before .if1 .left), row-ranged (c .before .before .before .before .before .before .before .before .before .pre .standing .z) (c .before .before .before .before .before .before .before .before .before .pre .standing .o) (c .before .before .before .before .before .before .before .before .before .args .tally) (c .before .before .before .before .before .before .before .before .before .pre .members) (now (c .before .before .before .before .before .before .before .before .before .args .messages)) (now (c .before .before .before .before .before .before .before .before .before .args .nodes)) (c .before .before .before .before .before .before .before .before .before .pre .standing .lent) (c .before .before .before .before .before .before .before .before .before .pre .standing .reached) (c .before .before .before .before .before .before .before .before .before .pre .standing .stands) (c .before .before .before .before .before .before .before .before .before .args .message) _ (c .before .before .if2 .left) (c .fetch .ensures))
 
 settle-requires : tie.Need-settle-requires
 settle-requires c κs =
     record {
-      members = c .before .before .before .before .before .before .before .before .before .before .before .before .before .before .before .pre .members;
-      i = place-of (c .before .before .before .before .before .before .before .before .before .before .before .before .before .before .before .args .member .0);
-      held = c .before .before .before .before .before .before .before .before .before .before .before .before .before .before .before .pre .held;
-      standing = c .before .before .before .before .before .before .before .before .before .before .before .before .before .before .before .pre .standing;
-      e = (deliver (c .before .before .before .before .before .before .before .before .before .before .before .before .before .before .before .args .message) (c .before .before .before .before .before .before .before .before .before .before .before .before .before .before .before .args .member .0));
-      took = took-deliver (c .before .before .before .before .before .before .before .before .before .before .before .before .before .before .before .pre .standing .z) (c .before .before .before .before .before .before .before .before .before .before .before .before .before .before .before .pre .standing .o) (c .before .before .before .before .before .before .before .before .before .before .before .before .before .before .before .args .tally) (c .before .before .before .before .before .before .before .before .before .before .before .before .before .before .before .pre .members) (now (c .before .before .before .before .before .before .before .before .before .before .before .before .before .before .before .args .messages)) (now (c .before .before .before .before .before .before .before .before .before .before .before .before .before .before .before .args .nodes)) (c .before .before .before .before .before .before .before .before .before .before .before .before .before .before .before .pre .standing .lent) (c .before .before .before .before .before .before .before .before .before .before .before .before .before .before .before .pre .standing .reached) (c .before .before .before .before .before .before .before .before .before .before .before .before .before .before .before .pre .standing .stands) (c .before .before .before .before .before .before .before .before .before .before .before .before .before .before .before .args .message) (c .before .before .before .before .before .before .before .before .before .before .before .before .before .before .before .args .member .0) (c .before .before .before .before .before .before .before .before .before .before .before .before .before .before .before .args .m) (c .before .before .before .before .before .before .before .before .before .before .before .before .before .before .before .pre .held) _ _ (c .before .before .before .before .before .before .before .before .before .before .if1 .left) (c .before .before .before .before .before .before .before .before .if2 .left) (read-here (c .before .before .before .before .before .before .before .before .before .before .before .before .before .before .before .pre .standing .z) (c .before .before .before .before .before .before .before .before .before .before .before .before .before .before .before .pre .standing .o) (c .before .before .before .before .before .before .before .before .before .before .before .before .before .before .before .args .tally) (c .before .before .before .before .before .before .before .before .before .before .before .before .before .before .before .pre .members) (now (c .before .before .before .before .before .before .before .before .before .before .before .before .before .before .before .args .messages)) (now (c .before .before .before .before .before .before .before .before .before .before .before .before .before .before .before .args .nodes)) (c .before .before .before .before .before .before .before .before .before .before .before .before .before .before .before .pre .standing .lent) (c .before .before .before .before .before .before .before .before .before .before .before .before .before .before .before .pre .standing .reached) (c .before .before .before .before .before .before .before .before .before .before .before .before .before .before .before .pre .standing .stands) (c .before .before .before .before .before .before .before .before .before .before .before .before .before .before .before .args .message) (c .before .before .before .before .before .before .before .before .if2 .left) _ (c .before .before .before .before .before .before .fetch .ensures) _ (c .before .before .before .before .got2 .given .1) .0) (c .before .before .deliver-sound .ensures);
+      members = c .before .before .before .before .before .before .before .before .before .before .before .before .pre .members;
+      i = place-of (c .before .before .before .before .before .before .before .before .before .before .before .before .args .member .0);
+      held = c .before .before .before .before .before .before .before .before .before .before .before .before .pre .held;
+      standing = c .before .before .before .before .before .before .before .before .before .before .before .before .pre .standing;
+      e = (deliver (c .before .before .before .before .before .before .before .before .before .before .before .before .args .message) (c .before .before .before .before .before .before .before .before .before .before .before .before .args .member .0));
+      took = took-deliver (c .before .before .before .before .before .before .before .before .before .before .before .before .pre .standing .z) (c .before .before .before .before .before .before .before .before .before .before .before .before .pre .standing .o) (c .before .before .before .before .before .before .before .before .before .before .before .before .args .tally) (c .before .before .before .before .before .before .before .before .before .before .before .before .pre .members) (now (c .before .before .before .before .before .before .before .before .before .before .before .before .args .messages)) (now (c .before .before .before .before .before .before .before .before .before .before .before .before .args .nodes)) (c .before .before .before .before .before .before .before .before .before .before .before .before .pre .standing .lent) (c .before .before .before .before .before .before .before .before .before .before .before .before .pre .standing .reached) (c .before .before .before .before .before .before .before .before .before .before .before .before .pre .standing .stands) (c .before .before .before .before .before .before .before .before .before .before .before .before .args .message) (c .before .before .before .before .before .before .before .before .before .before .before .before .args .member .0) (c .before .before .before .before .before .before .before .before .before .before .before .before .args .m) (c .before .before .before .before .before .before .before .before .before .before .before .before .pre .held) _ _ (c .before .before .before .before .before .before .before .if1 .left) (c .before .before .before .before .before .if2 .left) (c .before .before .before .fetch .ensures) (c .before .before .deliver-sound .ensures);
     }
 
 same-length : tie.Need-same-length
 same-length c = search needs
 
-returns-3 : tie.Need-returns-3
-returns-3 c =
-    λ ms z o H L R S.
-    never-refused z o (c .before .before .before .before .before .before .before .before .before .before .before .before .before .before .args .tally) ms (now (c .before .before .before .before .before .before .before .before .before .before .before .before .before .before .args .messages)) (now (c .before .before .before .before .before .before .before .before .before .before .before .before .before .before .args .nodes)) L R S (c .before .before .before .before .before .before .before .before .before .before .before .before .before .before .args .message) (c .before .before .before .before .before .before .before .if2 .left) _ (c .before .before .before .before .before .fetch .ensures) _ (c .before .before .before .got .given .1)
-
 same-length-2 : tie.Need-same-length-2
 same-length-2 c = search needs
 
-same-length-3 : tie.Need-same-length-3
-same-length-3 c = search needs
-
-returns-4 : tie.Need-returns-4
-returns-4 c =
+returns-3 : tie.Need-returns-3
+returns-3 c =
     λ ms z o H L R S.
-    c .before .before .before .before .settle .ensures ms (place-of (c .before .before .before .before .before .before .before .before .before .before .before .before .before .before .before .before .before .before .before .before .args .member .0)) z o (deliver (c .before .before .before .before .before .before .before .before .before .before .before .before .before .before .before .before .before .before .before .before .args .message) (c .before .before .before .before .before .before .before .before .before .before .before .before .before .before .before .before .before .before .before .before .args .member .0)) H L R S
-    (took-deliver z o (c .before .before .before .before .before .before .before .before .before .before .before .before .before .before .before .before .before .before .before .before .args .tally) ms (now (c .before .before .before .before .before .before .before .before .before .before .before .before .before .before .before .before .before .before .before .before .args .messages)) (now (c .before .before .before .before .before .before .before .before .before .before .before .before .before .before .before .before .before .before .before .before .args .nodes)) L R S (c .before .before .before .before .before .before .before .before .before .before .before .before .before .before .before .before .before .before .before .before .args .message) (c .before .before .before .before .before .before .before .before .before .before .before .before .before .before .before .before .before .before .before .before .args .member .0) (c .before .before .before .before .before .before .before .before .before .before .before .before .before .before .before .before .before .before .before .before .args .m) H _ _ (c .before .before .before .before .before .before .before .before .before .before .before .before .before .before .before .if1 .left) (c .before .before .before .before .before .before .before .before .before .before .before .before .before .if2 .left) (read-here z o (c .before .before .before .before .before .before .before .before .before .before .before .before .before .before .before .before .before .before .before .before .args .tally) ms (now (c .before .before .before .before .before .before .before .before .before .before .before .before .before .before .before .before .before .before .before .before .args .messages)) (now (c .before .before .before .before .before .before .before .before .before .before .before .before .before .before .before .before .before .before .before .before .args .nodes)) L R S (c .before .before .before .before .before .before .before .before .before .before .before .before .before .before .before .before .before .before .before .before .args .message) (c .before .before .before .before .before .before .before .before .before .before .before .before .before .if2 .left) _ (c .before .before .before .before .before .before .before .before .before .before .before .fetch .ensures) _ (c .before .before .before .before .before .before .before .before .before .got2 .given .1) .0) (c .before .before .before .before .before .before .before .deliver-sound .ensures))
+    c .before .before .before .before .settle .ensures ms (place-of (c .before .before .before .before .before .before .before .before .before .before .before .before .before .before .before .before .before .args .member .0)) z o (deliver (c .before .before .before .before .before .before .before .before .before .before .before .before .before .before .before .before .before .args .message) (c .before .before .before .before .before .before .before .before .before .before .before .before .before .before .before .before .before .args .member .0)) H L R S
+    (took-deliver z o (c .before .before .before .before .before .before .before .before .before .before .before .before .before .before .before .before .before .args .tally) ms (now (c .before .before .before .before .before .before .before .before .before .before .before .before .before .before .before .before .before .args .messages)) (now (c .before .before .before .before .before .before .before .before .before .before .before .before .before .before .before .before .before .args .nodes)) L R S (c .before .before .before .before .before .before .before .before .before .before .before .before .before .before .before .before .before .args .message) (c .before .before .before .before .before .before .before .before .before .before .before .before .before .before .before .before .before .args .member .0) (c .before .before .before .before .before .before .before .before .before .before .before .before .before .before .before .before .before .args .m) H _ _ (c .before .before .before .before .before .before .before .before .before .before .before .before .if1 .left) (c .before .before .before .before .before .before .before .before .before .before .if2 .left) (c .before .before .before .before .before .before .before .before .fetch .ensures) (c .before .before .before .before .before .before .before .deliver-sound .ensures))
 
 pub work-deliver-spec : {M : Type 1} → statement M
 work-deliver-spec =
@@ -92,15 +67,8 @@ work-deliver-spec =
     left-requires-2
     returns-2
     fetch-requires
-    enum-known-got
-    number-requires
-    cast-left
-    left-requires-3
-    enum-known-got-2
     deliver-sound-requires
     settle-requires
     same-length
-    returns-3
     same-length-2
-    same-length-3
-    returns-4)
+    returns-3)
