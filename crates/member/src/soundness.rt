@@ -4,19 +4,11 @@ use ids::LAST_ROUND;
 use ids::Member;
 use ids::Round;
 use ids::leader;
+use quorum::quorum_of;
 ghost use mathlib.Core.Path.{_≡_};
 ghost use Prim.Native.Nat.{_≤_};
 ghost use Rattle.quorum.specs.Count.{count};
-ghost use Rattle.quorum.specs.Quorum.{quorum};
 ghost use Rattle.member.specs.Record.{allowed, leads, flag, flagged, fresh, sound-number, sound-vote, sound-flags, sound-idle, sound-count, sound-leading, sound-lead, sound};
-
-// The quorum of an office of n members: f + 1, where f is (n - 1) / 2.
-pub fn quorum_of(n: u32) -> u32
-    requires { ⌜ 1 ≤ n ⌝ }
-    ensures { λ k. ⌜ k ≡ quorum n ⌝ }
-{
-    (n - 1) / 2 + 1
-}
 
 // How many of the members below `to` are flagged.
 fn count_below(flags: [bool; 7], to: usize) -> u32

@@ -1,9 +1,9 @@
--- `member::soundness::quorum_of` meets its contract: it is the definition. Assumes nothing.
+-- `quorum::quorum_of` meets its contract: it is the definition. Assumes nothing.
 use Rattle.quorum.specs.Quorum.{quorum}
 use mathlib.Core.Path.{refl}
 use borrow.Author.Needs.{needs}
-use Rattle.member.proofs.soundness.quorum_of.Statement.{statement}
-use Rattle.member.proofs.soundness.quorum_of.Tie as tie
+use Rattle.quorum.proofs.quorum_of.Statement.{statement}
+use Rattle.quorum.proofs.quorum_of.Tie as tie
 
 sub-result : tie.Need-sub-result
 sub-result c = search needs
