@@ -10,7 +10,7 @@ use Rattle.laws.specs.Tests.{tests, by-test}
 use Rattle.laws.specs.First.{Cause, first, passed}
 use Rattle.ids.specs.declared.Round.{Round}
 use Rattle.ids.specs.declared.Member.{Member}
-use Rattle.member.specs.declared.MemberState.{MemberState}
+use Rattle.member_record.specs.declared.MemberState.{MemberState}
 use Rattle.member.specs.declared.Refusal.{Refusal}
 use Rattle.member.specs.declared.Refusal.the-variants.{NotSound, Field, RoundRange, NotLeader, NotAboveLed, Sender, MovedPast, OtherValue, NotAwaited, CountedAlready}
 use Rattle.member.specs.declared.rows.Check.{Check}

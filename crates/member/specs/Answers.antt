@@ -1,7 +1,7 @@
 -- 01's number and values for every case of the answers.
 use mathlib.Core.List.{[], _∷_}
 use Prim.Native.Nat.{ℕ}
-use Rattle.member.specs.declared.MemberState.{MemberState}
+use Rattle.member_record.specs.declared.MemberState.{MemberState}
 use Rattle.member.specs.declared.Refusal.{Refusal}
 use Rattle.member.specs.declared.Refusal.the-variants.{NotSound, Field, RoundRange, NotLeader, NotAboveLed, Sender, MovedPast, OtherValue, NotAwaited, CountedAlready}
 use Rattle.member.specs.declared.Answer.{Answer}

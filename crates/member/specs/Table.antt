@@ -12,8 +12,8 @@ use Rattle.quorum.specs.Quorum.{quorum}
 use Rattle.message.specs.declared.Message.{Message}
 use Rattle.message.specs.declared.Message.the-variants.{Start, Join, JoinVoted, Propose, Vote}
 use Rattle.message.specs.Fields.{in-range}
-use Rattle.member.specs.declared.MemberState.{MemberState}
-use Rattle.member.specs.Record.{leads, round, flag, flagged, no-flags, sound, sound-number, fresh}
+use Rattle.member_record.specs.declared.MemberState.{MemberState}
+use Rattle.member_record.specs.Record.{leads, round, flag, flagged, no-flags, sound, sound-number, fresh}
 
 -- what an answer names
 pub data Named : Type 0 where

@@ -1,13 +1,13 @@
 // The rows of the member table of 01, "Members", for records that are sound.
 use crate::Answer;
-use crate::MemberState;
 use crate::Refusal;
 use crate::Step;
-use crate::soundness::count_flags;
-use crate::soundness::is_leader;
 use ids::Member;
 use ids::Round;
 use ids::in_range;
+use member_record::MemberState;
+use member_record::count_flags;
+use member_record::is_leader;
 use message::Message;
 use quorum::quorum_of;
 ghost use mathlib.Core.Path.{_≡_};

@@ -1,7 +1,7 @@
--- `member::soundness::vote_sound` meets its contract: each return goes by the tests that led there. Assumes nothing.
+-- `member_record::vote_sound` meets its contract: each return goes by the tests that led there. Assumes nothing.
 use borrow.Author.Tests.{eq-eqb, ne-eqb, lt-ltb, le-ltb, le-leb, lt-leb}
-use Rattle.member.proofs.soundness.vote_sound.Statement.{statement}
-use Rattle.member.proofs.soundness.vote_sound.Tie as tie
+use Rattle.member_record.proofs.vote_sound.Statement.{statement}
+use Rattle.member_record.proofs.vote_sound.Tie as tie
 
 returns : tie.Need-returns
 returns c = simp (lt-leb _ _ (c .if1 .taken))

@@ -16,7 +16,7 @@ use Rattle.quorum.specs.Count.{count, some}
 use Rattle.quorum.specs.Quorum.{Quorum, quorum}
 use Rattle.quorum.proofs.Meet.{of-odd}
 use Rattle.quorum.proofs.Counts.{count-none, count-more, count-beyond, beyond-none, some-none, none-some}
-use Rattle.member.specs.Record.{allowed, sound-number, flag, flagged, flag-from, no-flags}
+use Rattle.member_record.specs.Record.{allowed, sound-number, flag, flagged, flag-from, no-flags}
 
 -- an office has 3 to 7 members
 pub sizes : (n : ℕ) → allowed n ≡ true → (3 ≤ n) × (n ≤ 7)

@@ -1,8 +1,8 @@
--- `member::soundness::count_flags` meets its contract: it is the count below seven. Assumes nothing.
-use Rattle.member.specs.Record.{flagged}
+-- `member_record::count_flags` meets its contract: it is the count below seven. Assumes nothing.
+use Rattle.member_record.specs.Record.{flagged}
 use borrow.Author.Needs.{needs}
-use Rattle.member.proofs.soundness.count_flags.Statement.{statement}
-use Rattle.member.proofs.soundness.count_flags.Tie as tie
+use Rattle.member_record.proofs.count_flags.Statement.{statement}
+use Rattle.member_record.proofs.count_flags.Tie as tie
 
 count-below-requires : tie.Need-count-below-requires
 count-below-requires c κs = search needs

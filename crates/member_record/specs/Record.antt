@@ -9,7 +9,7 @@ use Rattle.ids.specs.declared.Member.{Member}
 use Rattle.ids.specs.Ranges.{above-range}
 use Rattle.quorum.specs.Count.{count, some}
 use Rattle.quorum.specs.Quorum.{quorum}
-use Rattle.member.specs.declared.MemberState.{MemberState}
+use Rattle.member_record.specs.declared.MemberState.{MemberState}
 
 -- N is 3, 5 or 7
 abbrev pub allowed : ℕ → Bool

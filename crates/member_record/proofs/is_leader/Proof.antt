@@ -1,7 +1,7 @@
--- `member::soundness::is_leader` meets its contract by that of `ids::leader`. Assumes nothing.
+-- `member_record::is_leader` meets its contract by that of `ids::leader`. Assumes nothing.
 use borrow.Author.Needs.{needs}
-use Rattle.member.proofs.soundness.is_leader.Statement.{statement}
-use Rattle.member.proofs.soundness.is_leader.Tie as tie
+use Rattle.member_record.proofs.is_leader.Statement.{statement}
+use Rattle.member_record.proofs.is_leader.Tie as tie
 
 leader-requires : tie.Need-leader-requires
 leader-requires c κs = search needs

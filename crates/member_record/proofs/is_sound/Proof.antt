@@ -1,11 +1,11 @@
--- `member::soundness::sound` meets its contract: each return goes by the tests that led there; an allowed N is 3 to 7. Assumes nothing.
+-- `member_record::is_sound` meets its contract: each return goes by the tests that led there; an allowed N is 3 to 7. Assumes nothing.
 use borrow.Author.Tests.{le-leb, lt-leb, not-true, not-false}
 use native.Mathlib.Omega.{arith}
-use Rattle.member.specs.Record.{sound}
-use Rattle.member.proofs.Flags.{number-sizes}
+use Rattle.member_record.specs.Record.{sound}
+use Rattle.member_record.proofs.Flags.{number-sizes}
 use borrow.Author.Needs.{needs}
-use Rattle.member.proofs.soundness.sound.Statement.{statement}
-use Rattle.member.proofs.soundness.sound.Tie as tie
+use Rattle.member_record.proofs.is_sound.Statement.{statement}
+use Rattle.member_record.proofs.is_sound.Tie as tie
 
 number-sound-requires : tie.Need-number-sound-requires
 number-sound-requires c κs = search needs
@@ -80,8 +80,8 @@ returns-5 c =
       not-false (flags-sound .result) (c .before .if4 .left),
     ) (c .lead-sound .ensures)
 
-pub sound-spec : {M : Type 1} → statement M
-sound-spec =
+pub is-sound-spec : {M : Type 1} → statement M
+is-sound-spec =
     tie.close
     (tie.spec
     number-sound-requires

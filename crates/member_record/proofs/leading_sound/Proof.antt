@@ -1,8 +1,8 @@
--- `member::soundness::leading_sound` meets its contract: each return goes by the tests that led there. Assumes nothing.
+-- `member_record::leading_sound` meets its contract: each return goes by the tests that led there. Assumes nothing.
 use borrow.Author.Tests.{eq-eqb, ne-eqb, lt-ltb, le-ltb, not-true, not-false}
 use borrow.Author.Needs.{needs}
-use Rattle.member.proofs.soundness.leading_sound.Statement.{statement}
-use Rattle.member.proofs.soundness.leading_sound.Tie as tie
+use Rattle.member_record.proofs.leading_sound.Statement.{statement}
+use Rattle.member_record.proofs.leading_sound.Tie as tie
 
 returns : tie.Need-returns
 returns c = simp (eq-eqb _ _ (c .if1 .taken))

@@ -1,13 +1,13 @@
--- `member::soundness::count_below` meets its contract: after i turns the count is that of the members below i. Assumes nothing.
+-- `member_record::count_below` meets its contract: after i turns the count is that of the members below i. Assumes nothing.
 use mathlib.Core.Path.{_≡_, refl, _∙_}
 use mathlib.Core.Logic.{⊎-elim}
 use Prim.Native.Nat.{_≤_, _-_}
 use native.Mathlib.Omega.{arith}
 use native.Mathlib.Numerals.{add-one}
 use Rattle.quorum.specs.Count.{count}
-use Rattle.member.specs.Record.{flag}
-use Rattle.member.proofs.soundness.count_below.Statement.{statement}
-use Rattle.member.proofs.soundness.count_below.Tie as tie
+use Rattle.member_record.specs.Record.{flag}
+use Rattle.member_record.proofs.count_below.Statement.{statement}
+use Rattle.member_record.proofs.count_below.Tie as tie
 
 abbrev Inv-loop : tie.InvT-loop
 Inv-loop to flags k₀ i₀ k i = (i ≤ to) × (k ≤ i) × (k ≡ count (flag flags) i)

@@ -1,5 +1,4 @@
-// Which records are sound (01, "Members"), and the fresh record.
-use crate::MemberState;
+// The member record of 01, "Members": which records are sound, and the fresh record.
 use ids::LAST_ROUND;
 use ids::Member;
 use ids::Round;
@@ -8,7 +7,31 @@ use quorum::quorum_of;
 ghost use mathlib.Core.Path.{_≡_};
 ghost use Prim.Native.Nat.{_≤_};
 ghost use Rattle.quorum.specs.Count.{count};
-ghost use Rattle.member.specs.Record.{allowed, leads, flag, flagged, fresh, sound-number, sound-vote, sound-flags, sound-idle, sound-count, sound-leading, sound-lead, sound};
+ghost use Rattle.member_record.specs.Record.{allowed, leads, flag, flagged, fresh, sound-number, sound-vote, sound-flags, sound-idle, sound-count, sound-leading, sound-lead, sound};
+
+// The member record.
+pub struct MemberState {
+    // Own number.
+    pub me: Member,
+    // N, the number of members.
+    pub n: u32,
+    // J, the highest round joined or voted.
+    pub joined: Round,
+    // V, the last voted round.
+    pub voted: Round,
+    // W, its value.
+    pub vote: u64,
+    // L, the round last led.
+    pub led: Round,
+    // 0 idle, 1 collecting, 2 proposed, 3 decided.
+    pub phase: u32,
+    // X, the value to propose.
+    pub value: u64,
+    // B, the round it came from.
+    pub source: Round,
+    // One for each member counted.
+    pub flags: [bool; 7],
+}
 
 // How many of the members below `to` are flagged.
 fn count_below(flags: [bool; 7], to: usize) -> u32
@@ -52,7 +75,7 @@ pub fn blank(me: Member, n: u32) -> MemberState
 }
 
 // N is 3, 5 or 7.
-pub fn size_allowed(n: u32) -> bool
+pub fn is_allowed(n: u32) -> bool
     ensures { λ b. ⌜ b ≡ allowed n ⌝ }
 {
     if n == 3 {
@@ -68,7 +91,7 @@ pub fn size_allowed(n: u32) -> bool
 pub fn number_sound(me: Member, n: u32) -> bool
     ensures { λ b. ⌜ b ≡ sound-number me n ⌝ }
 {
-    if !size_allowed(n) {
+    if !is_allowed(n) {
         return false;
     }
     me.0 < n
@@ -173,7 +196,7 @@ fn lead_sound(m: MemberState) -> bool
 }
 
 // Whether a record is sound.
-pub fn sound(m: MemberState) -> bool
+pub fn is_sound(m: MemberState) -> bool
     ensures { λ b. ⌜ b ≡ sound m ⌝ }
 {
     let me = m.me;

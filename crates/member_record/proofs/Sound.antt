@@ -1,13 +1,14 @@
 -- A sound record taken apart and put together again. Assumes nothing.
 use mathlib.Core.Path.{_≡_}
-use mathlib.Core.Bool.{Bool, true, false, cond, not, _&&_, _||_}
-use Prim.Native.Nat.{_≤_}
+use mathlib.Core.Bool.{Bool, true, false, cond, not, _&&_, _||_, and-true}
+use Prim.Native.Nat.{ℕ, _≤_}
 use lib.Dec.{ltb, leb, eqb}
 use Rattle.laws.specs.Tests.{and-left, and-right}
+use Rattle.ids.specs.declared.Member.{Member}
 use Rattle.ids.specs.Ranges.{above-range}
-use Rattle.member.specs.declared.MemberState.{MemberState}
-use Rattle.member.proofs.Flags.{number-sizes}
-use Rattle.member.specs.Record.{leads, sound, sound-number, sound-vote, sound-flags, sound-count, sound-leading, sound-lead}
+use Rattle.member_record.specs.declared.MemberState.{MemberState}
+use Rattle.member_record.proofs.Flags.{number-sizes, cleared-from}
+use Rattle.member_record.specs.Record.{fresh, leads, sound, sound-number, sound-vote, sound-flags, sound-count, sound-leading, sound-lead}
 
 pub record Sound (m : MemberState) : Type 0 where
   pub number : sound-number (m .me) (m .n) ≡ true
@@ -85,3 +86,8 @@ pub sound-size : (m : MemberState) → sound m ≡ true → (3 ≤ m .n) × (m .
 sound-size m h =
     let (own, low, high) = number-sizes (m .me) (m .n) (parts m h .number) in
     (low, high)
+
+-- a fresh record is sound exactly if its number and N are allowed
+pub fresh-sound : (me : Member) (n : ℕ) → sound (fresh me n) ≡ sound-number me n
+unfolding sound
+fresh-sound me n = rw (cleared-from n) (and-true (sound-number me n))
