@@ -1,4 +1,4 @@
--- The meanings of 01, "Members".
+-- The meanings of the member steps.
 pub mod Table
 pub mod Answers
 pub mod Kept

@@ -3,11 +3,13 @@ mod rows;
 
 use ids::Member;
 use ids::Round;
+use member_cells::Refusal;
 use member_record::MemberState;
 use member_record::blank;
 use member_record::is_sound;
 use member_record::number_sound;
 use message::Message;
+use rows::accept;
 use rows::on_message;
 use rows::on_start_call;
 use rows::refuse;
@@ -15,23 +17,10 @@ ghost use mathlib.Core.Path.{_≡_};
 ghost use mathlib.Core.Bool.{true};
 ghost use Rattle.message.specs.Fields.{in-range};
 ghost use Rattle.member_record.specs.Record.{sound};
+ghost use Rattle.member_cells.specs.Refusals.{refusal-number};
 ghost use Rattle.member.specs.Table.{start, deliver, fresh-step, step};
-ghost use Rattle.member.specs.Answers.{refusal-number, outcome};
+ghost use Rattle.member.specs.Answers.{outcome};
 ghost use Rattle.member.specs.Kept.{Stepped};
-
-// Why a step is refused; 01's numbers are in specs/Answers.antt.
-pub enum Refusal {
-    NotSound,
-    Field,
-    RoundRange,
-    NotLeader,
-    NotAboveLed,
-    Sender,
-    MovedPast,
-    OtherValue,
-    NotAwaited,
-    CountedAlready,
-}
 
 // What a step answers.
 pub enum Answer {
@@ -86,10 +75,7 @@ pub fn fresh(me: Member, n: u32) -> Step
     if !number_sound(me, n) {
         return refuse(m, Refusal::NotSound);
     }
-    Step {
-        state: m,
-        answer: Answer::Done,
-    }
+    accept(m)
 }
 
 // start(r, offer) of a sound record.
