@@ -14,8 +14,8 @@ use Rattle.message.specs.declared.Fault.the-variants.{Length, Kind, Field}
 use Rattle.message.specs.declared.Read.the-variants.{Got, Refused}
 use Rattle.message.specs.Reading.{fault-number, read-number, message-row, decoded, read}
 use Rattle.message.proofs.RoundTrip.{read-numbered, got}
-use Rattle.member.specs.declared.MemberState.{MemberState}
-use Rattle.member.specs.Record.{sound}
+use Rattle.member_record.specs.declared.MemberState.{MemberState}
+use Rattle.member_record.specs.Record.{sound}
 use Rattle.member.specs.Table.{Outcome, refused, unless, deliver, sound-step}
 use Rattle.lent_member.specs.Calls.{record-row, call, deliver-call}
 

@@ -23,9 +23,9 @@ use denote.Memory.{cellAt, mem}
 use denote.Steps.{opens, closes, owned, peeks}
 use denote.Struct.Steps.{spelt}
 use denote.Struct.Laws as LL
-use Rattle.member.specs.declared.MemberState.{MemberState}
-use Rattle.member.proofs.MemberState as T
-use Rattle.member.proofs.MemberState.Laws as T′
+use Rattle.member_record.specs.declared.MemberState.{MemberState}
+use Rattle.member_record.proofs.MemberState as T
+use Rattle.member_record.proofs.MemberState.Laws as T′
 use Rattle.lent_member.specs.declared.Called.{Called}
 use Rattle.lent_member.specs.declared.Report.{Report}
 use Rattle.lent_member.proofs.Called as K

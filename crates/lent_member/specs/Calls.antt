@@ -8,9 +8,9 @@ use Rattle.laws.specs.First.{Cause, _gives_}
 use Rattle.ids.specs.declared.Round.{Round}
 use Rattle.ids.specs.declared.Member.{Member}
 use Rattle.message.specs.Reading.{decoded, message-row}
-use Rattle.member.specs.declared.MemberState.{MemberState}
-use Rattle.member.specs.Record.{sound, sound-number}
-use Rattle.member.specs.Record as record-of
+use Rattle.member_record.specs.declared.MemberState.{MemberState}
+use Rattle.member_record.specs.Record.{sound, sound-number}
+use Rattle.member_record.specs.Record as record-of
 use Rattle.member.specs.Table.{Outcome, unless, silent, start, deliver, sound-step}
 
 -- 17 not sound; 18 a reply buffer of n bytes is under 28

@@ -6,8 +6,8 @@ use lib.ListN.{length}
 use Rattle.message.specs.declared.Message.{Message}
 use Rattle.message.specs.Layout.{bytes}
 use Rattle.message.specs.Writing.{in-front}
-use Rattle.member.specs.declared.MemberState.{MemberState}
-use Rattle.member.specs.Record.{round}
+use Rattle.member_record.specs.declared.MemberState.{MemberState}
+use Rattle.member_record.specs.Record.{round}
 use Rattle.member.specs.Table.{Named, nothing, proposal, decision, Outcome}
 use Rattle.lent_member.specs.declared.Report.{Report}
 

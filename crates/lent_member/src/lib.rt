@@ -4,7 +4,7 @@ mod steps;
 
 use ids::Member;
 use ids::Round;
-use member::MemberState;
+use member_record::MemberState;
 use steps::deliver_into;
 use steps::fresh_into;
 use steps::start_into;

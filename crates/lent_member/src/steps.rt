@@ -4,7 +4,7 @@ use crate::Report;
 use ids::Member;
 use ids::Round;
 use member::Answer;
-use member::MemberState;
+use member_record::MemberState;
 use member::Step;
 use message::LONGEST;
 use message::Message;
@@ -106,7 +106,7 @@ pub fn fresh_into(m: MemberState, me: Member, n: u32) -> Called
 {
     let s = member::fresh(me, n);
     let fresh = s.state;
-    if member::is_sound(fresh) {
+    if member_record::is_sound(fresh) {
         return report(fresh, 0, 0, Round(0), 0, Round(0));
     }
     refuse(m, NOT_SOUND)
@@ -116,7 +116,7 @@ pub fn fresh_into(m: MemberState, me: Member, n: u32) -> Called
 fn record_number(m: MemberState, room: usize) -> u32
     ensures { λ k. ⌜ k ≡ first (record-row m room) ⌝ }
 {
-    if !member::is_sound(m) {
+    if !member_record::is_sound(m) {
         return NOT_SOUND;
     }
     if room < LONGEST {

@@ -15,7 +15,7 @@ use Rattle.laws.specs.Parts.{to-end}
 use Rattle.xdr.specs.Words.{Bytes}
 use Rattle.quorum_tree.specs.Machine.{after}
 use Rattle.quorum_tree.specs.Table.{sized, table}
-use Rattle.member.specs.Record.{fresh as fresh-member}
+use Rattle.member_record.specs.Record.{fresh as fresh-member}
 use Rattle.model.specs.Model.{Sizes, Event, member-number, fresh-members, first-office, answer, answers, next, proposals}
 use Rattle.model.specs.Model.{after as ended-from}
 use Rattle.model.specs.Demand.{calls, ended}

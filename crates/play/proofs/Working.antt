@@ -15,9 +15,9 @@ use Rattle.message.specs.declared.Read.{Read}
 use Rattle.message.specs.declared.Read.the-variants.{Got, Refused}
 use Rattle.message.specs.Fields.{in-range}
 use Rattle.message.specs.Reading.{fault-number}
-use Rattle.member.specs.declared.MemberState.{MemberState}
+use Rattle.member_record.specs.declared.MemberState.{MemberState}
 use Rattle.member.specs.declared.Step.{Step}
-use Rattle.member.specs.Record.{sound, round}
+use Rattle.member_record.specs.Record.{sound, round}
 use Rattle.member.specs.Answers.{outcome as step-outcome}
 use Rattle.member.specs.Kept.{Stepped}
 use Rattle.member.specs.Table.{sound-step}

@@ -39,8 +39,8 @@ use denote.Triple.Clauses.{ensured, lasts}
 use denote.Triple.Table.{entered, cited}
 use denote.Triple.Walked.{says, Stays, stay-ref, stay-none-slice, gave-slice, walkOf, AllGo, goes-none-slice, goes-ref, goes-gave-slice, Walks, ends-at, walked, walk-meets}
 use denote.Exit.{yes}
-use Rattle.member.specs.declared.MemberState.{MemberState}
-use Rattle.member.proofs.MemberState as T
+use Rattle.member_record.specs.declared.MemberState.{MemberState}
+use Rattle.member_record.proofs.MemberState as T
 use Rattle.lent_member.specs.declared.Called.{Called}
 use Rattle.lent_member.specs.Calls.{deliver-call}
 use Rattle.lent_member.specs.Reports.{Replies}

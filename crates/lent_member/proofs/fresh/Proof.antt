@@ -41,8 +41,8 @@ use denote.Exit.{yes}
 use Rattle.ids.specs.declared.Member.{Member}
 use Rattle.ids.proofs.Member as N
 use Rattle.ids.proofs.Member.Laws as N′
-use Rattle.member.specs.declared.MemberState.{MemberState}
-use Rattle.member.proofs.MemberState as T
+use Rattle.member_record.specs.declared.MemberState.{MemberState}
+use Rattle.member_record.proofs.MemberState as T
 use Rattle.lent_member.specs.declared.Called.{Called}
 use Rattle.lent_member.specs.Calls.{fresh-call}
 use Rattle.lent_member.specs.Reports.{Answers}

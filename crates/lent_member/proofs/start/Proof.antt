@@ -43,8 +43,8 @@ use denote.Exit.{yes}
 use Rattle.ids.specs.declared.Round.{Round}
 use Rattle.ids.proofs.Round as N
 use Rattle.ids.proofs.Round.Laws as N′
-use Rattle.member.specs.declared.MemberState.{MemberState}
-use Rattle.member.proofs.MemberState as T
+use Rattle.member_record.specs.declared.MemberState.{MemberState}
+use Rattle.member_record.proofs.MemberState as T
 use Rattle.lent_member.specs.declared.Called.{Called}
 use Rattle.lent_member.specs.Calls.{start-call}
 use Rattle.lent_member.specs.Reports.{Replies}

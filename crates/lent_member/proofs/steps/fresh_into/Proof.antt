@@ -5,14 +5,14 @@ use mathlib.Core.Bool.{Bool}
 use Prim.Native.Nat.{ℕ}
 use Rattle.laws.specs.Tests.{by-test}
 use Rattle.ids.specs.declared.Member.{Member}
-use Rattle.member.specs.declared.MemberState.{MemberState}
+use Rattle.member_record.specs.declared.MemberState.{MemberState}
 use Rattle.member.specs.declared.Answer.{Answer}
 use Rattle.member.specs.declared.Answer.the-variants.{Refused, Sent, Done, Proposed, Decided}
 use Rattle.member.specs.declared.Step.{Step}
-use Rattle.member.specs.Record.{sound, sound-number, fresh}
+use Rattle.member_record.specs.Record.{sound, sound-number, fresh}
 use Rattle.member.specs.Table.{fresh-step}
 use Rattle.member.specs.Answers.{answer-outcome, outcome}
-use Rattle.member.proofs.Keeping.{fresh-sound}
+use Rattle.member_record.proofs.Sound.{fresh-sound}
 use Rattle.lent_member.specs.Calls.{fresh-call}
 use borrow.Author.Needs.{needs}
 use Rattle.lent_member.proofs.steps.fresh_into.Statement.{statement}

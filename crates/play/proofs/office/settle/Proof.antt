@@ -3,8 +3,9 @@ use mathlib.Core.Path.{_≡_, refl, sym, ap, subst, _∙_}
 use native.Mathlib.Omega.{arith}
 use denote.Ref.{now}
 use Rattle.laws.specs.Tests.{tests}
-use Rattle.member.specs.Answers.{refusal-number, outcome}
-use Rattle.member.proofs.Checks.{numbered}
+use Rattle.member_cells.specs.Refusals.{refusal-number}
+use Rattle.member.specs.Answers.{outcome}
+use Rattle.member_cells.proofs.Refusals.{numbered}
 use Rattle.play.specs.Standing.{Next}
 use Rattle.play.proofs.Arms.{refuses, fills, has-no-row, goes-silent, goes-sent, goes-proposed, goes-decided}
 use Rattle.play.proofs.Facing.{retook, refusal-small, counts-fit, put-room, sent-ranged, answers-sent, answers-proposed, faced-proposals, faced-tree}
