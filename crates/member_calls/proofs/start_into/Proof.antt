@@ -1,13 +1,13 @@
--- `lent_member::steps::start_into` meets its contract: each return goes by the number that led there. Assumes nothing.
+-- `member_calls::start_into` meets its contract: each return goes by the number that led there. Assumes nothing.
 use mathlib.Core.Path.{refl}
 use mathlib.Core.List.{[]}
 use denote.Ref.{now}
 use Rattle.member.specs.Table.{start, sound-step}
-use Rattle.lent_member.specs.Calls.{start-call}
-use Rattle.lent_member.proofs.Calls.{passing, refusing, further}
+use Rattle.member_calls.specs.Calls.{start-call}
+use Rattle.member_calls.proofs.Calls.{passing, refusing, further}
 use borrow.Author.Needs.{needs}
-use Rattle.lent_member.proofs.steps.start_into.Statement.{statement}
-use Rattle.lent_member.proofs.steps.start_into.Tie as tie
+use Rattle.member_calls.proofs.start_into.Statement.{statement}
+use Rattle.member_calls.proofs.start_into.Tie as tie
 
 record-number-requires : tie.Need-record-number-requires
 record-number-requires c κs = search needs

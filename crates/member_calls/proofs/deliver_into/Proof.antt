@@ -1,14 +1,14 @@
--- `lent_member::steps::deliver_into` meets its contract: each return goes by the numbers that led there. Assumes nothing.
+-- `member_calls::deliver_into` meets its contract: each return goes by the numbers that led there. Assumes nothing.
 use mathlib.Core.Path.{refl, sym, _∙_}
 use denote.Ref.{now}
 use Rattle.message.specs.Reading.{message-row, decoded}
 use Rattle.message.proofs.RoundTrip.{got}
 use Rattle.member.specs.Table.{deliver, sound-step}
-use Rattle.lent_member.specs.Calls.{deliver-call}
-use Rattle.lent_member.proofs.Calls.{passing, refusing, unread, read-as}
+use Rattle.member_calls.specs.Calls.{deliver-call}
+use Rattle.member_calls.proofs.Calls.{passing, refusing, unread, read-as}
 use borrow.Author.Needs.{needs}
-use Rattle.lent_member.proofs.steps.deliver_into.Statement.{statement}
-use Rattle.lent_member.proofs.steps.deliver_into.Tie as tie
+use Rattle.member_calls.proofs.deliver_into.Statement.{statement}
+use Rattle.member_calls.proofs.deliver_into.Tie as tie
 
 record-number-requires : tie.Need-record-number-requires
 record-number-requires c κs = search needs

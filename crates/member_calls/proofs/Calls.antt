@@ -17,7 +17,7 @@ use Rattle.message.proofs.RoundTrip.{read-numbered, got}
 use Rattle.member_record.specs.declared.MemberState.{MemberState}
 use Rattle.member_record.specs.Record.{sound}
 use Rattle.member.specs.Table.{Outcome, refused, unless, deliver, sound-step}
-use Rattle.lent_member.specs.Calls.{record-row, call, deliver-call}
+use Rattle.member_calls.specs.Calls.{record-row, call, deliver-call}
 
 -- the row's number, as the code has it
 module _ (m : MemberState) (old : List ℕ) (k : ℕ) (row : k ≡ first (record-row m (length old))) where

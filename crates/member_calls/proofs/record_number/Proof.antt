@@ -1,8 +1,8 @@
--- `lent_member::steps::record_number` meets its contract: each return goes by the tests that led there. Assumes nothing.
+-- `member_calls::record_number` meets its contract: each return goes by the tests that led there. Assumes nothing.
 use borrow.Author.Tests.{lt-ltb, le-ltb, not-true, not-false}
 use borrow.Author.Needs.{needs}
-use Rattle.lent_member.proofs.steps.record_number.Statement.{statement}
-use Rattle.lent_member.proofs.steps.record_number.Tie as tie
+use Rattle.member_calls.proofs.record_number.Statement.{statement}
+use Rattle.member_calls.proofs.record_number.Tie as tie
 
 is-sound-requires : tie.Need-is-sound-requires
 is-sound-requires c κs = search needs

@@ -1,11 +1,10 @@
-// The calls by value: a record in and out, and a reply buffer that what is sent is put in.
-use crate::Called;
-use crate::Report;
+// The member calls of 01, "Members", by value: a record in and out, and a reply buffer that what is sent is put in.
 use ids::Member;
 use ids::Round;
 use member::Answer;
-use member_record::MemberState;
 use member::Step;
+use member_record::MemberState;
+use member_record::is_sound;
 use message::LONGEST;
 use message::Message;
 use message::Read;
@@ -20,8 +19,28 @@ ghost use Rattle.message.specs.Fields.{in-range};
 ghost use Rattle.member.specs.Table.{refused};
 ghost use Rattle.member.specs.Answers.{outcome};
 ghost use Rattle.member.specs.Kept.{Kept};
-ghost use Rattle.lent_member.specs.Calls.{record-row, fresh-call, start-call, deliver-call};
-ghost use Rattle.lent_member.specs.Reports.{sent-length, reply-after, Answers, Replies};
+ghost use Rattle.member_calls.specs.Calls.{record-row, fresh-call, start-call, deliver-call};
+ghost use Rattle.member_calls.specs.Reports.{sent-length, reply-after, Answers, Replies};
+
+// The result of a call: numbers of 01. Each that the call does not give or name is 0.
+pub struct Report {
+    // Of the place table; 0 is OK.
+    pub number: u32,
+    // The length of the message at the front of the reply.
+    pub sent: usize,
+    // r of add(r, X, B), whose PROPOSE is sent, or of commit(r), where nothing is.
+    pub round: Round,
+    // X.
+    pub value: u64,
+    // B of add(r, X, B).
+    pub parent: Round,
+}
+
+// The record after a call, beside its result.
+pub struct Called {
+    pub state: MemberState,
+    pub report: Report,
+}
 
 // The causes of the row "record, then buffer".
 const NOT_SOUND: u32 = 17;
@@ -32,18 +51,11 @@ const SHORT_BUFFER: u32 = 18;
 fn refuse(m: MemberState, number: u32) -> Called
     ensures { λ c. ⌜ Answers (refused number m) (c .state) (c .report) ⌝ }
 {
-    report(m, number, 0, Round(0), 0, Round(0))
+    give(m, number, 0, Round(0), 0, Round(0))
 }
 
 // A record and a result.
-fn report(
-    m: MemberState,
-    number: u32,
-    sent: usize,
-    round: Round,
-    value: u64,
-    parent: Round,
-) -> Called
+fn give(m: MemberState, number: u32, sent: usize, round: Round, value: u64, parent: Round) -> Called
     ensures { λ c. ⌜ c ≡ record { state = m; report = record { number = number; sent = sent; round = round; value = value; parent = parent } } ⌝ }
 {
     let report = Report {
@@ -84,9 +96,9 @@ fn tell(s: Step, reply: &mut [u8]) -> Called
         Answer::Refused(k) => refuse(m, member::number(k)),
         Answer::Sent(g) => {
             let n = send(g, reply);
-            report(m, 0, n, none, 0, none)
+            give(m, 0, n, none, 0, none)
         }
-        Answer::Done => report(m, 0, 0, none, 0, none),
+        Answer::Done => give(m, 0, 0, none, 0, none),
         Answer::Proposed {
             sent,
             round,
@@ -94,9 +106,9 @@ fn tell(s: Step, reply: &mut [u8]) -> Called
             parent,
         } => {
             let n = send(sent, reply);
-            report(m, 0, n, round, value, parent)
+            give(m, 0, n, round, value, parent)
         }
-        Answer::Decided { round, value } => report(m, 0, 0, round, value, none),
+        Answer::Decided { round, value } => give(m, 0, 0, round, value, none),
     }
 }
 
@@ -106,8 +118,8 @@ pub fn fresh_into(m: MemberState, me: Member, n: u32) -> Called
 {
     let s = member::fresh(me, n);
     let fresh = s.state;
-    if member_record::is_sound(fresh) {
-        return report(fresh, 0, 0, Round(0), 0, Round(0));
+    if is_sound(fresh) {
+        return give(fresh, 0, 0, Round(0), 0, Round(0));
     }
     refuse(m, NOT_SOUND)
 }
@@ -116,7 +128,7 @@ pub fn fresh_into(m: MemberState, me: Member, n: u32) -> Called
 fn record_number(m: MemberState, room: usize) -> u32
     ensures { λ k. ⌜ k ≡ first (record-row m room) ⌝ }
 {
-    if !member_record::is_sound(m) {
+    if !is_sound(m) {
         return NOT_SOUND;
     }
     if room < LONGEST {

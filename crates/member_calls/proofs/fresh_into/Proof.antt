@@ -1,4 +1,4 @@
--- `lent_member::steps::fresh_into` meets its contract: the record that `member::fresh` makes is the fresh one, and sound exactly if its number and N are allowed.
+-- `member_calls::fresh_into` meets its contract: the record that `member::fresh` makes is the fresh one, and sound exactly if its number and N are allowed.
 -- Assumes nothing.
 use mathlib.Core.Path.{_≡_, refl, sym, ap, _∙_}
 use mathlib.Core.Bool.{Bool}
@@ -13,10 +13,10 @@ use Rattle.member_record.specs.Record.{sound, sound-number, fresh}
 use Rattle.member.specs.Table.{fresh-step}
 use Rattle.member.specs.Answers.{answer-outcome, outcome}
 use Rattle.member_record.proofs.Sound.{fresh-sound}
-use Rattle.lent_member.specs.Calls.{fresh-call}
+use Rattle.member_calls.specs.Calls.{fresh-call}
 use borrow.Author.Needs.{needs}
-use Rattle.lent_member.proofs.steps.fresh_into.Statement.{statement}
-use Rattle.lent_member.proofs.steps.fresh_into.Tie as tie
+use Rattle.member_calls.proofs.fresh_into.Statement.{statement}
+use Rattle.member_calls.proofs.fresh_into.Tie as tie
 
 -- a step's outcome has the step's record
 state-of : (m : MemberState) (a : Answer) → answer-outcome m a .state ≡ m
@@ -41,8 +41,8 @@ fresh-requires c κs = search needs
 is-sound-requires : tie.Need-is-sound-requires
 is-sound-requires c κs = search needs
 
-report-requires : tie.Need-report-requires
-report-requires c κs = search needs
+give-requires : tie.Need-give-requires
+give-requires c κs = search needs
 
 returns : tie.Need-returns
 unfolding fresh-call
@@ -50,7 +50,7 @@ returns c =
     let new = c .before .before .before .before in
     let args = new .before .args in
     let allowed = tested (args .me) (args .n) (new .fresh .result) (new .fresh .ensures) (c .before .before .is-sound .ensures) ∙ c .before .if1 .taken in
-    rw (allowed, c .report .ensures) (record { report = refl; state = made (args .me) (args .n) (new .fresh .result) (new .fresh .ensures) })
+    rw (allowed, c .give .ensures) (record { report = refl; state = made (args .me) (args .n) (new .fresh .result) (new .fresh .ensures) })
 
 refuse-requires : tie.Need-refuse-requires
 refuse-requires c κs = search needs
@@ -66,4 +66,4 @@ returns-2 c =
 pub fresh-into-spec : {M : Type 1} → statement M
 fresh-into-spec =
     tie.close
-    (tie.spec fresh-requires is-sound-requires report-requires returns refuse-requires returns-2)
+    (tie.spec fresh-requires is-sound-requires give-requires returns refuse-requires returns-2)
