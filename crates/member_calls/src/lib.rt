@@ -4,7 +4,9 @@ use ids::Round;
 use member::Answer;
 use member::Step;
 use member_record::MemberState;
+use member_record::blank;
 use member_record::is_sound;
+use member_record::number_sound;
 use message::LONGEST;
 use message::Message;
 use message::Read;
@@ -112,16 +114,15 @@ fn tell(s: Step, reply: &mut [u8]) -> Called
     }
 }
 
-// Fresh: the new record is sound exactly if its number and N are allowed; else the old one stays.
+// Fresh: where the number or N isn't allowed, the old record stays.
 pub fn fresh_into(m: MemberState, me: Member, n: u32) -> Called
     ensures { λ c. ⌜ Answers (fresh-call m me n) (c .state) (c .report) ⌝ }
 {
-    let s = member::fresh(me, n);
-    let fresh = s.state;
-    if is_sound(fresh) {
-        return give(fresh, 0, 0, Round(0), 0, Round(0));
+    let fresh = blank(me, n);
+    if !number_sound(me, n) {
+        return refuse(m, NOT_SOUND);
     }
-    refuse(m, NOT_SOUND)
+    give(fresh, 0, 0, Round(0), 0, Round(0))
 }
 
 // The first number of the row "record, then buffer" whose cause holds, else 0. The buffer is asked for even where nothing would be sent.
