@@ -5,8 +5,8 @@ ghost use Prim.Native.Nat.{_<_};
 use ids::Member;
 use ids::Round;
 use member::Answer;
-use member::MemberState;
 use member::Step;
+use member_record::MemberState;
 use message::Message;
 
 // The office after an event, and the message sent.

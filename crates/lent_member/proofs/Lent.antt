@@ -23,15 +23,15 @@ use denote.Memory.{cellAt, mem}
 use denote.Steps.{opens, closes, owned, peeks}
 use denote.Struct.Steps.{spelt}
 use denote.Struct.Laws as LL
-use Rattle.member.specs.declared.MemberState.{MemberState}
-use Rattle.member.proofs.MemberState as T
-use Rattle.member.proofs.MemberState.Laws as T′
-use Rattle.lent_member.specs.declared.Called.{Called}
-use Rattle.lent_member.specs.declared.Report.{Report}
-use Rattle.lent_member.proofs.Called as K
-use Rattle.lent_member.proofs.Called.Laws as K′
-use Rattle.lent_member.proofs.Report as R
-use Rattle.lent_member.proofs.Report.Laws as R′
+use Rattle.member_record.specs.declared.MemberState.{MemberState}
+use Rattle.member_record.proofs.MemberState as T
+use Rattle.member_record.proofs.MemberState.Laws as T′
+use Rattle.member_calls.specs.declared.Called.{Called}
+use Rattle.member_calls.specs.declared.Report.{Report}
+use Rattle.member_calls.proofs.Called as K
+use Rattle.member_calls.proofs.Called.Laws as K′
+use Rattle.member_calls.proofs.Report as R
+use Rattle.member_calls.proofs.Report.Laws as R′
 
 abbrev pub vals : MemberState → List Val
 vals = LL.vals T.the-type T′.the-laws

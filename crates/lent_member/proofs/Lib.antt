@@ -1,3 +1,2 @@
--- Laws of the member calls, and what their walks share.
-pub mod Calls
+-- What the walks of the calls on a lent record share.
 pub mod Lent

@@ -1,35 +1,14 @@
 // The member calls of 01, "Members": the record is lent and altered where it sits, and what is sent stands in a lent reply buffer.
 // Each takes the record apart for a step by value, and puts back what the step left.
-mod steps;
-
 use ids::Member;
 use ids::Round;
-use member::MemberState;
-use steps::deliver_into;
-use steps::fresh_into;
-use steps::start_into;
-ghost use Rattle.lent_member.specs.Calls.{fresh-call, start-call, deliver-call};
-ghost use Rattle.lent_member.specs.Reports.{Answers, Replies};
-
-// The result of a call: numbers of 01. Each that the call does not give or name is 0.
-pub struct Report {
-    // Of the place table; 0 is OK.
-    pub number: u32,
-    // The length of the message at the front of the reply.
-    pub sent: usize,
-    // r of add(r, X, B), whose PROPOSE is sent, or of commit(r), where nothing is.
-    pub round: Round,
-    // X.
-    pub value: u64,
-    // B of add(r, X, B).
-    pub parent: Round,
-}
-
-// The record after a call, beside its result.
-pub struct Called {
-    pub state: MemberState,
-    pub report: Report,
-}
+use member_calls::Report;
+use member_calls::deliver_into;
+use member_calls::fresh_into;
+use member_calls::start_into;
+use member_record::MemberState;
+ghost use Rattle.member_calls.specs.Calls.{fresh-call, start-call, deliver-call};
+ghost use Rattle.member_calls.specs.Reports.{Answers, Replies};
 
 // Makes the record fresh.
 pub fn fresh(m: &mut MemberState, me: Member, n: u32) -> Report

@@ -1,7 +1,7 @@
 -- An accepted step of a sound record gives a sound record, and what it sends is within the ranges of its kind. Row by row: what the
 -- row leaves is sound as it was, what it changes is so by the causes that did not hold. Assumes nothing.
 use mathlib.Core.Path.{_≡_, refl}
-use mathlib.Core.Bool.{Bool, true, false, cond, not, and-true}
+use mathlib.Core.Bool.{Bool, true, false, cond, not}
 use mathlib.Core.List.{List, [], _∷_, List·Memᴰ·eq-of-singleton}
 use Prim.Native.Nat.{ℕ, suc, _<_}
 use native.Mathlib.Omega.{arith}
@@ -19,12 +19,13 @@ use Rattle.quorum.specs.Quorum.{quorum}
 use Rattle.message.specs.declared.Message.{Message}
 use Rattle.message.specs.declared.Message.the-variants.{Start, Join, JoinVoted, Propose, Vote}
 use Rattle.message.specs.Fields.{head-in-range, in-range}
-use Rattle.member.specs.declared.MemberState.{MemberState}
-use Rattle.member.specs.Record.{leads, flag, flagged, flag-from, no-flags, sound, sound-number, fresh}
-use Rattle.member.specs.Table.{Outcome, silent, start-causes, leading, start-row, START-causes, joining, join-of, START-row, awaits, count-causes, counting, complete, at-quorum, adopted, adopting, proposes, JOIN-row, voting, PROPOSE-row, decides, VOTE-row, Event, start, deliver, fitting, causes, row, sound-step, step}
+use Rattle.member_record.specs.declared.MemberState.{MemberState}
+use Rattle.member_record.specs.Record.{leads, flag, flagged, flag-from, no-flags, sound}
+use Rattle.member_cells.specs.Cells.{start-causes, leading, START-causes, joining, join-of, awaits, count-causes, counting, adopted, adopting, voting}
+use Rattle.member.specs.Table.{Outcome, silent, start-row, START-row, complete, at-quorum, proposes, JOIN-row, PROPOSE-row, decides, VOTE-row, Event, start, deliver, fitting, causes, row, sound-step, step}
 use Rattle.member.specs.Kept.{Kept}
-use Rattle.member.proofs.Flags.{number-sizes, cleared-short, cleared-from, set-count, set-from}
-use Rattle.member.proofs.Sound.{Sound, parts, whole, Votes, votes, Leading, leading-parts, leading-whole}
+use Rattle.member_record.proofs.Flags.{number-sizes, cleared-short, cleared-from, set-count, set-from}
+use Rattle.member_record.proofs.Sound.{Sound, parts, whole, Votes, votes, Leading, leading-parts, leading-whole}
 
 one-sent : (x : Message) → in-range x ≡ true → (g : Message) → g ∈ x ∷ [] → in-range g ≡ true
 one-sent x h g i = rw (List·Memᴰ·eq-of-singleton i) h
@@ -226,11 +227,6 @@ step-kept m e seven s f =
     by-test (eqb (first (causes m e)) 0)
     (λ h. rw h (row-kept m e seven s f (omega tests)))
     (λ h. rw h (record { sound-after = s; seven-after = seven; sent-in-range = λ g i. elim i [ ] }))
-
--- a fresh record is sound exactly if its number and N are allowed
-pub fresh-sound : (me : Member) (n : ℕ) → sound (fresh me n) ≡ sound-number me n
-unfolding sound
-fresh-sound me n = rw (cleared-from n) (and-true (sound-number me n))
 
 -- the step of any record at any event is that of a sound record where the record is sound and the message within its ranges
 pub step-of-sound : (m : MemberState) (e : Event) → sound m ≡ true → fitting e ≡ true → step m e ≡ sound-step m e

@@ -1,5 +1,3 @@
--- Laws of the member record and its steps.
-pub mod Flags
+-- Laws of the member steps.
 pub mod Checks
-pub mod Sound
 pub mod Keeping

@@ -5,9 +5,9 @@ use lib.ListN.{length}
 use Rattle.laws.specs.Lists.{_∈_}
 use Rattle.message.specs.declared.Message.{Message}
 use Rattle.message.specs.Fields.{in-range}
-use Rattle.member.specs.declared.MemberState.{MemberState}
+use Rattle.member_record.specs.declared.MemberState.{MemberState}
 use Rattle.member.specs.declared.Step.{Step}
-use Rattle.member.specs.Record.{sound}
+use Rattle.member_record.specs.Record.{sound}
 use Rattle.member.specs.Table.{Outcome, Event, sound-step}
 use Rattle.member.specs.Answers.{outcome}
 

@@ -1,5 +1,4 @@
--- The meanings of 01, "Members".
-pub mod Record
+-- The meanings of the member steps.
 pub mod Table
 pub mod Answers
 pub mod Kept

@@ -1,60 +1,26 @@
 // The member steps of 01, "Members", by value: a record and an event in, the new record and the answer out.
 mod rows;
-mod soundness;
 
 use ids::Member;
 use ids::Round;
+use member_cells::Refusal;
+use member_record::MemberState;
+use member_record::blank;
+use member_record::is_sound;
+use member_record::number_sound;
 use message::Message;
+use rows::accept;
 use rows::on_message;
 use rows::on_start_call;
 use rows::refuse;
-use soundness::blank;
-use soundness::number_sound;
 ghost use mathlib.Core.Path.{_≡_};
 ghost use mathlib.Core.Bool.{true};
 ghost use Rattle.message.specs.Fields.{in-range};
-ghost use Rattle.member.specs.Record.{allowed, sound};
+ghost use Rattle.member_record.specs.Record.{sound};
+ghost use Rattle.member_cells.specs.Refusals.{refusal-number};
 ghost use Rattle.member.specs.Table.{start, deliver, fresh-step, step};
-ghost use Rattle.member.specs.Answers.{refusal-number, outcome};
+ghost use Rattle.member.specs.Answers.{outcome};
 ghost use Rattle.member.specs.Kept.{Stepped};
-
-// The member record.
-pub struct MemberState {
-    // Own number.
-    pub me: Member,
-    // N, the number of members.
-    pub n: u32,
-    // J, the highest round joined or voted.
-    pub joined: Round,
-    // V, the last voted round.
-    pub voted: Round,
-    // W, its value.
-    pub vote: u64,
-    // L, the round last led.
-    pub led: Round,
-    // 0 idle, 1 collecting, 2 proposed, 3 decided.
-    pub phase: u32,
-    // X, the value to propose.
-    pub value: u64,
-    // B, the round it came from.
-    pub source: Round,
-    // One for each member counted.
-    pub flags: [bool; 7],
-}
-
-// Why a step is refused; 01's numbers are in specs/Answers.antt.
-pub enum Refusal {
-    NotSound,
-    Field,
-    RoundRange,
-    NotLeader,
-    NotAboveLed,
-    Sender,
-    MovedPast,
-    OtherValue,
-    NotAwaited,
-    CountedAlready,
-}
 
 // What a step answers.
 pub enum Answer {
@@ -101,13 +67,6 @@ pub fn number(k: Refusal) -> u32
     }
 }
 
-// Whether an office may have n members.
-pub fn is_allowed(n: u32) -> bool
-    ensures { λ b. ⌜ b ≡ allowed n ⌝ }
-{
-    soundness::size_allowed(n)
-}
-
 // A fresh record.
 pub fn fresh(me: Member, n: u32) -> Step
     ensures { λ s. ⌜ outcome s ≡ fresh-step me n ⌝ }
@@ -116,17 +75,7 @@ pub fn fresh(me: Member, n: u32) -> Step
     if !number_sound(me, n) {
         return refuse(m, Refusal::NotSound);
     }
-    Step {
-        state: m,
-        answer: Answer::Done,
-    }
-}
-
-// Whether a record is sound.
-pub fn is_sound(m: MemberState) -> bool
-    ensures { λ b. ⌜ b ≡ sound m ⌝ }
-{
-    soundness::sound(m)
+    accept(m)
 }
 
 // start(r, offer) of a sound record.

@@ -18,11 +18,12 @@ use Rattle.quorum.specs.Count.{count, some}
 use Rattle.quorum.specs.Quorum.{Quorum, quorum}
 use Rattle.message.specs.declared.Message.{Message}
 use Rattle.message.specs.declared.Message.the-variants.{Start, Join, JoinVoted, Propose, Vote}
-use Rattle.member.specs.declared.MemberState.{MemberState}
-use Rattle.member.specs.Record.{flag, flagged, flag-from, no-flags}
-use Rattle.member.specs.Table.{counting, complete, adopted}
-use Rattle.member.proofs.Sound.{parts, sound-size}
-use Rattle.member.proofs.Flags.{counts-agree, set-from}
+use Rattle.member_record.specs.declared.MemberState.{MemberState}
+use Rattle.member_record.specs.Record.{flag, flagged, flag-from, no-flags}
+use Rattle.member_cells.specs.Cells.{counting, adopted}
+use Rattle.member.specs.Table.{complete}
+use Rattle.member_record.proofs.Sound.{parts, sound-size}
+use Rattle.member_record.proofs.Flags.{counts-agree, set-from}
 use Rattle.model.specs.Model.{Sizes, member-number}
 use Rattle.model.proofs.Kept.{KeptMember, own-round, led-ranged, source-lower}
 use Rattle.model.proofs.Invariant.{JoinOf, carried, Voted, Reached, Spoken}

@@ -15,7 +15,7 @@ use Rattle.quorum_tree.proofs.Rebuilt.{made, in-added, history-committed, round
 use Rattle.quorum_tree.proofs.History.{Told}
 use Rattle.quorum_tree.proofs.FourProperties.{told-ok, ok-exactly}
 use Rattle.quorum_tree.proofs.Agreement.{agreement}
-use Rattle.member.specs.Record.{allowed}
+use Rattle.member_record.specs.Record.{allowed}
 use Rattle.member.specs.Table.{decision}
 use Rattle.model.specs.Model.{Sizes, Event, first-office, offered}
 use Rattle.model.specs.Demand.{calls, ended, Demand}

@@ -15,9 +15,10 @@ use Rattle.quorum_tree.proofs.Calls.{none}
 use Rattle.message.specs.declared.Message.{Message}
 use Rattle.message.specs.declared.Message.the-variants.{Start, Join, JoinVoted, Propose, Vote}
 use Rattle.message.specs.Fields.{in-range, head-in-range, vote-in-range}
-use Rattle.member.specs.declared.MemberState.{MemberState}
-use Rattle.member.specs.Record.{allowed, fresh, round}
-use Rattle.member.specs.Table.{START-causes, start-causes, count-causes, PROPOSE-causes, awaits, adopted, adopting, JOIN-row, causes, row}
+use Rattle.member_record.specs.declared.MemberState.{MemberState}
+use Rattle.member_record.specs.Record.{allowed, fresh, round}
+use Rattle.member_cells.specs.Cells.{START-causes, start-causes, count-causes, PROPOSE-causes, awaits, adopted, adopting}
+use Rattle.member.specs.Table.{JOIN-row, causes, row}
 use Rattle.member.specs.Table.{deliver as delivers}
 use Rattle.model.specs.Model.{Sizes, Event, start, deliver, Office, member-number, first-office, member-at, message-at, at-member, outcome, proposes-one, proposals, answer, next, after, offer-of, offers-at, offered}
 use Rattle.model.specs.Demand.{calls, ended}

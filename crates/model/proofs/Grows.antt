@@ -12,7 +12,7 @@ use Rattle.laws.specs.Elements.{set-each}
 use Rattle.quorum.proofs.Meet.{wider}
 use Rattle.message.specs.declared.Message.{Message}
 use Rattle.message.specs.declared.Message.the-variants.{Start, Join, JoinVoted, Propose, Vote}
-use Rattle.member.specs.Record.{fresh}
+use Rattle.member_record.specs.Record.{fresh}
 use Rattle.member.specs.Table.{Outcome, Named, nothing, proposal, decision}
 use Rattle.model.specs.Model.{Sizes, Office, member-number, member-at, made-by}
 use Rattle.model.proofs.Senders.{sender}

@@ -9,8 +9,8 @@ use Rattle.quorum.specs.Quorum.{Quorum, quorum}
 use Rattle.quorum_tree.specs.Properties.{Properties, InRange}
 use Rattle.message.specs.declared.Message.{Message}
 use Rattle.message.specs.declared.Message.the-variants.{Start, Join, JoinVoted, Propose, Vote}
-use Rattle.member.specs.declared.MemberState.{MemberState}
-use Rattle.member.specs.Record.{flag, round}
+use Rattle.member_record.specs.declared.MemberState.{MemberState}
+use Rattle.member_record.specs.Record.{flag, round}
 use Rattle.member.specs.Table.{Named, proposal, decision}
 use Rattle.model.specs.Model.{Sizes, Office, member-number, member-at, proposals}
 use Rattle.model.specs.Demand.{calls}

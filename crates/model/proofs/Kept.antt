@@ -17,12 +17,12 @@ use Rattle.laws.specs.First.{first}
 use Rattle.ids.specs.Ranges.{above-range, out-of-range}
 use Rattle.message.specs.declared.Message.{Message}
 use Rattle.message.specs.Fields.{in-range}
-use Rattle.member.specs.declared.MemberState.{MemberState}
-use Rattle.member.specs.Record.{allowed, fresh, sound}
+use Rattle.member_record.specs.declared.MemberState.{MemberState}
+use Rattle.member_record.specs.Record.{allowed, fresh, sound}
 use Rattle.member.specs.Table.{sound-step, fitting, causes, row}
 use Rattle.member.specs.Kept.{Kept}
-use Rattle.member.proofs.Sound.{Sound, parts, votes, leading-parts, Leading as MemberLeads}
-use Rattle.member.proofs.Keeping.{step-kept, fresh-sound, step-of-sound}
+use Rattle.member_record.proofs.Sound.{Sound, parts, votes, leading-parts, Leading as MemberLeads, fresh-sound}
+use Rattle.member.proofs.Keeping.{step-kept, step-of-sound}
 use Rattle.model.specs.Model.{Sizes, Event, start, deliver, Office, member-number, fresh-members, first-office, member-at, message-at, at-member, unsent, event-of, outcome, absent, no-store-row, no-table-row, sends-one, proposes-one, proposals, answer, taken, next, after}
 use Rattle.model.specs.Demand.{ended}
 use Rattle.model.proofs.Senders.{sender, Own, own-step}

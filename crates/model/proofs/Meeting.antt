@@ -15,7 +15,7 @@ use Rattle.quorum_tree.specs.Machine.{Call, add, commit, crosses}
 use Rattle.quorum_tree.specs.Properties.{round-of, adds, commits, edge-crosses}
 use Rattle.quorum_tree.proofs.Calls.{Next, grow, adds-intro, adds-with-intro}
 use Rattle.message.specs.declared.Message.{Message}
-use Rattle.member.specs.Record.{allowed}
+use Rattle.member_record.specs.Record.{allowed}
 use Rattle.member.specs.Table.{Named, proposal, decision}
 use Rattle.model.specs.Model.{Sizes, proposals}
 use Rattle.model.specs.Demand.{calls}

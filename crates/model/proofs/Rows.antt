@@ -16,9 +16,10 @@ use Rattle.quorum.specs.Quorum.{Quorum}
 use Rattle.quorum_tree.proofs.Calls.{adds-elim, committed-added}
 use Rattle.message.specs.declared.Message.{Message}
 use Rattle.message.specs.declared.Message.the-variants.{Start, Join, JoinVoted, Propose, Vote}
-use Rattle.member.specs.declared.MemberState.{MemberState}
-use Rattle.member.specs.Record.{leads, round}
-use Rattle.member.specs.Table.{proposal, decision, silent, start-causes, leading, start-row, START-causes, join-of, START-row, counting, complete, proposes, JOIN-row, PROPOSE-causes, PROPOSE-row, decides, VOTE-row}
+use Rattle.member_record.specs.declared.MemberState.{MemberState}
+use Rattle.member_record.specs.Record.{leads, round}
+use Rattle.member_cells.specs.Cells.{start-causes, leading, START-causes, join-of, counting, PROPOSE-causes}
+use Rattle.member.specs.Table.{proposal, decision, silent, start-row, START-row, complete, proposes, JOIN-row, PROPOSE-row, decides, VOTE-row}
 use Rattle.model.specs.Model.{Sizes, Office, member-number, proposals, proposes-one}
 use Rattle.model.specs.Demand.{calls}
 use Rattle.model.proofs.Made.{decision-call, call-proposal}

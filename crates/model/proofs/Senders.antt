@@ -13,8 +13,9 @@ use Rattle.ids.specs.declared.Round.{Round}
 use Rattle.ids.specs.declared.Member.{Member}
 use Rattle.message.specs.declared.Message.{Message}
 use Rattle.message.specs.declared.Message.the-variants.{Start, Join, JoinVoted, Propose, Vote}
-use Rattle.member.specs.declared.MemberState.{MemberState}
-use Rattle.member.specs.Table.{Outcome, refused, silent, counting, complete, adopting, adopted, proposes, decides, Event, start, deliver, join-of, causes, row, unfit, sound-step, step}
+use Rattle.member_record.specs.declared.MemberState.{MemberState}
+use Rattle.member_cells.specs.Cells.{counting, adopting, adopted, join-of}
+use Rattle.member.specs.Table.{Outcome, refused, silent, complete, proposes, decides, Event, start, deliver, causes, row, unfit, sound-step, step}
 
 abbrev pub sender : Message → ℕ
 sender (Start r s) = s .0

@@ -13,7 +13,7 @@ use Rattle.quorum_tree.proofs.Rebuilt.{length-added}
 use Rattle.quorum_tree.proofs.History.{told-fresh, told-grown}
 use Rattle.quorum_tree.proofs.FourProperties.{next-ok}
 use Rattle.quorum_tree.proofs.Steps.{after-append}
-use Rattle.member.specs.Record.{allowed}
+use Rattle.member_record.specs.Record.{allowed}
 use Rattle.member.specs.Table.{Named, nothing, proposal, decision}
 use Rattle.model.specs.Model.{Sizes, Event, Office, first-office, outcome, answer, made-by, taken, proposals}
 use Rattle.model.specs.Demand.{calls, ended}

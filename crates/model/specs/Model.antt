@@ -8,8 +8,8 @@ use Rattle.laws.specs.First.{Cause, _gives_, first}
 use Rattle.ids.specs.declared.Member.{Member}
 use Rattle.message.specs.declared.Message.{Message}
 use Rattle.message.specs.declared.Message.the-variants.{Start}
-use Rattle.member.specs.declared.MemberState.{MemberState}
-use Rattle.member.specs.Record.{fresh, round}
+use Rattle.member_record.specs.declared.MemberState.{MemberState}
+use Rattle.member_record.specs.Record.{fresh, round}
 use Rattle.member.specs.Table.{Named, nothing, proposal, decision, Outcome, step}
 use Rattle.member.specs.Table.{Event as MemberEvent, start as starts, deliver as delivers}
 

@@ -10,7 +10,7 @@ use Rattle.quorum_tree.specs.Machine.{Call, add, commit, step}
 use Rattle.quorum_tree.specs.Table.{nodes, rows, table}
 use Rattle.message.specs.declared.Message.{Message}
 use Rattle.message.specs.Writing.{in-front}
-use Rattle.member.specs.declared.MemberState.{MemberState}
+use Rattle.member_record.specs.declared.MemberState.{MemberState}
 use Rattle.member.specs.Table.{Outcome, refused, sends, silent, nothing, proposal, decision}
 use Rattle.model.specs.Model.{Sizes, Event, outcome, sends-one, proposes-one, answer, taken, next, proposals}
 use Rattle.model.specs.Model.{Office as ModelOffice}

@@ -12,20 +12,21 @@ use Rattle.ids.specs.declared.Round.{Round}
 use Rattle.quorum_tree.specs.Table.{sized, Tree}
 use Rattle.message.specs.declared.Message.{Message}
 use Rattle.message.specs.Fields.{in-range}
-use Rattle.member.specs.declared.MemberState.{MemberState}
-use Rattle.member.specs.declared.Refusal.{Refusal}
-use Rattle.member.specs.declared.Refusal.the-variants.{NotSound, Field, RoundRange, NotLeader, NotAboveLed, Sender, MovedPast, OtherValue, NotAwaited, CountedAlready}
+use Rattle.member_record.specs.declared.MemberState.{MemberState}
+use Rattle.member_cells.specs.declared.Refusal.{Refusal}
+use Rattle.member_cells.specs.declared.Refusal.the-variants.{NotSound, Field, RoundRange, NotLeader, NotAboveLed, Sender, MovedPast, OtherValue, NotAwaited, CountedAlready}
 use Rattle.member.specs.declared.Answer.{Answer}
 use Rattle.member.specs.declared.Answer.the-variants.{Sent, Proposed}
 use Rattle.member.specs.declared.Step.{Step}
-use Rattle.member.specs.Answers.{refusal-number, answer-outcome, outcome}
+use Rattle.member_cells.specs.Refusals.{refusal-number}
+use Rattle.member.specs.Answers.{answer-outcome, outcome}
 use Rattle.member.specs.Table.{Outcome}
 use Rattle.model.specs.Model.{Sizes, Event}
 use Rattle.model.specs.Model.{Office as ModelOffice}
 use Rattle.office.specs.declared.Tally.{Tally}
 use Rattle.office.specs.declared.Office.{Office}
 use Rattle.office.specs.Standing.{Took, Faced, office-of}
-use Rattle.member.specs.Record.{allowed}
+use Rattle.member_record.specs.Record.{allowed}
 use Rattle.member.specs.Table.{sound-step}
 use Rattle.member.proofs.Keeping.{step-kept}
 use Rattle.model.specs.Model.{member-at, event-of, at-member}

@@ -11,7 +11,7 @@ use borrow.Author.Tests.{eq-eqb, ne-eqb, le-leb, lt-leb}
 use Rattle.laws.specs.Tests.{tests}
 use Rattle.laws.specs.First.{first, _gives_}
 use Rattle.quorum_tree.specs.Table.{table}
-use Rattle.member.specs.declared.MemberState.{MemberState}
+use Rattle.member_record.specs.declared.MemberState.{MemberState}
 use Rattle.member.specs.declared.Answer.{Answer}
 use Rattle.member.specs.declared.Answer.the-variants.{Refused, Sent, Done, Proposed, Decided}
 use Rattle.member.specs.Answers.{answer-outcome}

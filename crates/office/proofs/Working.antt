@@ -9,9 +9,9 @@ use lib.Dec.{leb}
 use borrow.Author.Tests.{le-leb, lt-leb, lt-ltb}
 use Rattle.message.specs.declared.Message.{Message}
 use Rattle.message.specs.Fields.{in-range}
-use Rattle.member.specs.declared.MemberState.{MemberState}
+use Rattle.member_record.specs.declared.MemberState.{MemberState}
 use Rattle.member.specs.declared.Step.{Step}
-use Rattle.member.specs.Record.{sound, round}
+use Rattle.member_record.specs.Record.{sound, round}
 use Rattle.member.specs.Answers.{outcome as step-outcome}
 use Rattle.member.specs.Kept.{Stepped}
 use Rattle.member.specs.Table.{sound-step}

@@ -6,8 +6,8 @@ use Prim.Native.Nat.{ℕ, _+_, _/_, _<_}
 use lib.ListN.{length, getD, set, take}
 use lib.Dec.{ltb, leb}
 use Rattle.quorum_tree.specs.Table.{sized, table}
-use Rattle.member.specs.declared.MemberState.{MemberState}
-use Rattle.member.specs.Record.{allowed}
+use Rattle.member_record.specs.declared.MemberState.{MemberState}
+use Rattle.member_record.specs.Record.{allowed}
 use Rattle.member.specs.Table.{Outcome}
 use Rattle.model.specs.Model.{Sizes, Event, fresh-members, answer, next, outcome, at-member, unsent, proposals}
 use Rattle.model.specs.Model.{Office as ModelOffice}

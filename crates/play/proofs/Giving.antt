@@ -15,7 +15,7 @@ use Rattle.quorum_tree.proofs.Words.{length-table, nodes-table}
 use Rattle.quorum_tree.proofs.History.{all-grown}
 use Rattle.quorum_tree.proofs.Trees.{sized-rows, grown-fit, grown-stated}
 use Rattle.quorum_tree.proofs.Steps.{fresh-written}
-use Rattle.member.specs.Record.{allowed}
+use Rattle.member_record.specs.Record.{allowed}
 use Rattle.model.specs.Model.{Sizes, Event, first-office, answers, proposals}
 use Rattle.model.specs.Demand.{calls, ended}
 use Rattle.model.specs.Counts.{tree, zeros, decisions, committed-nodes}

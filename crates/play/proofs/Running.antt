@@ -15,7 +15,7 @@ use Rattle.laws.specs.Parts.{to-end}
 use Rattle.xdr.specs.Words.{Bytes}
 use Rattle.quorum_tree.specs.Machine.{after}
 use Rattle.quorum_tree.specs.Table.{sized, table}
-use Rattle.member.specs.Record.{fresh as fresh-member}
+use Rattle.member_record.specs.Record.{fresh as fresh-member}
 use Rattle.model.specs.Model.{Sizes, Event, at-member, member-number, fresh-members, first-office, answer, answers, next, proposals}
 use Rattle.model.specs.Model.{after as ended-from}
 use Rattle.model.specs.Demand.{calls, ended}
@@ -24,7 +24,7 @@ use Rattle.model.proofs.Fold.{after-last, answers-last, length-answers, zeros-a
 use Rattle.events.specs.List.{members-of, count-of, body, list-fits, exact, events-in, events-of, event-at, event-size, behind, rest}
 use Rattle.events.proofs.Events.{events-suc, behind-suc, length-events, due-stands, offers-small, bytes-left}
 use Rattle.store.specs.Rows.{store-sized, stored}
-use Rattle.member.specs.declared.MemberState.{MemberState}
+use Rattle.member_record.specs.declared.MemberState.{MemberState}
 use Rattle.office.specs.declared.Tally.{Tally}
 use Rattle.office.specs.declared.Office.{Office}
 use Rattle.office.specs.Standing.{Held, Lent, Reached, Stands, Standing, Seated, Works, Next, fresh-office, office-of, place-of}

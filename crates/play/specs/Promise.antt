@@ -8,7 +8,7 @@ use lib.Dec.{ltb, eqb}
 use Rattle.laws.specs.First.{Cause, _gives_, first}
 use Rattle.quorum_tree.specs.Machine.{fresh}
 use Rattle.quorum_tree.specs.Table.{sized, nodes, table}
-use Rattle.member.specs.Record.{allowed}
+use Rattle.member_record.specs.Record.{allowed}
 use Rattle.model.specs.Model.{Sizes, Event, first-office, answers, proposals}
 use Rattle.model.specs.Demand.{Demand, ended}
 use Rattle.model.specs.Counts.{tree, zeros, decisions, committed-nodes}

@@ -58,7 +58,7 @@ pub fn play(list: &[u8], messages: &mut [u8], nodes: &mut [u64], answered: &mut 
     if !events::fits(list) {
         return PlayAnswer::Refused(ListRefusal::NotExact);
     }
-    if !member::is_allowed(xdr::word_at(list, 0)) {
+    if !member_record::is_allowed(xdr::word_at(list, 0)) {
         return PlayAnswer::Refused(ListRefusal::Members);
     }
     if !store::has_store_length(messages) {

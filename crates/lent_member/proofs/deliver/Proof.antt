@@ -39,18 +39,18 @@ use denote.Triple.Clauses.{ensured, lasts}
 use denote.Triple.Table.{entered, cited}
 use denote.Triple.Walked.{says, Stays, stay-ref, stay-none-slice, gave-slice, walkOf, AllGo, goes-none-slice, goes-ref, goes-gave-slice, Walks, ends-at, walked, walk-meets}
 use denote.Exit.{yes}
-use Rattle.member.specs.declared.MemberState.{MemberState}
-use Rattle.member.proofs.MemberState as T
-use Rattle.lent_member.specs.declared.Called.{Called}
-use Rattle.lent_member.specs.Calls.{deliver-call}
-use Rattle.lent_member.specs.Reports.{Replies}
-use Rattle.lent_member.proofs.Called as K
-use Rattle.lent_member.proofs.Called.Laws as K′
-use Rattle.lent_member.proofs.Report as R
+use Rattle.member_record.specs.declared.MemberState.{MemberState}
+use Rattle.member_record.proofs.MemberState as T
+use Rattle.member_calls.specs.declared.Called.{Called}
+use Rattle.member_calls.specs.Calls.{deliver-call}
+use Rattle.member_calls.specs.Reports.{Replies}
+use Rattle.member_calls.proofs.Called as K
+use Rattle.member_calls.proofs.Called.Laws as K′
+use Rattle.member_calls.proofs.Report as R
 use Rattle.lent_member.proofs.Lent.{vals, report-val, owned-record, owned-report, typed-record, typed-called, typed-report, state-is, report-is, copies-out, copies-in}
-use Rattle.lent_member.proofs.steps.deliver_into as into
-use Rattle.lent_member.proofs.steps.deliver_into.Symbol as into-def
-use Rattle.lent_member.proofs.steps.deliver_into.Met as into-thm
+use Rattle.member_calls.proofs.deliver_into as into
+use Rattle.member_calls.proofs.deliver_into.Symbol as into-def
+use Rattle.member_calls.proofs.deliver_into.Met as into-thm
 use Rattle.lent_member.proofs.deliver.Key.{name as #deliver}
 use Rattle.lent_member.proofs.deliver as f
 use Rattle.lent_member.proofs.deliver.Statement as stated
@@ -160,4 +160,4 @@ deliver-spec 𝓤 H 𝓜 𝓖 𝓡 =
     entered 𝓤 H (tripleOf 𝓤 H (𝓖 .A) f.signature (f.spec 𝓤 H (𝓖 .A) (𝓜 .mem) (𝓡 .run)))
     (tables 𝓤 H 𝓜 𝓡 code.env .C) (tables 𝓤 H 𝓜 𝓡 code.env .Λ) #deliver code.function (code.unfolded 𝓤 H 𝓜 𝓡)
     (deliver-meets 𝓤 H (𝓖 .A) (givenOf 𝓤 H 𝓜 𝓖) (𝓜 .mem) (𝓡 .run) (tablesOf 𝓤 H 𝓜 (tables 𝓤 H 𝓜 𝓡 code.env))
-    (cited 𝓤 H (Into 𝓤 H (𝓖 .A) (𝓜 .mem) (𝓡 .run)) 𝓜 𝓡 code.env into-def.name into-def.routine code.calls-lent-member·steps·deliver-into (into-thm.met 𝓤 H 𝓜 𝓖 𝓡)))
+    (cited 𝓤 H (Into 𝓤 H (𝓖 .A) (𝓜 .mem) (𝓡 .run)) 𝓜 𝓡 code.env into-def.name into-def.routine code.calls-member-calls·deliver-into (into-thm.met 𝓤 H 𝓜 𝓖 𝓡)))

@@ -41,18 +41,18 @@ use denote.Exit.{yes}
 use Rattle.ids.specs.declared.Member.{Member}
 use Rattle.ids.proofs.Member as N
 use Rattle.ids.proofs.Member.Laws as N′
-use Rattle.member.specs.declared.MemberState.{MemberState}
-use Rattle.member.proofs.MemberState as T
-use Rattle.lent_member.specs.declared.Called.{Called}
-use Rattle.lent_member.specs.Calls.{fresh-call}
-use Rattle.lent_member.specs.Reports.{Answers}
-use Rattle.lent_member.proofs.Called as K
-use Rattle.lent_member.proofs.Called.Laws as K′
-use Rattle.lent_member.proofs.Report as R
+use Rattle.member_record.specs.declared.MemberState.{MemberState}
+use Rattle.member_record.proofs.MemberState as T
+use Rattle.member_calls.specs.declared.Called.{Called}
+use Rattle.member_calls.specs.Calls.{fresh-call}
+use Rattle.member_calls.specs.Reports.{Answers}
+use Rattle.member_calls.proofs.Called as K
+use Rattle.member_calls.proofs.Called.Laws as K′
+use Rattle.member_calls.proofs.Report as R
 use Rattle.lent_member.proofs.Lent.{vals, report-val, owned-record, owned-report, typed-record, typed-called, typed-report, state-is, report-is, copies-out, copies-in}
-use Rattle.lent_member.proofs.steps.fresh_into as into
-use Rattle.lent_member.proofs.steps.fresh_into.Symbol as into-def
-use Rattle.lent_member.proofs.steps.fresh_into.Met as into-thm
+use Rattle.member_calls.proofs.fresh_into as into
+use Rattle.member_calls.proofs.fresh_into.Symbol as into-def
+use Rattle.member_calls.proofs.fresh_into.Met as into-thm
 use Rattle.lent_member.proofs.fresh.Key.{name as #fresh}
 use Rattle.lent_member.proofs.fresh as f
 use Rattle.lent_member.proofs.fresh.Statement as stated
@@ -154,4 +154,4 @@ fresh-spec 𝓤 H 𝓜 𝓖 𝓡 =
     entered 𝓤 H (tripleOf 𝓤 H (𝓖 .A) f.signature (f.spec 𝓤 H (𝓖 .A) (𝓜 .mem) (𝓡 .run)))
     (tables 𝓤 H 𝓜 𝓡 code.env .C) (tables 𝓤 H 𝓜 𝓡 code.env .Λ) #fresh code.function (code.unfolded 𝓤 H 𝓜 𝓡)
     (fresh-meets 𝓤 H (𝓖 .A) (givenOf 𝓤 H 𝓜 𝓖) (𝓜 .mem) (𝓡 .run) (tablesOf 𝓤 H 𝓜 (tables 𝓤 H 𝓜 𝓡 code.env))
-    (cited 𝓤 H (Into 𝓤 H (𝓖 .A) (𝓜 .mem) (𝓡 .run)) 𝓜 𝓡 code.env into-def.name into-def.routine code.calls-lent-member·steps·fresh-into (into-thm.met 𝓤 H 𝓜 𝓖 𝓡)))
+    (cited 𝓤 H (Into 𝓤 H (𝓖 .A) (𝓜 .mem) (𝓡 .run)) 𝓜 𝓡 code.env into-def.name into-def.routine code.calls-member-calls·fresh-into (into-thm.met 𝓤 H 𝓜 𝓖 𝓡)))

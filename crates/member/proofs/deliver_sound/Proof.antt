@@ -2,7 +2,7 @@
 use mathlib.Core.Path.{_≡_}
 use native.Mathlib.Omega.{arith}
 use lib.ListN.{length, length-map}
-use Rattle.member.proofs.Sound.{sound-size}
+use Rattle.member_record.proofs.Sound.{sound-size}
 use Rattle.member.proofs.Keeping.{step-kept}
 use Rattle.member.specs.Table.{deliver}
 use Rattle.member.proofs.deliver_sound.Statement.{statement}

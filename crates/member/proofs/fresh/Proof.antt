@@ -24,10 +24,19 @@ returns c =
       ← c .before .before .before .blank .ensures,
     ) (c .refuse .ensures)
 
+accept-requires : tie.Need-accept-requires
+accept-requires c κs = search needs
+
 returns-2 : tie.Need-returns-2
 unfolding fresh-step
-returns-2 c = rw (← c .before .number-sound .ensures, not-false (c .before .number-sound .result) (c .if1 .left), ← c .before .before .blank .ensures)
+returns-2 c =
+    let number-sound = c .before .before .number-sound in
+    rw (
+      ← number-sound .ensures,
+      not-false (number-sound .result) (c .before .if1 .left),
+      ← c .before .before .before .blank .ensures,
+    ) (c .accept .ensures)
 
 pub fresh-spec : {M : Type 1} → statement M
 fresh-spec =
-    tie.close (tie.spec blank-requires number-sound-requires refuse-requires returns returns-2)
+    tie.close (tie.spec blank-requires number-sound-requires refuse-requires returns accept-requires returns-2)

@@ -2,7 +2,7 @@
 use mathlib.Core.Path.{_≡_, refl}
 use native.Mathlib.Omega.{arith}
 use lib.ListN.{length, length-map}
-use Rattle.member.proofs.Sound.{sound-size}
+use Rattle.member_record.proofs.Sound.{sound-size}
 use Rattle.member.proofs.Keeping.{step-kept}
 use Rattle.member.specs.Table.{start, sound-step}
 use Rattle.member.proofs.start_sound.Statement.{statement}

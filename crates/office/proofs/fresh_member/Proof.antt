@@ -2,7 +2,7 @@
 use mathlib.Core.Path.{_≡_, refl, sym, ap, _∙_}
 use borrow.Author.Needs.{needs}
 use Rattle.member.specs.Table.{Outcome, fresh-step}
-use Rattle.member.specs.Record.{sound-number}
+use Rattle.member_record.specs.Record.{sound-number}
 use Rattle.laws.specs.Tests.{by-test}
 use Rattle.model.specs.Model.{member-number}
 use Rattle.office.proofs.Settling.{state-of}

@@ -7,7 +7,7 @@ use lib.ListN.{length, replicate}
 use borrow.Author.Tests.{not-true, not-false}
 use denote.Ref.{now}
 use Rattle.quorum_tree.specs.Table.{sized, fresh-number, fresh-table}
-use Rattle.member.specs.Record.{allowed}
+use Rattle.member_record.specs.Record.{allowed}
 use Rattle.events.specs.List.{members-of, count-of, list-fits, events-of}
 use Rattle.store.specs.Rows.{store-sized}
 use Rattle.play.specs.declared.answers.ListRefusal.the-variants.{TableLength}

@@ -1,14 +1,14 @@
--- `member::rows::on_join` meets its contract: each return goes by the tests that led there. Assumes nothing.
-use mathlib.Core.Path.{_∙_}
+-- `member::rows::on_join` meets its contract: the check of its refusals, and the row. Assumes nothing.
 use native.Mathlib.Omega.{arith}
-use Rattle.member.specs.Table.{count-causes, JOIN-row}
+use Rattle.member_cells.specs.Cells.{count-causes}
+use Rattle.member.specs.Table.{JOIN-row}
 use Rattle.member.proofs.Checks.{check-refused, check-passed, check-sender}
 use borrow.Author.Needs.{needs}
 use Rattle.member.proofs.rows.on_join.Statement.{statement}
 use Rattle.member.proofs.rows.on_join.Tie as tie
 
-awaited-requires : tie.Need-awaited-requires
-awaited-requires c κs = search needs
+check-count-requires : tie.Need-check-count-requires
+check-count-requires c κs = search needs
 
 enum-known-check : tie.Need-enum-known-check
 enum-known-check c = search needs
@@ -18,36 +18,25 @@ refuse-requires c κs = search needs
 
 returns : tie.Need-returns
 returns c =
-    let args = c .before .before .before .before .before .args in
-    let awaited = c .before .before .before .before .awaited in
+    let b = c .before .before .before .before in
+    let args = b .before .args in
     let check = c .before .before .check in
-    c .refuse .ensures ∙
-    check-refused (count-causes 1 (args .m) (args .r) (args .s)) (args .m) (JOIN-row (args .m) (args .r) (args .s)) (awaited .result) (check .given .0 .0) (awaited .ensures) (check .given .1)
+    check-refused (count-causes 1 (args .m) (args .r) (args .s)) (args .m) (JOIN-row (args .m) (args .r) (args .s)) (b .check-count .result) (b .check-count .ensures) (check .given .0 .0) (check .given .1) (c .refuse .ensures)
 
 enum-told : tie.Need-enum-told
 enum-told c = search needs
 
 count-join-requires : tie.Need-count-join-requires
 count-join-requires c κs =
-    let args = c .before .before .before .args in
-    let awaited = c .before .before .awaited in
-    (omega arith, omega (arith, check-sender 1 (args .m) (args .r) (args .s) (awaited .result) (awaited .ensures) (c .enum-told .given .1)))
+    let b = c .before .before in
+    let args = b .before .args in
+    (omega arith, omega (arith, check-sender 1 (args .m) (args .r) (args .s) (b .check-count .result) (b .check-count .ensures) (c .enum-told .given .1)))
 
 returns-2 : tie.Need-returns-2
 returns-2 c =
-    let args = c .before .before .before .before .args in
-    let awaited = c .before .before .before .awaited in
-    c .count-join .ensures ∙
-    check-passed (count-causes 1 (args .m) (args .r) (args .s)) (args .m) (JOIN-row (args .m) (args .r) (args .s)) (awaited .result) (awaited .ensures) (c .before .enum-told .given .1)
+    let b = c .before .before .before in
+    let args = b .before .args in
+    check-passed (count-causes 1 (args .m) (args .r) (args .s)) (args .m) (JOIN-row (args .m) (args .r) (args .s)) (b .check-count .result) (b .check-count .ensures) (c .before .enum-told .given .1) (c .count-join .ensures)
 
 pub on-join-spec : {M : Type 1} → statement M
-on-join-spec =
-    tie.close
-    (tie.spec
-    awaited-requires
-    enum-known-check
-    refuse-requires
-    returns
-    enum-told
-    count-join-requires
-    returns-2)
+on-join-spec = tie.close (tie.spec check-count-requires enum-known-check refuse-requires returns enum-told count-join-requires returns-2)

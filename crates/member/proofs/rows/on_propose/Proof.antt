@@ -1,68 +1,41 @@
--- `member::rows::on_propose` meets its contract: each return goes by the tests that led there. Assumes nothing.
-use borrow.Author.Tests.{lt-ltb, le-ltb, not-true, not-false}
+-- `member::rows::on_propose` meets its contract: the check of its refusals, and the row. Assumes nothing.
+use Rattle.member_cells.specs.Cells.{PROPOSE-causes}
+use Rattle.member.specs.Table.{PROPOSE-row}
+use Rattle.member.proofs.Checks.{check-refused, check-passed}
 use borrow.Author.Needs.{needs}
 use Rattle.member.proofs.rows.on_propose.Statement.{statement}
 use Rattle.member.proofs.rows.on_propose.Tie as tie
 
-is-leader-requires : tie.Need-is-leader-requires
-is-leader-requires c κs = search needs
+check-propose-requires : tie.Need-check-propose-requires
+check-propose-requires c κs = search needs
+
+enum-known-check : tie.Need-enum-known-check
+enum-known-check c = search needs
 
 refuse-requires : tie.Need-refuse-requires
 refuse-requires c κs = search needs
 
 returns : tie.Need-returns
-returns c = rw (← c .before .before .is-leader .ensures, not-true (c .before .before .is-leader .result) (c .before .if1 .taken)) (c .refuse .ensures)
+returns c =
+    let b = c .before .before .before .before in
+    let args = b .before .args in
+    let check = c .before .before .check in
+    check-refused (PROPOSE-causes (args .m) (args .r) (args .s) (args .v)) (args .m) (PROPOSE-row (args .m) (args .r) (args .v)) (b .check-propose .result) (b .check-propose .ensures) (check .given .0 .0) (check .given .1) (c .refuse .ensures)
 
-refuse-requires-2 : tie.Need-refuse-requires-2
-refuse-requires-2 c κs = search needs
+enum-told : tie.Need-enum-told
+enum-told c = search needs
+
+voting-requires : tie.Need-voting-requires
+voting-requires c κs = search needs
+
+send-requires : tie.Need-send-requires
+send-requires c κs = search needs
 
 returns-2 : tie.Need-returns-2
 returns-2 c =
-    let is-leader = c .before .before .before .before .before .is-leader in
-    rw (
-      ← is-leader .ensures,
-      not-false (is-leader .result) (c .before .before .before .before .if1 .left),
-      lt-ltb _ _ (c .before .if2 .taken),
-    ) (c .refuse2 .ensures)
-
-voted-otherwise-requires : tie.Need-voted-otherwise-requires
-voted-otherwise-requires c κs = search needs
-
-refuse-requires-3 : tie.Need-refuse-requires-3
-refuse-requires-3 c κs = search needs
-
-returns-3 : tie.Need-returns-3
-returns-3 c =
-    let is-leader = c .before .before .before .before .before .before .before .is-leader in
-    rw (
-      ← is-leader .ensures,
-      not-false (is-leader .result) (c .before .before .before .before .before .before .if1 .left),
-      le-ltb _ _ (c .before .before .before .if2 .left),
-      ← c .before .before .voted-otherwise .ensures,
-      c .before .if3 .taken,
-    ) (c .refuse3 .ensures)
-
-returns-4 : tie.Need-returns-4
-returns-4 c =
-    let is-leader = c .before .before .before .before .before .before .before .is-leader in
-    rw (
-      ← is-leader .ensures,
-      not-false (is-leader .result) (c .before .before .before .before .before .before .if1 .left),
-      le-ltb _ _ (c .before .before .before .if2 .left),
-      ← c .before .before .voted-otherwise .ensures,
-      c .before .if3 .left,
-    )
+    let b = c .before .before .before .before .before in
+    let args = b .before .args in
+    check-passed (PROPOSE-causes (args .m) (args .r) (args .s) (args .v)) (args .m) (PROPOSE-row (args .m) (args .r) (args .v)) (b .check-propose .result) (b .check-propose .ensures) (c .before .before .before .enum-told .given .1) (rw (c .before .voting .ensures) at (c .send .ensures))
 
 pub on-propose-spec : {M : Type 1} → statement M
-on-propose-spec =
-    tie.close
-    (tie.spec
-    is-leader-requires
-    refuse-requires
-    returns
-    refuse-requires-2
-    returns-2
-    voted-otherwise-requires
-    refuse-requires-3
-    returns-3
-    returns-4)
+on-propose-spec = tie.close (tie.spec check-propose-requires enum-known-check refuse-requires returns enum-told voting-requires send-requires returns-2)

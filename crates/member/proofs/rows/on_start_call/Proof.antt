@@ -1,73 +1,41 @@
--- `member::rows::on_start_call` meets its contract: each return goes by the tests that led there. Assumes nothing.
-use borrow.Author.Tests.{le-leb, lt-leb, not-true, not-false}
-use Rattle.ids.specs.Ranges.{out-of-range}
-use Rattle.member.proofs.Checks.{inside, outside}
+-- `member::rows::on_start_call` meets its contract: the check of its refusals, and the row. Assumes nothing.
+use Rattle.member_cells.specs.Cells.{start-causes}
+use Rattle.member.specs.Table.{start-row}
+use Rattle.member.proofs.Checks.{check-refused, check-passed}
 use borrow.Author.Needs.{needs}
 use Rattle.member.proofs.rows.on_start_call.Statement.{statement}
 use Rattle.member.proofs.rows.on_start_call.Tie as tie
 
-in-range-requires : tie.Need-in-range-requires
-in-range-requires c κs = search needs
+check-start-call-requires : tie.Need-check-start-call-requires
+check-start-call-requires c κs = search needs
+
+enum-known-check : tie.Need-enum-known-check
+enum-known-check c = search needs
 
 refuse-requires : tie.Need-refuse-requires
 refuse-requires c κs = search needs
 
 returns : tie.Need-returns
 returns c =
-    let in-range = c .before .before .in-range in
-    rw (outside (out-of-range (c .before .before .before .args .r .0)) (in-range .result) (in-range .ensures) (c .before .if1 .taken)) (c .refuse .ensures)
+    let b = c .before .before .before .before in
+    let args = b .before .args in
+    let check = c .before .before .check in
+    check-refused (start-causes (args .m) (args .r)) (args .m) (start-row (args .m) (args .r) (args .offer)) (b .check-start-call .result) (b .check-start-call .ensures) (check .given .0 .0) (check .given .1) (c .refuse .ensures)
 
-is-leader-requires : tie.Need-is-leader-requires
-is-leader-requires c κs = search needs
+enum-told : tie.Need-enum-told
+enum-told c = search needs
 
-refuse-requires-2 : tie.Need-refuse-requires-2
-refuse-requires-2 c κs = search needs
+leading-requires : tie.Need-leading-requires
+leading-requires c κs = search needs
+
+send-requires : tie.Need-send-requires
+send-requires c κs = search needs
 
 returns-2 : tie.Need-returns-2
 returns-2 c =
-    let in-range = c .before .before .before .before .before .in-range in
-    let is-leader = c .before .before .is-leader in
-    rw (
-      inside (out-of-range (c .before .before .before .before .before .before .args .r .0)) (in-range .result) (in-range .ensures) (c .before .before .before .before .if1 .left),
-      ← is-leader .ensures,
-      not-true (is-leader .result) (c .before .if2 .taken),
-    ) (c .refuse2 .ensures)
-
-refuse-requires-3 : tie.Need-refuse-requires-3
-refuse-requires-3 c κs = search needs
-
-returns-3 : tie.Need-returns-3
-returns-3 c =
-    let in-range = c .before .before .before .before .before .before .before .before .in-range in
-    let is-leader = c .before .before .before .before .before .is-leader in
-    rw (
-      inside (out-of-range (c .before .before .before .before .before .before .before .before .before .args .r .0)) (in-range .result) (in-range .ensures) (c .before .before .before .before .before .before .before .if1 .left),
-      ← is-leader .ensures,
-      not-false (is-leader .result) (c .before .before .before .before .if2 .left),
-      le-leb _ _ (c .before .if3 .taken),
-    ) (c .refuse3 .ensures)
-
-returns-4 : tie.Need-returns-4
-returns-4 c =
-    let in-range = c .before .before .before .before .before .before .before .before .in-range in
-    let is-leader = c .before .before .before .before .before .is-leader in
-    rw (
-      inside (out-of-range (c .before .before .before .before .before .before .before .before .before .args .r .0)) (in-range .result) (in-range .ensures) (c .before .before .before .before .before .before .before .if1 .left),
-      ← is-leader .ensures,
-      not-false (is-leader .result) (c .before .before .before .before .if2 .left),
-      lt-leb _ _ (c .before .if3 .left),
-    )
+    let b = c .before .before .before .before .before in
+    let args = b .before .args in
+    check-passed (start-causes (args .m) (args .r)) (args .m) (start-row (args .m) (args .r) (args .offer)) (b .check-start-call .result) (b .check-start-call .ensures) (c .before .before .before .enum-told .given .1) (rw (c .before .leading .ensures) at (c .send .ensures))
 
 pub on-start-call-spec : {M : Type 1} → statement M
-on-start-call-spec =
-    tie.close
-    (tie.spec
-    in-range-requires
-    refuse-requires
-    returns
-    is-leader-requires
-    refuse-requires-2
-    returns-2
-    refuse-requires-3
-    returns-3
-    returns-4)
+on-start-call-spec = tie.close (tie.spec check-start-call-requires enum-known-check refuse-requires returns enum-told leading-requires send-requires returns-2)

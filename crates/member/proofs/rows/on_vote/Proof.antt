@@ -1,14 +1,14 @@
--- `member::rows::on_vote` meets its contract: each return goes by the tests that led there. Assumes nothing.
-use mathlib.Core.Path.{_∙_}
+-- `member::rows::on_vote` meets its contract: the check of its refusals, and the row. Assumes nothing.
 use native.Mathlib.Omega.{arith}
-use Rattle.member.specs.Table.{count-causes, counting, VOTE-row, decides}
-use Rattle.member.proofs.Checks.{check-refused, check-passed, check-sender, short, reached}
+use Rattle.member_cells.specs.Cells.{count-causes}
+use Rattle.member.specs.Table.{VOTE-row}
+use Rattle.member.proofs.Checks.{check-refused, check-passed, check-sender}
 use borrow.Author.Needs.{needs}
 use Rattle.member.proofs.rows.on_vote.Statement.{statement}
 use Rattle.member.proofs.rows.on_vote.Tie as tie
 
-awaited-requires : tie.Need-awaited-requires
-awaited-requires c κs = search needs
+check-count-requires : tie.Need-check-count-requires
+check-count-requires c κs = search needs
 
 enum-known-check : tie.Need-enum-known-check
 enum-known-check c = search needs
@@ -18,52 +18,25 @@ refuse-requires c κs = search needs
 
 returns : tie.Need-returns
 returns c =
-    let args = c .before .before .before .before .before .args in
-    let awaited = c .before .before .before .before .awaited in
+    let b = c .before .before .before .before in
+    let args = b .before .args in
     let check = c .before .before .check in
-    c .refuse .ensures ∙
-    check-refused (count-causes 2 (args .m) (args .r) (args .s)) (args .m) (VOTE-row (args .m) (args .r) (args .s)) (awaited .result) (check .given .0 .0) (awaited .ensures) (check .given .1)
+    check-refused (count-causes 2 (args .m) (args .r) (args .s)) (args .m) (VOTE-row (args .m) (args .r) (args .s)) (b .check-count .result) (b .check-count .ensures) (check .given .0 .0) (check .given .1) (c .refuse .ensures)
 
 enum-told : tie.Need-enum-told
 enum-told c = search needs
 
-flag-sender-requires : tie.Need-flag-sender-requires
-flag-sender-requires c κs =
-    let args = c .before .before .before .args in
-    let awaited = c .before .before .awaited in
-    omega (arith, check-sender 2 (args .m) (args .r) (args .s) (awaited .result) (awaited .ensures) (c .enum-told .given .1))
-
-is-complete-requires : tie.Need-is-complete-requires
-is-complete-requires c κs = rw (c .flag-sender .ensures) (omega arith)
+count-vote-requires : tie.Need-count-vote-requires
+count-vote-requires c κs =
+    let b = c .before .before in
+    let args = b .before .args in
+    (omega arith, omega (arith, check-sender 2 (args .m) (args .r) (args .s) (b .check-count .result) (b .check-count .ensures) (c .enum-told .given .1)))
 
 returns-2 : tie.Need-returns-2
 returns-2 c =
-    let args = c .before .before .before .before .before .before .args in
-    let awaited = c .before .before .before .before .before .awaited in
-    let flag-sender = c .before .before .flag-sender in
-    let is-complete = c .before .is-complete in
-    short (λ k. decides k (args .r)) (counting (args .m) (args .s)) (flag-sender .result) (is-complete .result) (flag-sender .ensures) (is-complete .ensures) (c .if1 .taken) ∙
-    check-passed (count-causes 2 (args .m) (args .r) (args .s)) (args .m) (VOTE-row (args .m) (args .r) (args .s)) (awaited .result) (awaited .ensures) (c .before .before .before .enum-told .given .1)
-
-returns-3 : tie.Need-returns-3
-returns-3 c =
-    let args = c .before .before .before .before .before .before .args in
-    let awaited = c .before .before .before .before .before .awaited in
-    let flag-sender = c .before .before .flag-sender in
-    let is-complete = c .before .is-complete in
-    reached (λ k. decides k (args .r)) (counting (args .m) (args .s)) (flag-sender .result) (is-complete .result) (flag-sender .ensures) (is-complete .ensures) (c .if1 .left) ∙
-    check-passed (count-causes 2 (args .m) (args .r) (args .s)) (args .m) (VOTE-row (args .m) (args .r) (args .s)) (awaited .result) (awaited .ensures) (c .before .before .before .enum-told .given .1)
+    let b = c .before .before .before in
+    let args = b .before .args in
+    check-passed (count-causes 2 (args .m) (args .r) (args .s)) (args .m) (VOTE-row (args .m) (args .r) (args .s)) (b .check-count .result) (b .check-count .ensures) (c .before .enum-told .given .1) (c .count-vote .ensures)
 
 pub on-vote-spec : {M : Type 1} → statement M
-on-vote-spec =
-    tie.close
-    (tie.spec
-    awaited-requires
-    enum-known-check
-    refuse-requires
-    returns
-    enum-told
-    flag-sender-requires
-    is-complete-requires
-    returns-2
-    returns-3)
+on-vote-spec = tie.close (tie.spec check-count-requires enum-known-check refuse-requires returns enum-told count-vote-requires returns-2)

@@ -1,0 +1,2 @@
+-- Laws of the member calls.
+pub mod Calls

@@ -1,0 +1,95 @@
+-- `member_calls::deliver_into` meets its contract: each return goes by the numbers that led there. Assumes nothing.
+use mathlib.Core.Path.{refl, sym, _∙_}
+use denote.Ref.{now}
+use Rattle.message.specs.Reading.{message-row, decoded}
+use Rattle.message.proofs.RoundTrip.{got}
+use Rattle.member.specs.Table.{deliver, sound-step}
+use Rattle.member_calls.specs.Calls.{deliver-call}
+use Rattle.member_calls.proofs.Calls.{passing, refusing, unread, read-as}
+use borrow.Author.Needs.{needs}
+use Rattle.member_calls.proofs.deliver_into.Statement.{statement}
+use Rattle.member_calls.proofs.deliver_into.Tie as tie
+
+record-number-requires : tie.Need-record-number-requires
+record-number-requires c κs = search needs
+
+refuse-requires : tie.Need-refuse-requires
+refuse-requires c κs = search needs
+
+returns : tie.Need-returns
+unfolding deliver-call
+returns c =
+    let row = c .before .before .record-number in
+    let args = c .before .before .before .before .before .args in
+    let s = now (args .bytes) in
+    rw (refusing (args .m) (now (args .reply)) (row .result) (row .ensures) (message-row s) (sound-step (args .m) (deliver (decoded s))) (c .before .if1 .taken))
+    (record { answers = c .refuse .ensures; reply = refl })
+
+read-message-requires : tie.Need-read-message-requires
+read-message-requires c κs = search needs
+
+enum-known-read : tie.Need-enum-known-read
+enum-known-read c = search needs
+
+number-requires : tie.Need-number-requires
+number-requires c κs = search needs
+
+refuse-requires-2 : tie.Need-refuse-requires-2
+refuse-requires-2 c κs = search needs
+
+enum-known-read-2 : tie.Need-enum-known-read-2
+enum-known-read-2 c = search needs
+
+deliver-sound-requires : tie.Need-deliver-sound-requires
+deliver-sound-requires c κs =
+    let read = c .before .before .before in
+    let row = read .before .before .record-number in
+    let args = read .before .before .before .before .before .args in
+    (passing (args .m) (now (args .reply)) (row .result) (row .ensures) (read .before .if1 .left) .0, got (now (args .bytes)) _ (sym (read .read-message .ensures) ∙ c .before .read2 .given .1) .2)
+
+tell-requires : tie.Need-tell-requires
+tell-requires c κs =
+    let read = c .before .before .before .before .before in
+    let row = read .before .before .record-number in
+    let args = read .before .before .before .before .before .args in
+    (passing (args .m) (now (args .reply)) (row .result) (row .ensures) (read .before .if1 .left) .1, c .before .deliver-sound .ensures .kept)
+
+returns-2 : tie.Need-returns-2
+returns-2 c =
+    let read = c .before .before .before .before .before in
+    let row = read .before .before .record-number in
+    let args = read .before .before .before .before .before .args in
+    let fault = c .before .before .before .read .given in
+    rw (unread (args .m) (now (args .bytes)) (now (args .reply)) (row .result) (row .ensures) (read .before .if1 .left) (fault .0 .0) (sym (read .read-message .ensures) ∙ fault .1), ← c .before .number .ensures)
+    (record { answers = c .refuse2 .ensures; reply = refl })
+
+same-length : tie.Need-same-length
+same-length c = search needs
+
+returns-3 : tie.Need-returns-3
+returns-3 c =
+    let step = c .before .before .before .before in
+    let read = step .before .before .before .before in
+    let row = read .before .before .record-number in
+    let args = read .before .before .before .before .before .args in
+    let message = step .before .before .read2 .given in
+    rw (read-as (args .m) (now (args .bytes)) (now (args .reply)) (row .result) (row .ensures) (read .before .if1 .left) (message .0 .0) (sym (read .read-message .ensures) ∙ message .1), ← step .deliver-sound .ensures .equals)
+    (c .before .before .tell .ensures)
+
+pub deliver-into-spec : {M : Type 1} → statement M
+deliver-into-spec =
+    tie.close
+    (tie.spec
+    record-number-requires
+    refuse-requires
+    returns
+    read-message-requires
+    enum-known-read
+    number-requires
+    refuse-requires-2
+    enum-known-read-2
+    deliver-sound-requires
+    tell-requires
+    returns-2
+    same-length
+    returns-3)

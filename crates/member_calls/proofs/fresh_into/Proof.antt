@@ -1,0 +1,40 @@
+-- `member_calls::fresh_into` meets its contract: each return goes by the test that led there. Assumes nothing.
+use mathlib.Core.Path.{refl}
+use borrow.Author.Tests.{not-true, not-false}
+use Rattle.member_calls.specs.Calls.{fresh-call}
+use borrow.Author.Needs.{needs}
+use Rattle.member_calls.proofs.fresh_into.Statement.{statement}
+use Rattle.member_calls.proofs.fresh_into.Tie as tie
+
+blank-requires : tie.Need-blank-requires
+blank-requires c κs = search needs
+
+number-sound-requires : tie.Need-number-sound-requires
+number-sound-requires c κs = search needs
+
+refuse-requires : tie.Need-refuse-requires
+refuse-requires c κs = search needs
+
+returns : tie.Need-returns
+unfolding fresh-call
+returns c =
+    let number-sound = c .before .before .number-sound in
+    rw (← number-sound .ensures, not-true (number-sound .result) (c .before .if1 .taken)) (c .refuse .ensures)
+
+give-requires : tie.Need-give-requires
+give-requires c κs = search needs
+
+returns-2 : tie.Need-returns-2
+unfolding fresh-call
+returns-2 c =
+    let b = c .before .before in
+    rw (
+      ← b .number-sound .ensures,
+      not-false (b .number-sound .result) (c .before .if1 .left),
+      c .give .ensures,
+      b .before .blank .ensures,
+    ) (record { report = refl; state = refl })
+
+pub fresh-into-spec : {M : Type 1} → statement M
+fresh-into-spec =
+    tie.close (tie.spec blank-requires number-sound-requires refuse-requires returns give-requires returns-2)

@@ -1,0 +1,3 @@
+-- The meanings of the member calls.
+pub mod Calls
+pub mod Reports

@@ -1,0 +1,2 @@
+-- Laws of the cells.
+pub mod Refusals

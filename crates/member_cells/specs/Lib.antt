@@ -1,0 +1,3 @@
+-- The meanings of the cells.
+pub mod Cells
+pub mod Refusals

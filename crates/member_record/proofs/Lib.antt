@@ -1,0 +1,3 @@
+-- Laws of the member record.
+pub mod Flags
+pub mod Sound

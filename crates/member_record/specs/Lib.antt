@@ -1,0 +1,2 @@
+-- The meanings of the member record.
+pub mod Record

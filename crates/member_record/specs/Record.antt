@@ -1,0 +1,80 @@
+-- The member record of 01, "Members": fresh and sound.
+use mathlib.Core.Bool.{Bool, false, cond, _&&_, _||_, not}
+use mathlib.Core.List.{List}
+use Prim.Native.Nat.{ℕ, _%_}
+use lib.ListN.{getD, replicate}
+use lib.Dec.{ltb, leb, eqb}
+use Rattle.ids.specs.declared.Round.{Round}
+use Rattle.ids.specs.declared.Member.{Member}
+use Rattle.ids.specs.Ranges.{above-range}
+use Rattle.quorum.specs.Count.{count, some}
+use Rattle.quorum.specs.Quorum.{quorum}
+use Rattle.member_record.specs.declared.MemberState.{MemberState}
+
+-- N is 3, 5 or 7
+abbrev pub allowed : ℕ → Bool
+allowed n = eqb n 3 || (eqb n 5 || eqb n 7)
+
+-- the leader of round r is member r mod N
+abbrev pub leads : ℕ → Member → Round → Bool
+leads n s r = eqb (r .0 % n) (s .0)
+
+abbrev pub round : ℕ → Round
+round r = record { 0 = r }
+
+-- whether member s is flagged
+abbrev pub flag : List Bool → ℕ → Bool
+flag fs s = getD fs s false
+
+-- how many of the seven are flagged
+unfoldable pub flagged : List Bool → ℕ
+unfolding count
+flagged fs = count (flag fs) 7
+
+-- a flag from N on
+abbrev pub flag-from : ℕ → List Bool → ℕ → Bool
+flag-from n fs s = leb n s && flag fs s
+
+abbrev pub no-flags : List Bool
+no-flags = replicate 7 false
+
+-- Fresh: number and N given, all else zero or false
+abbrev pub fresh : Member → ℕ → MemberState
+fresh me n =
+    record { me = me; n = n; joined = round 0; voted = round 0; vote = 0; led = round 0; phase = 0; value = 0; source = round 0; flags = no-flags }
+
+-- N allowed, number < N
+abbrev pub sound-number : Member → ℕ → Bool
+sound-number me n = allowed n && ltb (me .0) n
+
+-- V ≤ J ≤ 1,000,000, V = 0 only with W = 0
+abbrev pub sound-vote : MemberState → Bool
+sound-vote m = leb (m .voted .0) (m .joined .0) && (not (above-range (m .joined .0)) && (not (eqb (m .voted .0) 0) || eqb (m .vote) 0))
+
+-- flags from N on false
+abbrev pub sound-flags : MemberState → Bool
+sound-flags m = not (some (flag-from (m .n) (m .flags)) 7)
+
+-- L = 0: idle, X = B = 0 and no flag
+abbrev pub sound-idle : MemberState → Bool
+sound-idle m = eqb (m .phase) 0 && (eqb (m .value) 0 && (eqb (m .source .0) 0 && eqb (flagged (m .flags)) 0))
+
+-- flags at most f in phases 1 and 2, exactly f+1 in phase 3
+abbrev pub sound-count : MemberState → Bool
+sound-count m = cond (eqb (m .phase) 3) (eqb (flagged (m .flags)) (quorum (m .n))) (ltb (flagged (m .flags)) (quorum (m .n)))
+
+-- else not idle, L ≤ 1,000,000, L mod N is the number, B < L
+abbrev pub sound-leading : MemberState → Bool
+sound-leading m =
+    not (eqb (m .phase) 0) &&
+    (not (above-range (m .led .0)) && (leads (m .n) (m .me) (m .led) && (ltb (m .source .0) (m .led .0) && sound-count m)))
+
+-- idle exactly when L = 0
+abbrev pub sound-lead : MemberState → Bool
+sound-lead m = cond (eqb (m .led .0) 0) (sound-idle m) (sound-leading m)
+
+unfoldable pub sound : MemberState → Bool
+unfolding flagged quorum
+sound m =
+    sound-number (m .me) (m .n) &&
+    (leb (m .phase) 3 && (sound-vote m && (sound-flags m && sound-lead m)))
