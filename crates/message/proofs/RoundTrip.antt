@@ -23,12 +23,14 @@ use Rattle.xdr.proofs.Laws.{hyper-at-small}
 use Rattle.xdr.proofs.Items.{length-encoded, integer-found, long-found, stands}
 use Rattle.message.specs.declared.Message.{Message}
 use Rattle.message.specs.declared.Message.the-variants.{Start, Join, JoinVoted, Propose, Vote}
+use Rattle.message.specs.declared.Read.{Read}
 use Rattle.message.specs.declared.Read.the-variants.{Got}
 use Rattle.message.specs.Fields.{head-in-range, vote-in-range, in-range}
 use Rattle.message.specs.Layout.{head, words, bytes, byte-count, kind, round, sender, presence, voted, voted-value, proposed, Held}
-use Rattle.message.specs.Reading.{is-join, size, decoded, message-row, answer, read-number, read}
+use Rattle.message.specs.Reading.{is-join, size, decoded, message-row, answer, read-number, read, Reads}
+use Rattle.message.specs.declared.Written.{Written}
 use Rattle.message.specs.declared.Written.the-variants.{Sent}
-use Rattle.message.specs.Writing.{writer-row, answer-of, written, written-number, buffer-after, in-front}
+use Rattle.message.specs.Writing.{writer-row, answer-of, written, written-number, written-length, sent-length, buffer-after, in-front, Writes}
 use Rattle.message.proofs.Checks.{Known, right-size, size-least, size-front, size-join-least, size-join, size-join-voted, size-propose, size-other, decoded-start, decoded-join, decoded-join-voted, decoded-propose, decoded-vote}
 
 -- an answer has the number of the first cause of its row
@@ -39,6 +41,19 @@ read-numbered s = number-kept read-number (λ n. answer n (decoded s)) (message-
 pub written-numbered : (m : Message) (old : List ℕ) → written-number (written m old) ≡ first (writer-row m old)
 unfolding written
 written-numbered m old = number-kept written-number (λ n. answer-of n m) (writer-row m old) (refl, (refl, refl))
+
+written-long : (m : Message) (old : List ℕ) → written-length (written m old) ≡ sent-length m old
+unfolding written sent-length
+written-long m old =
+    by-test (eqb (first (writer-row m old)) 0) (λ t. rw t refl) (λ t. by-test (eqb (first (writer-row m old)) 18) (λ u. rw (t, u) refl) (λ u. rw (t, u) refl))
+
+-- an answer with its number and its length
+pub reads : (s : List ℕ) (r : Read) → r ≡ read s → Reads s r
+reads s r e = record { answer = e; number-is = ap read-number e ∙ read-numbered s }
+
+pub writes : (m : Message) (old : List ℕ) (r : Written) (new : List ℕ) → r ≡ written m old → new ≡ buffer-after m old → Writes m old r new
+writes m old r new e b =
+    record { answer = e; number-is = ap written-number e ∙ written-numbered m old; length-is = ap written-length e ∙ written-long m old; buffer = b }
 
 -- a round in range is a word
 round-small : (r : Round) (s : Member) → head-in-range r s ≡ true → r .0 < 4294967296

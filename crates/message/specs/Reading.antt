@@ -1,4 +1,5 @@
 -- What bytes read as: the message row of 01's place table, top to bottom.
+use mathlib.Core.Path.{_≡_}
 use mathlib.Core.Bool.{Bool, cond, _&&_, _||_, not}
 use mathlib.Core.List.{List, [], _∷_}
 use Prim.Native.Nat.{ℕ}
@@ -80,3 +81,8 @@ ranged m = cond (in-range m) (Got m) (Refused Field)
 unfoldable pub read : List ℕ → Read
 unfolding message-row
 read s = answer (first (message-row s)) (decoded s)
+
+-- the reader's answer, and its number
+pub record Reads (s : List ℕ) (r : Read) : Type 0 where
+  pub answer : r ≡ read s
+  pub number-is : read-number r ≡ first (message-row s)

@@ -18,6 +18,12 @@ written-number (Sent n) = 0
 written-number ShortBuffer = 18
 written-number OutOfRange = 16
 
+-- the sent length of an answer; with a refusal it is 0
+abbrev pub written-length : Written → ℕ
+written-length (Sent n) = n
+written-length ShortBuffer = 0
+written-length OutOfRange = 0
+
 -- a reply buffer has room for the longest message
 abbrev pub short-buffer : List ℕ → Bool
 short-buffer old = ltb (length old) 28
@@ -33,6 +39,9 @@ answer-of n m = cond (eqb n 0) (Sent (length (bytes m))) (cond (eqb n 18) ShortB
 unfoldable pub written : Message → List ℕ → Written
 written m old = answer-of (first (writer-row m old)) m
 
+unfoldable pub sent-length : Message → List ℕ → ℕ
+sent-length m old = cond (eqb (first (writer-row m old)) 0) (length (bytes m)) 0
+
 -- the message at the front, and the bytes behind it as they were
 unfoldable pub in-front : Message → List ℕ → List ℕ
 in-front m old = bytes m ++ drop (length (bytes m)) old
@@ -44,4 +53,6 @@ buffer-after m old = cond (eqb (first (writer-row m old)) 0) (in-front m old) ol
 -- the writer's answer and the buffer after it
 pub record Writes (m : Message) (old : List ℕ) (r : Written) (new : List ℕ) : Type 0 where
   pub answer : r ≡ written m old
+  pub number-is : written-number r ≡ first (writer-row m old)
+  pub length-is : written-length r ≡ sent-length m old
   pub buffer : new ≡ buffer-after m old

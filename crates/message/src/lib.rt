@@ -7,7 +7,7 @@ ghost use Rattle.writer.specs.Put.{Fronts};
 ghost use Rattle.message.specs.Fields.{head-in-range, vote-in-range, in-range};
 ghost use Rattle.message.specs.declared.Message.the-variants.{Start, Join, JoinVoted, Propose, Vote};
 ghost use Rattle.message.specs.Layout.{head, words, kind, round-at, round, sender, voted, voted-value, proposed};
-ghost use Rattle.message.specs.Reading.{fault-number, size, decoded, ranged, read};
+ghost use Rattle.message.specs.Reading.{fault-number, size, decoded, ranged, read, Reads};
 ghost use Rattle.message.specs.Writing.{Writes};
 use ids::Member;
 use ids::Round;
@@ -282,7 +282,7 @@ fn read_kind(s: &[u8]) -> Read
 
 // Reads any bytes of any length: the message that they are, or the fault that comes first.
 pub fn read_message(s: &[u8]) -> Read
-    ensures { λ r. ⌜ r ≡ read (now (s .entry)) ⌝ }
+    ensures { λ r. ⌜ Reads (now (s .entry)) r ⌝ }
 {
     if s.len() < 4 {
         return Read::Refused(Fault::Length);

@@ -45,7 +45,7 @@ deliver-sound-requires c κs =
     let read = c .before .before .before in
     let row = read .before .before .record-number in
     let args = read .before .before .before .before .before .args in
-    (passing (args .m) (now (args .reply)) (row .result) (row .ensures) (read .before .if1 .left) .0, got (now (args .bytes)) _ (sym (read .read-message .ensures) ∙ c .before .read2 .given .1) .2)
+    (passing (args .m) (now (args .reply)) (row .result) (row .ensures) (read .before .if1 .left) .0, got (now (args .bytes)) _ (sym (read .read-message .ensures .answer) ∙ c .before .read2 .given .1) .2)
 
 tell-requires : tie.Need-tell-requires
 tell-requires c κs =
@@ -60,7 +60,7 @@ returns-2 c =
     let row = read .before .before .record-number in
     let args = read .before .before .before .before .before .args in
     let fault = c .before .before .before .read .given in
-    rw (unread (args .m) (now (args .bytes)) (now (args .reply)) (row .result) (row .ensures) (read .before .if1 .left) (fault .0 .0) (sym (read .read-message .ensures) ∙ fault .1), ← c .before .number .ensures)
+    rw (unread (args .m) (now (args .bytes)) (now (args .reply)) (row .result) (row .ensures) (read .before .if1 .left) (fault .0 .0) (sym (read .read-message .ensures .answer) ∙ fault .1), ← c .before .number .ensures)
     (record { answers = c .refuse2 .ensures; reply = refl })
 
 same-length : tie.Need-same-length
@@ -73,7 +73,7 @@ returns-3 c =
     let row = read .before .before .record-number in
     let args = read .before .before .before .before .before .args in
     let message = step .before .before .read2 .given in
-    rw (read-as (args .m) (now (args .bytes)) (now (args .reply)) (row .result) (row .ensures) (read .before .if1 .left) (message .0 .0) (sym (read .read-message .ensures) ∙ message .1), ← step .deliver-sound .ensures .equals)
+    rw (read-as (args .m) (now (args .bytes)) (now (args .reply)) (row .result) (row .ensures) (read .before .if1 .left) (message .0 .0) (sym (read .read-message .ensures .answer) ∙ message .1), ← step .deliver-sound .ensures .equals)
     (c .before .before .tell .ensures)
 
 pub deliver-into-spec : {M : Type 1} → statement M

@@ -9,6 +9,7 @@ use Rattle.writer.specs.Put.{Fronts}
 use Rattle.message.specs.declared.Message.{Message}
 use Rattle.message.specs.Layout.{words, bytes}
 use Rattle.message.specs.Writing.{in-front, written, buffer-after}
+use Rattle.message.proofs.RoundTrip.{writes}
 use borrow.Author.Needs.{needs}
 use Rattle.message.proofs.write_message.Statement.{statement}
 use Rattle.message.proofs.write_message.Tie as tie
@@ -20,7 +21,7 @@ sent m f = (rw (f .reached, length-encoded (words m)), rw (f .stand, length-enco
 
 returns : tie.Need-returns
 unfolding written buffer-after
-returns c = record { answer = simp (lt-ltb _ _ (c .if1 .taken)); buffer = simp (lt-ltb _ _ (c .if1 .taken)) }
+returns c = writes _ _ _ _ (simp (lt-ltb _ _ (c .if1 .taken))) (simp (lt-ltb _ _ (c .if1 .taken)))
 
 in-range-requires : tie.Need-in-range-requires
 in-range-requires c κs = search needs
@@ -36,14 +37,15 @@ unfolding written buffer-after
 returns-2 c =
     let put = sent _ (c .before .before .put-message .ensures) in
     let fits = sym (c .before .before .before .before .before .in-range .ensures) ∙ c .before .before .before .before .if2 .taken in
-    record {
-      answer = simp (le-ltb _ _ (c .before .before .before .before .before .before .if1 .left), fits, put .0);
-      buffer = simp (le-ltb _ _ (c .before .before .before .before .before .before .if1 .left), fits) (put .1);
-    }
+    writes _ _ _ _
+    (simp (le-ltb _ _ (c .before .before .before .before .before .before .if1 .left), fits, put .0))
+    (simp (le-ltb _ _ (c .before .before .before .before .before .before .if1 .left), fits) (put .1))
 
 returns-3 : tie.Need-returns-3
 unfolding written buffer-after
-returns-3 c = record { answer = simp (le-ltb _ _ (c .before .before .if1 .left), sym (c .before .in-range .ensures) ∙ c .if2 .left); buffer = simp (le-ltb _ _ (c .before .before .if1 .left), sym (c .before .in-range .ensures) ∙ c .if2 .left) }
+returns-3 c =
+    let out = sym (c .before .in-range .ensures) ∙ c .if2 .left in
+    writes _ _ _ _ (simp (le-ltb _ _ (c .before .before .if1 .left), out)) (simp (le-ltb _ _ (c .before .before .if1 .left), out))
 
 pub write-message-spec : {M : Type 1} → statement M
 write-message-spec =
