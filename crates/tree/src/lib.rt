@@ -1,9 +1,9 @@
 // The quorum tree in lent memory (01, "The tree"): fresh, add, commit and path over a slice of 64-bit words, four a row.
-use answers::AddAnswer;
-use answers::CommitAnswer;
-use answers::FreshAnswer;
-use answers::PathAnswer;
 use ids::Round;
+use tree_answers::AddAnswer;
+use tree_answers::CommitAnswer;
+use tree_answers::FreshAnswer;
+use tree_answers::PathAnswer;
 ghost use mathlib.Core.Path.{_≡_};
 ghost use mathlib.Core.Bool.{true, cond};
 ghost use mathlib.Core.List.{_∷_, [], _++_, map};
@@ -13,10 +13,8 @@ ghost use Rattle.laws.specs.Lists.{any};
 ghost use Rattle.quorum_tree.specs.Machine.{add, commit, answer, above, new-node};
 ghost use Rattle.quorum_tree.specs.Table.{sized, rows, rows-of, words, Tree, fresh-number, fresh-table};
 ghost use Rattle.table.specs.Rows.{strike-crossed};
-ghost use Rattle.tree.specs.Answers.{number-of-fresh, number-of-add, number-of-commit, number-of-path, count-of-path};
+ghost use Rattle.tree_answers.specs.Answers.{number-of-fresh, number-of-add, number-of-commit, number-of-path, count-of-path};
 ghost use Rattle.tree.specs.Promises.{Called, Stepped, PathOf, PathWritten, PathGiven};
-
-pub mod answers;
 
 // Makes the table fresh: the root 0, 0, 0, 3 and zeros all else. It checks the length only.
 pub fn fresh(t: &mut [u64]) -> FreshAnswer

@@ -1,7 +1,7 @@
 // Runs the tree's cases (01, "Cases from the rig", P1 to P11), calls on tables that are none, and a list of calls that fills 256 rows.
 // Writes a line for each: its label, each call's number, and behind a bar each node's round, parent, value and status.
 use ids::Round;
-use tree::answers::PathAnswer;
+use tree_answers::PathAnswer;
 ghost use Prim.Native.Nat.{_+_, _*_, _≤_};
 ghost use lib.ListN.{length};
 

@@ -13,7 +13,7 @@ use Rattle.quorum_tree.specs.Table.{row, rows, rows-of, used, nodes}
 use Rattle.quorum_tree.proofs.Words.{used-rows}
 use Rattle.quorum_tree.proofs.Nodes.{find-round}
 use Rattle.table.specs.Rows.{Found}
-use Rattle.tree.specs.Answers.{number-of-commit}
+use Rattle.tree_answers.specs.Answers.{number-of-commit}
 use Rattle.tree.proofs.Stepping.{refused, done, there, committed-row}
 use Rattle.tree.proofs.commit_step.Statement.{statement}
 use Rattle.tree.proofs.commit_step.Tie as tie

@@ -1,6 +1,6 @@
 // The answers of the tree's calls, a variant for each number of the place table that the call can give.
 ghost use mathlib.Core.Path.{_≡_};
-ghost use Rattle.tree.specs.Answers.{number-of-fresh, number-of-add, number-of-commit, number-of-path, count-of-path};
+ghost use Rattle.tree_answers.specs.Answers.{number-of-fresh, number-of-add, number-of-commit, number-of-path, count-of-path};
 
 pub enum FreshAnswer {
     Made,

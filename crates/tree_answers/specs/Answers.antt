@@ -1,13 +1,13 @@
 -- 01's number, and the values that come with it, for each answer of the tree's calls.
 use Prim.Native.Nat.{ℕ}
-use Rattle.tree.specs.declared.answers.FreshAnswer.{FreshAnswer}
-use Rattle.tree.specs.declared.answers.FreshAnswer.the-variants as made
-use Rattle.tree.specs.declared.answers.AddAnswer.{AddAnswer}
-use Rattle.tree.specs.declared.answers.AddAnswer.the-variants as added
-use Rattle.tree.specs.declared.answers.CommitAnswer.{CommitAnswer}
-use Rattle.tree.specs.declared.answers.CommitAnswer.the-variants as committed
-use Rattle.tree.specs.declared.answers.PathAnswer.{PathAnswer}
-use Rattle.tree.specs.declared.answers.PathAnswer.the-variants as written
+use Rattle.tree_answers.specs.declared.FreshAnswer.{FreshAnswer}
+use Rattle.tree_answers.specs.declared.FreshAnswer.the-variants as made
+use Rattle.tree_answers.specs.declared.AddAnswer.{AddAnswer}
+use Rattle.tree_answers.specs.declared.AddAnswer.the-variants as added
+use Rattle.tree_answers.specs.declared.CommitAnswer.{CommitAnswer}
+use Rattle.tree_answers.specs.declared.CommitAnswer.the-variants as committed
+use Rattle.tree_answers.specs.declared.PathAnswer.{PathAnswer}
+use Rattle.tree_answers.specs.declared.PathAnswer.the-variants as written
 
 abbrev pub number-of-fresh : FreshAnswer → ℕ
 number-of-fresh made.Made = 0
