@@ -4,7 +4,7 @@ ghost use mathlib.Core.Bool.{cond, _&&_, not};
 ghost use mathlib.Core.List.{_∷_, _++_, map};
 ghost use Prim.Native.Nat.{_+_, _*_, _≤_, _<_};
 ghost use lib.Dec.{eqb};
-ghost use lib.ListN.{length, set, take, drop, replicate};
+ghost use lib.ListN.{length, set, take, drop};
 ghost use Rattle.laws.specs.Lists.{any};
 ghost use Rattle.quorum_tree.specs.Machine.{blocks, above};
 ghost use Rattle.quorum_tree.specs.Table.{used, row, rows-of, words};
@@ -212,15 +212,4 @@ pub fn zeros_from(t: &[u64], from: usize) -> bool
         word += 1;
     }
     true
-}
-
-// Writes zero to every word.
-pub fn clear(t: &mut [u64])
-    ensures { λ _. ⌜ now (t .exit) ≡ replicate (length (now (t .entry))) 0 ⌝ }
-{
-    let mut word = 0;
-    while word < t.len() {
-        t[word] = 0;
-        word += 1;
-    }
 }

@@ -1,4 +1,4 @@
--- `tree::path_into` meets its contract, by recursion to the parent: the measure is the round. Assumes nothing.
+-- `tree_path::path_into` meets its contract, by recursion to the parent: the measure is the round. Assumes nothing.
 use mathlib.Core.Path.{_≡_, sym, ap, _∙_}
 use Prim.Native.Nat.{ℕ, _<_}
 use native.Mathlib.Omega.{arith}
@@ -12,12 +12,12 @@ use Rattle.quorum_tree.specs.Table.{row, used, nodes}
 use Rattle.quorum_tree.proofs.Words.{used-rows}
 use Rattle.table.proofs.find_row.Reads as find-row-reads
 use Rattle.table.proofs.parent_at.Reads as parent-at-reads
-use Rattle.tree.proofs.Climbing.{root-short, root-written, row-found, parent-lower, parent-of, climbed-short, climbed-room, climbed}
-use Rattle.tree.proofs.path_into.Reads as path-into
-use Rattle.tree.proofs.path_into.Kinds as path-into-kinds
-use Rattle.tree.proofs.+path_into.Lts-path_into as lts
-use Rattle.tree.proofs.+path_into.{statement}
-use Rattle.tree.proofs.+path_into.Tie.{close}
+use Rattle.tree_path.proofs.Climbing.{root-short, root-written, row-found, parent-lower, parent-of, climbed-short, climbed-room, climbed}
+use Rattle.tree_path.proofs.path_into.Reads as path-into
+use Rattle.tree_path.proofs.path_into.Kinds as path-into-kinds
+use Rattle.tree_path.proofs.+path_into.Lts-path_into as lts
+use Rattle.tree_path.proofs.+path_into.{statement}
+use Rattle.tree_path.proofs.+path_into.Tie.{close}
 
 abbrev μ-path-into : Measures 2 path-into-kinds.ps ℕ
 μ-path-into κs a = a .1 .1 .0

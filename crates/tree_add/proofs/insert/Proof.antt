@@ -1,9 +1,9 @@
--- `tree::insert` meets its contract: the struck rows, the new one behind them, and the rest as it was. Assumes nothing.
+-- `tree_add::insert` meets its contract: the struck rows, the new one behind them, and the rest as it was. Assumes nothing.
 use borrow.Author.Needs.{needs}
 use denote.Ref.{now}
-use Rattle.tree.proofs.Stepping.{put-behind}
-use Rattle.tree.proofs.insert.Statement.{statement}
-use Rattle.tree.proofs.insert.Tie as tie
+use Rattle.tree_add.proofs.Inserting.{put-behind}
+use Rattle.tree_add.proofs.insert.Statement.{statement}
+use Rattle.tree_add.proofs.insert.Tie as tie
 
 new-status-requires : tie.Need-new-status-requires
 new-status-requires c κs = search needs

@@ -1,4 +1,4 @@
--- `tree::add_answer` meets its contract: each test stands for one cause of the machine, in its order. What a test left behind is a lemma
+-- `tree_add::add_answer` meets its contract: each test stands for one cause of the machine, in its order. What a test left behind is a lemma
 -- at its place, used by every return after it. Assumes nothing.
 use mathlib.Core.Path.{_≡_, refl, sym, _∙_}
 use mathlib.Core.Bool.{true, false, _&&_}
@@ -14,8 +14,8 @@ use Rattle.laws.specs.First.{first, _gives_}
 use Rattle.quorum_tree.specs.Machine.{other-value, blocks, causes, answer, add}
 use Rattle.quorum_tree.specs.Table.{rows, rows-of}
 use Rattle.quorum_tree.proofs.Words.{length-rows}
-use Rattle.tree.proofs.add_answer.Statement.{statement}
-use Rattle.tree.proofs.add_answer.Tie as tie
+use Rattle.tree_add.proofs.add_answer.Statement.{statement}
+use Rattle.tree_add.proofs.add_answer.Tie as tie
 
 in-range-requires : tie.Need-in-range-requires
 in-range-requires c κs = search needs
@@ -88,13 +88,13 @@ lower c = parent-there (c .before) ∙ rw (lt-leb _ _ (c .if4 .left)) refl
 
 valued-by : (c : tie.After-other-value) →
     let a = c .before .before .before .before .before .before .before .before .before .before .before .args in
-    (a .valued && other-value (rows-of (now (a .t)) (a .n)) (a .v) (a .p .0)) ≡ c .other-value .result
+    c .other-value .result ≡ (a .valued && other-value (rows-of (now (a .t)) (a .n)) (a .v) (a .p .0))
 valued-by c =
     let f = c .before .before in
-    rw (f .before .find-row2 .ensures .at (f .if3 .left)) (sym (c .other-value .ensures))
+    rw (f .before .find-row2 .ensures .at (f .if3 .left)) (c .other-value .ensures)
 
 returns-5 : tie.Need-returns-5
-returns-5 c = sym (lower (c .before .before) ∙ rw (valued-by (c .before) ∙ c .if5 .taken) refl)
+returns-5 c = sym (lower (c .before .before) ∙ rw (← (valued-by (c .before)), c .if5 .taken) refl)
 
 any-blocks-requires : tie.Need-any-blocks-requires
 any-blocks-requires c κs = search needs
@@ -102,7 +102,7 @@ any-blocks-requires c κs = search needs
 returns-6 : tie.Need-returns-6
 returns-6 c =
     let h = c .before .before in
-    sym (lower (h .before .before) ∙ rw (valued-by (h .before) ∙ h .if5 .left, sym (c .before .any-blocks .ensures) ∙ c .if6 .taken) refl)
+    sym (lower (h .before .before) ∙ rw (← (valued-by (h .before)), h .if5 .left, ← (c .before .any-blocks .ensures), c .if6 .taken) refl)
 
 -- no cause but the last
 last : (c : tie.Else6) →
@@ -110,7 +110,7 @@ last : (c : tie.Else6) →
     answer (a .valued) (rows (now (a .t))) (rows-of (now (a .t)) (a .n)) (add (a .r .0) (a .v) (a .p .0)) ≡ first (leb (rows (now (a .t))) (a .n) gives 9 ∷ [])
 last c =
     let h = c .before .before in
-    lower (h .before .before) ∙ rw (valued-by (h .before) ∙ h .if5 .left, sym (c .before .any-blocks .ensures) ∙ c .if6 .left, length-rows _ _) refl
+    lower (h .before .before) ∙ rw (← (valued-by (h .before)), h .if5 .left, ← (c .before .any-blocks .ensures), c .if6 .left, length-rows _ _) refl
 
 returns-7 : tie.Need-returns-7
 returns-7 c = sym (last (c .before) ∙ rw (le-leb _ _ (c .if7 .taken)) refl)

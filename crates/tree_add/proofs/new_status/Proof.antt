@@ -1,8 +1,8 @@
--- `tree::new_status` meets its contract: either way goes by what `any_above` answered. Assumes nothing.
+-- `tree_add::new_status` meets its contract: either way goes by what `any_above` answered. Assumes nothing.
 use mathlib.Core.Path.{refl, sym, _∙_}
 use borrow.Author.Needs.{needs}
-use Rattle.tree.proofs.new_status.Statement.{statement}
-use Rattle.tree.proofs.new_status.Tie as tie
+use Rattle.tree_add.proofs.new_status.Statement.{statement}
+use Rattle.tree_add.proofs.new_status.Tie as tie
 
 any-above-requires : tie.Need-any-above-requires
 any-above-requires c κs = search needs

@@ -1,4 +1,4 @@
--- `tree::commit_answer` meets its contract: each test stands for one cause of the machine, in its order. Assumes nothing.
+-- `tree_commit::commit_answer` meets its contract: each test stands for one cause of the machine, in its order. Assumes nothing.
 use mathlib.Core.Path.{_≡_, refl, sym, ap, _∙_}
 use mathlib.Core.Bool.{true, false}
 use mathlib.Core.List.{[], _∷_}
@@ -10,8 +10,8 @@ use Rattle.ids.specs.Ranges.{out-of-range}
 use Rattle.laws.specs.First.{first, _gives_}
 use Rattle.quorum_tree.specs.Machine.{Node, GHOST, find, causes, answer, commit}
 use Rattle.quorum_tree.specs.Table.{rows, rows-of}
-use Rattle.tree.proofs.commit_answer.Statement.{statement}
-use Rattle.tree.proofs.commit_answer.Tie as tie
+use Rattle.tree_commit.proofs.commit_answer.Statement.{statement}
+use Rattle.tree_commit.proofs.commit_answer.Tie as tie
 
 in-range-requires : tie.Need-in-range-requires
 in-range-requires c κs = search needs
