@@ -59,7 +59,7 @@ fn status_fits(t: &[u64], n: usize, i: usize) -> bool
     ensures { λ b. ⌜ b ≡ status-fits (rows-of (now (t .entry)) n) (row (now (t .entry)) i) ⌝ }
 {
     let s = table::status_at(t, i);
-    if table::any_edge_crosses(t, n, table::round_at(t, i)) {
+    if crossing::any_edge_crosses(t, n, table::round_at(t, i)) {
         return s == table::GHOST;
     }
     if s == table::ADDED {

@@ -21,7 +21,7 @@ use Rattle.quorum_tree.proofs.History.{step-ok, step-refused}
 use Rattle.quorum_tree.proofs.Trees.{tree-held}
 use Rattle.quorum_tree.proofs.Steps.{step-tree, tree-number, tree-table}
 use Rattle.table.proofs.Rows.{rows-from, rows-split, Passed, pass-none, pass-on, pass-set, pass-end}
-use Rattle.table.specs.Rows.{strike-crossed}
+use Rattle.crossing.specs.Crossed.{strike-crossed}
 use Rattle.tree_commit.specs.Committed.{Committed}
 use Rattle.tree.specs.Promises.{Called, Stepped}
 

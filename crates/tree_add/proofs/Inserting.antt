@@ -9,7 +9,7 @@ use Rattle.laws.specs.Lists.{any}
 use Rattle.quorum_tree.specs.Machine.{ADDED, GHOST, above, new-node}
 use Rattle.quorum_tree.specs.Table.{rows-of, words}
 use Rattle.quorum_tree.proofs.Words.{length-words, length-rows, words-append}
-use Rattle.table.specs.Rows.{strike-crossed}
+use Rattle.crossing.specs.Crossed.{strike-crossed}
 
 pub put-behind : (ws : List ℕ) (n r v p s : ℕ) (t u : List ℕ) → s ≡ cond (any (above r) (rows-of ws n)) GHOST ADDED →
     t ≡ words (map (strike-crossed r p) (rows-of ws n)) ++ drop (4 * n) ws → u ≡ take (4 * n) t ++ r ∷ p ∷ v ∷ s ∷ drop (4 * n + 4) t →

@@ -9,7 +9,7 @@ ghost use lib.ListN.{length, drop};
 ghost use Rattle.laws.specs.Lists.{any};
 ghost use Rattle.quorum_tree.specs.Machine.{add, answer, above, new-node};
 ghost use Rattle.quorum_tree.specs.Table.{rows, rows-of, words};
-ghost use Rattle.table.specs.Rows.{strike-crossed};
+ghost use Rattle.crossing.specs.Crossed.{strike-crossed};
 ghost use Rattle.tree_answers.specs.Answers.{number-of-add};
 
 // Why add(r, v, p) is refused among the first n rows, or Added. It writes nothing.
@@ -35,7 +35,7 @@ pub fn add_answer(valued: bool, t: &[u64], n: usize, r: Round, v: u64, p: Round)
     if table::other_value(valued, t, parent_row, v, parent) {
         return AddAnswer::OtherValue;
     }
-    if table::any_blocks(t, n, round, parent) {
+    if crossing::any_blocks(t, n, round, parent) {
         return AddAnswer::CrossesCommitted;
     }
     if t.len() / 4 <= n {
@@ -61,6 +61,6 @@ pub fn insert(t: &mut [u64], n: usize, r: u64, v: u64, p: u64)
     ensures { λ _. ⌜ now (t .exit) ≡ words (map (strike-crossed r p) (rows-of (now (t .entry)) n) ++ new-node (rows-of (now (t .entry)) n) r v p ∷ []) ++ drop (4 * n + 4) (now (t .entry)) ⌝ }
 {
     let s = new_status(t, n, r);
-    table::strike(t, n, r, p);
+    crossing::strike(t, n, r, p);
     table::put_row(t, n, r, p, v, s);
 }

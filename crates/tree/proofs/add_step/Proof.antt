@@ -9,7 +9,7 @@ use denote.Ref.{now}
 use Rattle.quorum_tree.specs.Machine.{add, answer, new-node}
 use Rattle.quorum_tree.specs.Table.{rows, rows-of, nodes, words}
 use Rattle.quorum_tree.proofs.Words.{used-rows}
-use Rattle.table.specs.Rows.{strike-crossed}
+use Rattle.crossing.specs.Crossed.{strike-crossed}
 use Rattle.tree_answers.specs.Answers.{number-of-add}
 use Rattle.tree.proofs.Stepping.{refused, done, room, inserted}
 use Rattle.tree.proofs.add_step.Statement.{statement}

@@ -1,14 +1,15 @@
--- `table::strike` meets its contract: after i turns the first i rows are struck and the rest is as it was. Assumes nothing.
+-- `crossing::strike` meets its contract: after i turns the first i rows are struck and the rest is as it was. Assumes nothing.
 use mathlib.Core.Path.{_≡_, refl, _∙_}
 use Prim.Native.Nat.{_≤_, _-_, _*_, _+_}
 use native.Mathlib.Omega.{arith}
 use lib.ListN.{length}
 use borrow.Author.Needs.{needs}
 use denote.Ref.{now}
-use Rattle.table.specs.Rows.{strike-crossed}
-use Rattle.table.proofs.Rows.{Passed, pass-none, pass-end, struck-more}
-use Rattle.table.proofs.strike.Statement.{statement}
-use Rattle.table.proofs.strike.Tie as tie
+use Rattle.crossing.specs.Crossed.{strike-crossed}
+use Rattle.table.proofs.Rows.{Passed, pass-none, pass-end}
+use Rattle.crossing.proofs.Striking.{struck-more}
+use Rattle.crossing.proofs.strike.Statement.{statement}
+use Rattle.crossing.proofs.strike.Tie as tie
 
 abbrev Inv-loop : tie.InvT-loop
 Inv-loop t₀ n r p i₀ t i = (i ≤ n) × (length t ≡ length t₀) × Passed (strike-crossed r p) t₀ i t

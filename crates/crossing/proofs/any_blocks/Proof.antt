@@ -1,12 +1,12 @@
--- `table::any_blocks` meets its contract: no row passed is COMMITTED and crossed. Assumes nothing.
+-- `crossing::any_blocks` meets its contract: no row passed is COMMITTED and crossed. Assumes nothing.
 use mathlib.Core.Path.{sym, _∙_}
 use Prim.Native.Nat.{_-_}
 use native.Mathlib.Omega.{arith}
 use borrow.Author.Needs.{needs}
 use Rattle.quorum_tree.specs.Machine.{blocks}
 use Rattle.table.proofs.Rows.{Scanned, scan-start, scan-more, scan-hit, scan-end}
-use Rattle.table.proofs.any_blocks.Statement.{statement}
-use Rattle.table.proofs.any_blocks.Tie as tie
+use Rattle.crossing.proofs.any_blocks.Statement.{statement}
+use Rattle.crossing.proofs.any_blocks.Tie as tie
 
 abbrev Inv-loop : tie.InvT-loop
 Inv-loop t n r p i₀ i = Scanned (blocks r p) t n i
