@@ -8,7 +8,6 @@ ghost use lib.ListN.{length, set, take, drop};
 ghost use Rattle.laws.specs.Lists.{any};
 ghost use Rattle.quorum_tree.specs.Machine.{above};
 ghost use Rattle.quorum_tree.specs.Table.{used, row, rows-of};
-ghost use Rattle.quorum_tree.specs.Check.{zeros-to};
 ghost use Rattle.table.specs.Rows.{Found};
 
 pub const ADDED: u64 = 1;
@@ -119,19 +118,4 @@ pub fn any_above(t: &[u64], n: usize, r: u64) -> bool
         i += 1;
     }
     false
-}
-
-// Whether every word from a place on is zero.
-pub fn zeros_from(t: &[u64], from: usize) -> bool
-    requires { ⌜ from ≤ length (now t) ⌝ }
-    ensures { λ b. ⌜ b ≡ zeros-to (now (t .entry)) from (length (now (t .entry))) ⌝ }
-{
-    let mut word = from;
-    while word < t.len() {
-        if t[word] != 0 {
-            return false;
-        }
-        word += 1;
-    }
-    true
 }

@@ -1,4 +1,4 @@
--- `table_check::round_fits` meets its contract: each return goes by the tests that led there. Assumes nothing.
+-- `row_check::round_fits` meets its contract: each return goes by the tests that led there. Assumes nothing.
 use mathlib.Core.Path.{_≡_, refl, sym, _∙_}
 use Prim.Native.Nat.{_≤_, _<_}
 use native.Mathlib.Omega.{arith}
@@ -7,8 +7,8 @@ use borrow.Author.Tests.{eq-eqb, ne-eqb, lt-ltb, le-ltb}
 use denote.Ref.{now}
 use Rattle.quorum_tree.specs.Table.{row}
 use Rattle.table.proofs.Rows.{found-absent}
-use Rattle.table_check.proofs.round_fits.Statement.{statement}
-use Rattle.table_check.proofs.round_fits.Tie as tie
+use Rattle.row_check.proofs.round_fits.Statement.{statement}
+use Rattle.row_check.proofs.round_fits.Tie as tie
 
 round-at-requires : tie.Need-round-at-requires
 round-at-requires c κs = search needs

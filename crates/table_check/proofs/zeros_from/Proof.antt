@@ -1,4 +1,4 @@
--- `table::zeros_from` meets its contract: every word passed is zero. Assumes nothing.
+-- `table_check::zeros_from` meets its contract: every word passed is zero. Assumes nothing.
 use mathlib.Core.Path.{_≡_, sym}
 use mathlib.Core.Bool.{true}
 use Prim.Native.Nat.{_≤_, _-_}
@@ -7,9 +7,9 @@ use lib.ListN.{length}
 use borrow.Author.Needs.{needs}
 use denote.Ref.{now}
 use Rattle.quorum_tree.specs.Check.{zeros-to}
-use Rattle.table.proofs.Rows.{zeros-start, zeros-more, zeros-hit}
-use Rattle.table.proofs.zeros_from.Statement.{statement}
-use Rattle.table.proofs.zeros_from.Tie as tie
+use Rattle.table_check.proofs.Zeros.{zeros-start, zeros-more, zeros-hit}
+use Rattle.table_check.proofs.zeros_from.Statement.{statement}
+use Rattle.table_check.proofs.zeros_from.Tie as tie
 
 abbrev Inv-loop : tie.InvT-loop
 Inv-loop t from word₀ word = (from ≤ word) × (word ≤ length t) × (zeros-to t from word ≡ true)

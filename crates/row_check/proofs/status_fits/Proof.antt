@@ -1,12 +1,12 @@
--- `table_check::status_fits` meets its contract: each return goes by the tests that led there. Assumes nothing.
+-- `row_check::status_fits` meets its contract: each return goes by the tests that led there. Assumes nothing.
 use mathlib.Core.Path.{_≡_, refl, sym, ap, _∙_}
 use borrow.Author.Needs.{needs}
 use borrow.Author.Tests.{eq-eqb, ne-eqb}
 use denote.Ref.{now}
 use Rattle.quorum_tree.specs.Table.{row, rows-of}
 use Rattle.quorum_tree.specs.Check.{crossed}
-use Rattle.table_check.proofs.status_fits.Statement.{statement}
-use Rattle.table_check.proofs.status_fits.Tie as tie
+use Rattle.row_check.proofs.status_fits.Statement.{statement}
+use Rattle.row_check.proofs.status_fits.Tie as tie
 
 status-at-requires : tie.Need-status-at-requires
 status-at-requires c κs = search needs
