@@ -2,7 +2,7 @@
 ghost use mathlib.Core.Path.{_≡_};
 ghost use mathlib.Core.Bool.{_&&_, not};
 ghost use mathlib.Core.List.{_∷_, _++_};
-ghost use Prim.Native.Nat.{_+_, _*_, _≤_, _<_};
+ghost use Prim.Native.Nat.{_+_, _*_, _≤_};
 ghost use lib.Dec.{eqb};
 ghost use lib.ListN.{length, set, take, drop};
 ghost use Rattle.laws.specs.Lists.{any};
@@ -56,10 +56,11 @@ pub fn put_row(t: &mut [u64], i: usize, r: u64, p: u64, v: u64, s: u64)
     requires { ⌜ 4 * i + 4 ≤ length (now t) ⌝ }
     ensures { λ _. ⌜ now (t .exit) ≡ take (4 * i) (now (t .entry)) ++ r ∷ p ∷ v ∷ s ∷ drop (4 * i + 4) (now (t .entry)) ⌝ }
 {
-    t[4 * i] = r;
-    t[4 * i + 1] = p;
-    t[4 * i + 2] = v;
-    t[4 * i + 3] = s;
+    let at = 4 * i;
+    t[at] = r;
+    t[at + 1] = p;
+    t[at + 2] = v;
+    t[at + 3] = s;
 }
 
 // How many rows stand before the first free one.
