@@ -12,7 +12,7 @@ use Rattle.laws.specs.First.{_gives_, passed}
 use Rattle.ids.specs.Ranges.{above-range}
 use Rattle.quorum_tree.specs.Machine.{present, path}
 use Rattle.quorum_tree.specs.Table.{nodes, used, table-causes, path-number, path-count}
-use Rattle.tree.proofs.Climbing.{path-of}
+use Rattle.tree.proofs.PathCalls.{path-of}
 
 pub count-fits : (ws : List ℕ) (r : ℕ) (out : List ℕ) → path-count true ws r out ≤ 1024
 unfolding path-number path-count

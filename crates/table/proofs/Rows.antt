@@ -1,6 +1,6 @@
 -- Laws on the first rows of a table: what one row more adds, and what a pass that changes statuses leaves. Assumes nothing.
-use mathlib.Core.Path.{_≡_, refl, sym, ap, subst, _∙_}
-use mathlib.Core.Bool.{Bool, true, false, cond, not, or-true, and-false}
+use mathlib.Core.Path.{_≡_, refl, sym, ap, _∙_}
+use mathlib.Core.Bool.{Bool, true, false, not}
 use mathlib.Core.List.{List, [], _∷_, _++_, map, append-assoc, append-nil}
 use Prim.Native.Nat.{ℕ, zero, suc, _+_, _-_, _*_, _≤_, _<_}
 use native.Mathlib.Omega.{arith}
@@ -8,15 +8,14 @@ use native.Mathlib.Numerals.{add-one}
 use native.Mathlib.Nat.{add-zero}
 use lib.ListN.{length, getD, set, drop, length-map}
 use lib.Seq.{drop-cons, getD-append-add, append-snoc, getD-drop}
-use lib.Dec.{ltb, leb}
-use borrow.Author.Tests.{eq-eqb, ne-eqb, lt-ltb, le-ltb, ltb-true, leb-true, leb-false}
-use Rattle.laws.specs.Tests.{by-test, clash, tests}
+use lib.Dec.{leb}
+use borrow.Author.Tests.{eq-eqb, ne-eqb, leb-true, leb-false}
+use Rattle.laws.specs.Tests.{by-test, clash}
 use Rattle.laws.specs.Lists.{any, any-append, any-snoc, map-append}
-use Rattle.quorum_tree.specs.Machine.{Node, ADDED, GHOST, has-round, present, find, with-status}
+use Rattle.quorum_tree.specs.Machine.{Node, has-round, present, find, with-status}
 use Rattle.quorum_tree.specs.Table.{row, rows-of, used-from, words}
-use Rattle.quorum_tree.specs.Check.{zeros-to}
 use Rattle.quorum_tree.proofs.Words.{length-words, words-append, length-rows}
-use Rattle.table.specs.Rows.{Found, crossed-with, strike-crossed}
+use Rattle.table.specs.Rows.{Found}
 
 -- the d rows from row i on
 pub rows-from : List ℕ → ℕ → ℕ → List Node
@@ -173,33 +172,3 @@ module _ (f : Node → Node) (t₀ : List ℕ) where
 
   pub pass-end : (i n : ℕ) (t : List ℕ) → i ≤ n → n ≤ i → Passed f t₀ i t → t ≡ words (map f (rows-of t₀ n)) ++ drop (4 * n) t₀
   pass-end i n t a b P = let e : i ≡ n = omega arith in rw e at (P .is)
-
--- one turn of the pass that strikes
-pub struck-more : (r p : ℕ) (t₀ : List ℕ) (i : ℕ) (t t′ : List ℕ) → Passed (strike-crossed r p) t₀ i t → 4 * i + 4 ≤ length t₀ →
-    t′ ≡ cond (crossed-with ADDED r p (row t i)) (set t (4 * i + 3) GHOST) t → Passed (strike-crossed r p) t₀ (i + 1) t′
-struck-more r p t₀ i t t′ P h e =
-    let old : row t i ≡ row t₀ i = pass-row (strike-crossed r p) t₀ i t P in
-    let e′ : t′ ≡ cond (crossed-with ADDED r p (row t₀ i)) (set t (4 * i + 3) GHOST) t = subst (λ n. t′ ≡ cond (crossed-with ADDED r p n) (set t (4 * i + 3) GHOST) t) old e in
-    by-test (crossed-with ADDED r p (row t₀ i))
-    (λ y. rw (rw y at e′) (pass-set (strike-crossed r p) t₀ i t GHOST P h (rw y refl)))
-    (λ y. rw (rw y at e′) (pass-keep (strike-crossed r p) t₀ i t P h (rw y refl)))
-
--- words that are zero
-pub zeros-start : (ws : List ℕ) (a n : ℕ) → n ≤ a → zeros-to ws a n ≡ true
-unfolding zeros-to
-zeros-start ws a zero h = refl
-zeros-start ws a (suc n) h = rw (zeros-start ws a n (omega arith), lt-ltb n a (omega arith)) refl
-
-pub zeros-more : (ws : List ℕ) (a i : ℕ) → zeros-to ws a i ≡ true → getD ws i 0 ≡ 0 → zeros-to ws a (i + 1) ≡ true
-unfolding zeros-to
-zeros-more ws a i h e = rw (add-one, h, eq-eqb (getD ws i 0) 0 e) (or-true (ltb i a))
-
-pub zeros-hit : (ws : List ℕ) (a i n : ℕ) → i < n → a ≤ i → (getD ws i 0 ≡ 0 → ⊥) → zeros-to ws a n ≡ false
-unfolding zeros-to
-zeros-hit ws a i zero h k e = absurd (omega arith)
-zeros-hit ws a i (suc n) h k e =
-    by-test (ltb i n)
-    (λ y. rw (zeros-hit ws a i n (ltb-true i n y) k e) refl)
-    (λ y.
-    let q : n ≡ i = omega tests in
-    rw (q, le-ltb i a k, ne-eqb (getD ws i 0) 0 e) (and-false (zeros-to ws a i)))

@@ -1,2 +1,2 @@
--- What the passes over the rows of a node table find and make.
+-- What a search over the rows of a node table finds.
 pub mod Rows

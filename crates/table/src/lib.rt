@@ -1,15 +1,14 @@
 // Passes over the rows of a node table, four 64-bit words a row: round, parent, value, status (01, "The tree").
 ghost use mathlib.Core.Path.{_≡_};
-ghost use mathlib.Core.Bool.{cond, _&&_, not};
-ghost use mathlib.Core.List.{_∷_, _++_, map};
-ghost use Prim.Native.Nat.{_+_, _*_, _≤_, _<_};
+ghost use mathlib.Core.Bool.{_&&_, not};
+ghost use mathlib.Core.List.{_∷_, _++_};
+ghost use Prim.Native.Nat.{_+_, _*_, _≤_};
 ghost use lib.Dec.{eqb};
-ghost use lib.ListN.{length, set, take, drop, replicate};
+ghost use lib.ListN.{length, set, take, drop};
 ghost use Rattle.laws.specs.Lists.{any};
-ghost use Rattle.quorum_tree.specs.Machine.{blocks, above};
-ghost use Rattle.quorum_tree.specs.Table.{used, row, rows-of, words};
-ghost use Rattle.quorum_tree.specs.Check.{edge-over, crossed, zeros-to};
-ghost use Rattle.table.specs.Rows.{Found, crossed-with, strike-crossed};
+ghost use Rattle.quorum_tree.specs.Machine.{above};
+ghost use Rattle.quorum_tree.specs.Table.{used, row, rows-of};
+ghost use Rattle.table.specs.Rows.{Found};
 
 pub const ADDED: u64 = 1;
 
@@ -57,10 +56,11 @@ pub fn put_row(t: &mut [u64], i: usize, r: u64, p: u64, v: u64, s: u64)
     requires { ⌜ 4 * i + 4 ≤ length (now t) ⌝ }
     ensures { λ _. ⌜ now (t .exit) ≡ take (4 * i) (now (t .entry)) ++ r ∷ p ∷ v ∷ s ∷ drop (4 * i + 4) (now (t .entry)) ⌝ }
 {
-    t[4 * i] = r;
-    t[4 * i + 1] = p;
-    t[4 * i + 2] = v;
-    t[4 * i + 3] = s;
+    let at = 4 * i;
+    t[at] = r;
+    t[at + 1] = p;
+    t[at + 2] = v;
+    t[at + 3] = s;
 }
 
 // How many rows stand before the first free one.
@@ -119,108 +119,4 @@ pub fn any_above(t: &[u64], n: usize, r: u64) -> bool
         i += 1;
     }
     false
-}
-
-// Whether row i has status s and the edge (r, p) crosses it.
-fn crossed_at(t: &[u64], i: usize, s: u64, r: u64, p: u64) -> bool
-    requires { ⌜ 4 * i + 4 ≤ length (now t) ⌝ }
-    ensures { λ b. ⌜ b ≡ crossed-with s r p (row (now (t .entry)) i) ⌝ }
-{
-    let c = round_at(t, i);
-    if status_at(t, i) == s {
-        if p < c {
-            return c < r;
-        }
-    }
-    false
-}
-
-// Whether one of the first n rows is COMMITTED and the edge (r, p) crosses it.
-pub fn any_blocks(t: &[u64], n: usize, r: u64, p: u64) -> bool
-    requires { ⌜ 4 * n ≤ length (now t) ⌝ }
-    ensures { λ b. ⌜ b ≡ any (blocks r p) (rows-of (now (t .entry)) n) ⌝ }
-{
-    let mut i = 0;
-    while i < n {
-        if crossed_at(t, i, COMMITTED, r, p) {
-            return true;
-        }
-        i += 1;
-    }
-    false
-}
-
-// Whether the edge of row i crosses c.
-fn edge_crosses_at(t: &[u64], i: usize, c: u64) -> bool
-    requires { ⌜ 4 * i + 4 ≤ length (now t) ⌝ }
-    ensures { λ b. ⌜ b ≡ edge-over c (row (now (t .entry)) i) ⌝ }
-{
-    let r = round_at(t, i);
-    if parent_at(t, i) < c {
-        return c < r;
-    }
-    false
-}
-
-// Whether one of the first n rows has an edge that crosses c.
-pub fn any_edge_crosses(t: &[u64], n: usize, c: u64) -> bool
-    requires { ⌜ 4 * n ≤ length (now t) ⌝ }
-    ensures { λ b. ⌜ b ≡ crossed c (rows-of (now (t .entry)) n) ⌝ }
-{
-    let mut i = 0;
-    while i < n {
-        if edge_crosses_at(t, i, c) {
-            return true;
-        }
-        i += 1;
-    }
-    false
-}
-
-// Makes row i GHOST if it is ADDED and the edge (r, p) crosses it.
-fn strike_row(t: &mut [u64], i: usize, r: u64, p: u64)
-    requires { ⌜ 4 * i + 4 ≤ length (now t) ⌝ }
-    ensures { λ _. ⌜ now (t .exit) ≡ cond (crossed-with 1 r p (row (now (t .entry)) i)) (set (now (t .entry)) (4 * i + 3) 2) (now (t .entry)) ⌝ }
-{
-    if crossed_at(t, i, ADDED, r, p) {
-        set_status(t, i, GHOST);
-    }
-}
-
-// Makes GHOST each ADDED one of the first n rows that the edge (r, p) crosses.
-pub fn strike(t: &mut [u64], n: usize, r: u64, p: u64)
-    requires { ⌜ 4 * n ≤ length (now t) ⌝ }
-    ensures { λ _. ⌜ now (t .exit) ≡ words (map (strike-crossed r p) (rows-of (now (t .entry)) n)) ++ drop (4 * n) (now (t .entry)) ⌝ }
-{
-    let mut i = 0;
-    while i < n {
-        strike_row(t, i, r, p);
-        i += 1;
-    }
-}
-
-// Whether every word from a place on is zero.
-pub fn zeros_from(t: &[u64], from: usize) -> bool
-    requires { ⌜ from ≤ length (now t) ⌝ }
-    ensures { λ b. ⌜ b ≡ zeros-to (now (t .entry)) from (length (now (t .entry))) ⌝ }
-{
-    let mut word = from;
-    while word < t.len() {
-        if t[word] != 0 {
-            return false;
-        }
-        word += 1;
-    }
-    true
-}
-
-// Writes zero to every word.
-pub fn clear(t: &mut [u64])
-    ensures { λ _. ⌜ now (t .exit) ≡ replicate (length (now (t .entry))) 0 ⌝ }
-{
-    let mut word = 0;
-    while word < t.len() {
-        t[word] = 0;
-        word += 1;
-    }
 }

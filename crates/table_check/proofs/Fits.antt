@@ -1,28 +1,38 @@
--- Rows that fit, counted up: one row more, the end of the pass, and a row that doesn't fit. Assumes nothing.
-use mathlib.Core.Path.{_≡_, refl}
-use mathlib.Core.Bool.{Bool, true, false, and-false}
+-- Rows that fit, counted up: the root's row, one row more, and a row that doesn't fit. Assumes nothing.
+use mathlib.Core.Path.{_≡_, refl, sym, _∙_}
+use mathlib.Core.Bool.{Bool, true, false, not, and-false}
 use mathlib.Core.List.{List}
 use Prim.Native.Nat.{ℕ, zero, suc, _+_, _<_}
 use native.Mathlib.Omega.{arith}
 use native.Mathlib.Numerals.{add-one}
 use lib.Dec.{ltb}
-use borrow.Author.Tests.{ltb-true}
+use borrow.Author.Tests.{ltb-true, ne-eqb, not-true, not-false}
 use Rattle.laws.specs.Tests.{by-test, tests}
-use Rattle.quorum_tree.specs.Check.{row-fits, fits-to}
+use Rattle.quorum_tree.specs.Table.{row, rows-of}
+use Rattle.quorum_tree.specs.Check.{is-root, fits, row-fits, fits-to}
 
-module _ (valued : Bool) (ws : List ℕ) (n : ℕ) where
-  pub fits-none : fits-to valued ws n 0 ≡ true
-  unfolding fits-to
-  fits-none = refl
+unfit : (valued : Bool) (ws : List ℕ) (n i m : ℕ) → i < m → row-fits valued ws n i ≡ false → fits-to valued ws n m ≡ false
+unfolding fits-to
+unfit valued ws n i zero h e = absurd (omega arith)
+unfit valued ws n i (suc m) h e =
+    by-test (ltb i m)
+    (λ y. rw (unfit valued ws n i m (ltb-true i m y) e) refl)
+    (λ y. let q : m ≡ i = omega tests in rw (q, e) (and-false (fits-to valued ws n i)))
 
-  pub fits-more : (i : ℕ) → fits-to valued ws n i ≡ true → row-fits valued ws n i ≡ true → fits-to valued ws n (i + 1) ≡ true
+-- b is what the code's test of a row answered
+module _ (valued : Bool) (ws : List ℕ) (n : ℕ) {b : Bool} where
+  pub fits-root : b ≡ is-root (row ws 0) → not b ≡ false → fits-to valued ws n 1 ≡ true
   unfolding fits-to
-  fits-more i a b = rw (add-one, a, b) refl
+  fits-root a t = rw (← a, not-false b t) refl
 
-  pub fits-not : (i m : ℕ) → i < m → row-fits valued ws n i ≡ false → fits-to valued ws n m ≡ false
+  pub fits-more : (i : ℕ) → 0 < i → fits-to valued ws n i ≡ true → b ≡ fits valued (rows-of ws i) (rows-of ws n) (row ws i) → not b ≡ false → fits-to valued ws n (i + 1) ≡ true
   unfolding fits-to
-  fits-not i zero h e = absurd (omega arith)
-  fits-not i (suc m) h e =
-      by-test (ltb i m)
-      (λ y. rw (fits-not i m (ltb-true i m y) e) refl)
-      (λ y. let q : m ≡ i = omega tests in rw (q, e) (and-false (fits-to valued ws n i)))
+  fits-more i h f a t = rw (add-one, f, ne-eqb i 0 (λ e. omega arith), ← a, not-false b t) refl
+
+  pub unfit-root : (m : ℕ) → 0 < m → b ≡ is-root (row ws 0) → not b ≡ true → fits-to valued ws n m ≡ false
+  unfolding row-fits
+  unfit-root m h a t = unfit valued ws n 0 m h (sym a ∙ not-true b t)
+
+  pub unfit-row : (i m : ℕ) → 0 < i → i < m → b ≡ fits valued (rows-of ws i) (rows-of ws n) (row ws i) → not b ≡ true → fits-to valued ws n m ≡ false
+  unfolding row-fits
+  unfit-row i m h k a t = unfit valued ws n i m k (rw (ne-eqb i 0 (λ q. omega arith)) (sym a ∙ not-true b t))

@@ -1,2 +1,3 @@
 -- Laws for the table check.
 pub mod Fits
+pub mod Zeros

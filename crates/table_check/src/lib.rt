@@ -2,10 +2,10 @@
 // table). `valued` says whether the tree's values are compared. The check takes time in the square of the used rows.
 ghost use mathlib.Core.Path.{_≡_};
 ghost use mathlib.Core.Bool.{true};
-ghost use Prim.Native.Nat.{_*_, _+_, _≤_, _<_};
+ghost use Prim.Native.Nat.{_*_, _≤_, _<_};
 ghost use lib.ListN.{length};
-ghost use Rattle.quorum_tree.specs.Table.{row, rows-of, sized, is-tree};
-ghost use Rattle.quorum_tree.specs.Check.{is-root, round-fits, status-fits, row-fits, fits-to};
+ghost use Rattle.quorum_tree.specs.Table.{row, sized, is-tree};
+ghost use Rattle.quorum_tree.specs.Check.{is-root, fits-to, zeros-to};
 
 // A multiple of 4 from 4 to 1,024.
 pub fn has_table_length(t: &[u64]) -> bool
@@ -38,72 +38,35 @@ fn root_fits(t: &[u64]) -> bool
     table::status_at(t, 0) == table::COMMITTED
 }
 
-// Whether the round of row i is in range and no earlier row's.
-fn round_fits(t: &[u64], i: usize) -> bool
-    requires { ⌜ 4 * i + 4 ≤ length (now t) ⌝ }
-    ensures { λ b. ⌜ b ≡ round-fits (rows-of (now (t .entry)) i) (row (now (t .entry)) i) ⌝ }
-{
-    let r = table::round_at(t, i);
-    if r == 0 {
-        return false;
-    }
-    if (ids::LAST_ROUND as u64) < r {
-        return false;
-    }
-    i <= table::find_row(t, i, r)
-}
-
-// Whether row i is GHOST where an edge crosses its round, else ADDED or COMMITTED.
-fn status_fits(t: &[u64], n: usize, i: usize) -> bool
-    requires { ⌜ (i < n) × (4 * n ≤ length (now t)) ⌝ }
-    ensures { λ b. ⌜ b ≡ status-fits (rows-of (now (t .entry)) n) (row (now (t .entry)) i) ⌝ }
-{
-    let s = table::status_at(t, i);
-    if table::any_edge_crosses(t, n, table::round_at(t, i)) {
-        return s == table::GHOST;
-    }
-    if s == table::ADDED {
-        return true;
-    }
-    s == table::COMMITTED
-}
-
-// Whether row i of n used rows fits those before it and all of them.
-fn row_fits(valued: bool, t: &[u64], n: usize, i: usize) -> bool
-    requires { ⌜ (i < n) × (4 * n ≤ length (now t)) ⌝ }
-    ensures { λ b. ⌜ b ≡ row-fits valued (now (t .entry)) n i ⌝ }
-{
-    if i == 0 {
-        return root_fits(t);
-    }
-    if !round_fits(t, i) {
-        return false;
-    }
-    let p = table::parent_at(t, i);
-    let k = table::find_row(t, i, p);
-    if i <= k {
-        return false;
-    }
-    if table::round_at(t, i) <= p {
-        return false;
-    }
-    if table::other_value(valued, t, k, table::value_at(t, i), p) {
-        return false;
-    }
-    status_fits(t, n, i)
-}
-
-// Whether all n used rows fit.
+// Whether all n used rows fit: the root's, and each behind it.
 fn rows_fit(valued: bool, t: &[u64], n: usize) -> bool
-    requires { ⌜ 4 * n ≤ length (now t) ⌝ }
+    requires { ⌜ (0 < n) × (4 * n ≤ length (now t)) ⌝ }
     ensures { λ b. ⌜ b ≡ fits-to valued (now (t .entry)) n n ⌝ }
 {
-    let mut i = 0;
+    if !root_fits(t) {
+        return false;
+    }
+    let mut i = 1;
     while i < n {
-        if !row_fits(valued, t, n, i) {
+        if !row_check::row_fits(valued, t, n, i) {
             return false;
         }
         i += 1;
+    }
+    true
+}
+
+// Whether every word from a place on is zero.
+fn zeros_from(t: &[u64], from: usize) -> bool
+    requires { ⌜ from ≤ length (now t) ⌝ }
+    ensures { λ b. ⌜ b ≡ zeros-to (now (t .entry)) from (length (now (t .entry))) ⌝ }
+{
+    let mut word = from;
+    while word < t.len() {
+        if t[word] != 0 {
+            return false;
+        }
+        word += 1;
     }
     true
 }
@@ -120,5 +83,5 @@ pub fn is_tree(valued: bool, t: &[u64]) -> bool
     if !rows_fit(valued, t, n) {
         return false;
     }
-    table::zeros_from(t, 4 * n)
+    zeros_from(t, 4 * n)
 }

@@ -1,3 +1,3 @@
 -- Laws for the tree's calls.
 pub mod Stepping
-pub mod Climbing
+pub mod PathCalls

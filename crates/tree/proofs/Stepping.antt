@@ -1,27 +1,28 @@
 -- Steps of a tree in lent words: what the passes of the code leave is what the machine makes. Assumes nothing.
 use mathlib.Core.Path.{_≡_, refl, sym, ap, subst, _∙_}
-use mathlib.Core.Bool.{Bool, true, false, cond, _&&_}
+use mathlib.Core.Bool.{Bool, true, false, not, _&&_}
 use mathlib.Core.Logic.{_≢_}
-use mathlib.Core.List.{List, [], _∷_, _++_, map, append-assoc}
+use mathlib.Core.List.{List, [], _∷_, _++_, map}
 use Prim.Native.Nat.{ℕ, zero, suc, _+_, _-_, _*_, _%_, _≤_, _<_}
 use native.Mathlib.Omega.{arith}
-use lib.ListN.{length, set, take, drop, replicate, length-append, length-map}
-use lib.Seq.{drop-append-add, drop-drop, take-at}
+use lib.ListN.{length, set, drop, replicate, length-append, length-map}
+use lib.Seq.{drop-append-add}
 use lib.Dec.{ltb, leb, eqb}
-use borrow.Author.Tests.{eq-eqb, ne-eqb, ltb-true, leb-true, leb-false, not-false}
+use borrow.Author.Tests.{eq-eqb, ne-eqb, ltb-true, leb-true, leb-false, not-true, not-false}
 use Rattle.laws.specs.Tests.{by-test, clash, tests, and-left, and-right}
-use Rattle.laws.specs.Lists.{any, any-intro}
+use Rattle.laws.specs.Lists.{any-intro}
 use Rattle.laws.specs.First.{passed}
-use Rattle.quorum_tree.specs.Machine.{Call, add, commit, ADDED, COMMITTED, GHOST, has-round, present, above, causes, answer, struck, committed, new-node, change, step}
-use Rattle.quorum_tree.specs.Table.{row, rows, rows-of, used, nodes, words, sized, table, Tree, is-tree, call-number, call-table, fresh-table}
-use Rattle.quorum_tree.proofs.Words.{length-words, length-rows, words-append, used-rows, row-in}
+use Rattle.quorum_tree.specs.Machine.{Call, add, commit, COMMITTED, has-round, present, causes, answer, struck, committed, new-node, change, step}
+use Rattle.quorum_tree.specs.Table.{row, rows, rows-of, used, nodes, words, sized, table, Tree, is-tree, call-number, call-table}
+use Rattle.quorum_tree.proofs.Words.{length-words, length-rows, used-rows, row-in}
 use Rattle.quorum_tree.proofs.Grown.{placed-cut}
 use Rattle.quorum_tree.proofs.Paths.{marked, struck-marked, accepted-parent}
 use Rattle.quorum_tree.proofs.History.{step-ok, step-refused}
-use Rattle.quorum_tree.proofs.Trees.{tree-held, is-tree-exact}
-use Rattle.quorum_tree.proofs.Steps.{step-tree, tree-number, tree-table, fresh-written}
-use Rattle.table.specs.Rows.{strike-crossed}
+use Rattle.quorum_tree.proofs.Trees.{tree-held}
+use Rattle.quorum_tree.proofs.Steps.{step-tree, tree-number, tree-table}
 use Rattle.table.proofs.Rows.{rows-from, rows-split, Passed, pass-none, pass-on, pass-set, pass-end}
+use Rattle.crossing.specs.Crossed.{strike-crossed}
+use Rattle.tree_commit.specs.Committed.{Committed}
 use Rattle.tree.specs.Promises.{Called, Stepped}
 
 drop-zeros : (k n : ℕ) → drop {A = ℕ} k (replicate n 0) ≡ replicate (n - k) 0
@@ -93,10 +94,13 @@ module _ (valued : Bool) (ws : List ℕ) (h : sized ws ≡ true) (T : Tree value
       (rows-split ws k (used ws) b) (rw (length-rows ws k) (omega arith)) in
       clash (any-intro (has-round (row ws k .round)) (rows-of ws k) (row-in ws k j a) (eq-eqb _ _ e)) (P .new)
 
-  -- the row of round r, the k-th, becomes COMMITTED
-  pub committed-row : (r k : ℕ) → k < used ws → row ws k .round ≡ r → set ws (4 * k + 3) COMMITTED ≡ table (length ws) (change (nodes ws) (commit r))
+  -- the row of round r becomes COMMITTED
+  pub committed-row : (r : ℕ) {ws′ : List ℕ} → Committed ws (used ws) r ws′ → ws′ ≡ table (length ws) (change (nodes ws) (commit r))
   unfolding table change committed
-  committed-row r k a e =
+  committed-row r C =
+      let k = C .at in
+      let a = C .within in
+      let e = C .named in
       let n = used ws in
       let f = committed r in
       let room : 4 * n ≤ length ws = omega (arith, used-rows ws) in
@@ -112,45 +116,23 @@ module _ (valued : Bool) (ws : List ℕ) (h : sized ws ≡ true) (T : Tree value
       let l : length (map f (nodes ws)) ≡ n = length-map (nodes ws) f ∙ length-rows ws n in
       let m : length ws - 4 * n - 0 ≡ length ws - 4 * length (map f (nodes ws)) = omega (arith, l) in
       let z′ : 4 * n ≡ 4 * n + 0 = omega arith in
-      pass-end f ws (k + 1 + (n - (k + 1))) n (set ws (4 * k + 3) COMMITTED) (omega arith) (omega arith) all ∙
+      C .left ∙ pass-end f ws (k + 1 + (n - (k + 1))) n (set ws (4 * k + 3) COMMITTED) (omega arith) (omega arith) all ∙
       ap (λ l. words (map f (nodes ws)) ++ l) (ap (λ i. drop i ws) z′ ∙ free 0 ∙ ap (λ i. replicate i 0) m)
 
--- a row put behind rows that a pass has changed
-pub put-behind : (ws : List ℕ) (n r v p s : ℕ) (t u : List ℕ) → s ≡ cond (any (above r) (rows-of ws n)) GHOST ADDED →
-    t ≡ words (map (strike-crossed r p) (rows-of ws n)) ++ drop (4 * n) ws → u ≡ take (4 * n) t ++ r ∷ p ∷ v ∷ s ∷ drop (4 * n + 4) t →
-    u ≡ words (map (strike-crossed r p) (rows-of ws n) ++ new-node (rows-of ws n) r v p ∷ []) ++ drop (4 * n + 4) ws
-unfolding words new-node
-put-behind ws n r v p s t u e et eu =
-    let ms = map (strike-crossed r p) (rows-of ws n) in
-    let l : length (words ms) ≡ 4 * n = length-words ms ∙ ap (λ k. 4 * k) (length-map (rows-of ws n) (strike-crossed r p) ∙ length-rows ws n) in
-    let front : take (4 * n) t ≡ words ms = ap (take (4 * n)) et ∙ take-at (words ms) (drop (4 * n) ws) (4 * n) l in
-    let back : drop (4 * n + 4) t ≡ drop (4 * n + 4) ws =
-    ap (drop (4 * n + 4)) et ∙ ap (λ k. drop (k + 4) (words ms ++ drop (4 * n) ws)) (sym l) ∙ drop-append-add (words ms) (drop (4 * n) ws) 4 ∙ drop-drop 4 (4 * n) ws in
-    eu ∙ rw (front, back, e, words-append ms (new-node (rows-of ws n) r v p ∷ []), append-assoc) refl
-
--- Calls on any words: 1, 2, or the step of a tree.
+-- Calls on any words: 1, 2, or the step of a tree. b is what the code's test answered.
 module _ (valued : Bool) (ws : List ℕ) (c : Call) where
-  pub wrong-length : sized ws ≡ false → Called valued ws c 1 ws
+  pub wrong-length : {b : Bool} → b ≡ sized ws → not b ≡ true → Called valued ws c 1 ws
   unfolding call-number call-table
-  wrong-length s = record { number-is = rw s refl; table-is = rw s refl }
+  wrong-length {b = b} s t = let n : sized ws ≡ false = sym s ∙ not-true b t in record { number-is = rw n refl; table-is = rw n refl }
 
-  pub not-tree : sized ws ≡ true → is-tree valued ws ≡ false → Called valued ws c 2 ws
+  pub not-tree : {b : Bool} → sized ws ≡ true → b ≡ is-tree valued ws → not b ≡ true → Called valued ws c 2 ws
   unfolding call-number call-table
-  not-tree s t = record { number-is = rw (s, t) refl; table-is = rw (s, t) refl }
+  not-tree {b = b} s i t = let n : is-tree valued ws ≡ false = sym i ∙ not-true b t in record { number-is = rw (s, n) refl; table-is = rw (s, n) refl }
 
-  pub of-tree : (number : ℕ) (ws′ : List ℕ) → sized ws ≡ true → is-tree valued ws ≡ true → Stepped valued ws c number ws′ → Called valued ws c number ws′
-  of-tree number ws′ s t S =
-      let T : Tree valued ws = is-tree-exact valued ws s .0 t in
+  pub of-tree : (number : ℕ) (ws′ : List ℕ) → (sized ws ≡ true) × Tree valued ws → Stepped valued ws c number ws′ → Called valued ws c number ws′
+  of-tree number ws′ (s, T) S =
       record { number-is = S .number-is ∙ sym (tree-number valued ws s T c); table-is = S .table-is ∙ sym (tree-table valued ws s T c) }
 
 pub four : (ws : List ℕ) → sized ws ≡ true → 4 ≤ length ws
 four ws s =
     leb-true 4 (length ws) (and-left (leb 4 (length ws)) (leb (length ws) 1024) (and-right (eqb (length ws % 4) 0) (leb 4 (length ws) && leb (length ws) 1024) s))
-
--- a cleared table with the root's status is a fresh one
-pub fresh-left : (ws : List ℕ) → sized ws ≡ true → set (replicate (length ws) 0) 3 COMMITTED ≡ fresh-table ws
-unfolding words table
-fresh-left ws s =
-    let m = length ws - 4 in
-    let e : length ws ≡ suc (suc (suc (suc m))) = omega (arith, four ws s) in
-    ap (λ n. set (replicate n 0) 3 COMMITTED) e ∙ sym (fresh-written ws s)

@@ -1,3 +1,2 @@
--- The answers of the tree's calls as 01's numbers, and what the calls promise.
-pub mod Answers
+-- What the tree's calls promise.
 pub mod Promises

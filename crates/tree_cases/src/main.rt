@@ -1,43 +1,23 @@
-// Runs the tree's cases (01, "Cases from the rig", P1 to P11), calls on tables that are none, and a list of calls that fills 256 rows.
-// Writes a line for each: its label, each call's number, and behind a bar each node's round, parent, value and status.
+// Runs the tree's calls as standard input has them: 01's cases P1 to P11, paths, tables that are none, and a list that fills 256 rows.
+// f(words) is fresh on the first so many words, which then are the table; a(round,value,parent) is add, c(round) is commit, p(round,words)
+// is path into so many words; w(word,value) writes a word of the table. All that is read is written again: behind each call its number
+// (of a path also how many rounds, and the slice), behind each line each node's round, parent, value and status.
 use ids::Round;
-use tree::answers::PathAnswer;
+use libc::STDIN_FILENO;
+use libc::STDOUT_FILENO;
 ghost use Prim.Native.Nat.{_+_, _*_, _≤_};
 ghost use lib.ListN.{length};
 
 fn number(n: u64) {
-    io::write_all(1, b" ");
-    io::print_decimal(1, n);
+    io::write_all(STDOUT_FILENO, b" ");
+    io::print_decimal(STDOUT_FILENO, n);
 }
 
-fn fresh(t: &mut [u64]) {
-    let a = tree::fresh(t);
-    number(a.number() as u64);
-}
-
-fn add(t: &mut [u64], r: u32, v: u64, p: u32) {
-    let a = tree::add(t, Round(r), v, Round(p));
-    number(a.number() as u64);
-}
-
-fn commit(t: &mut [u64], r: u32) {
-    let a = tree::commit(t, Round(r));
-    number(a.number() as u64);
-}
-
-// Writes the number of a path's answer and how many rounds it has, then the first and the last.
-fn path(t: &[u64], r: u32, out: &mut [u64]) {
-    let a = tree::path(t, Round(r), out);
-    number(a.number() as u64);
-    let PathAnswer::Written(k) = a else {
-        return;
-    };
-    number(k as u64);
-    if 0 < k {
-        if k <= out.len() {
-            number(out[0]);
-            number(out[k - 1]);
-        }
+fn numbers(s: &[u64]) {
+    let mut i = 0;
+    while i < s.len() {
+        number(s[i]);
+        i += 1;
     }
 }
 
@@ -45,7 +25,7 @@ fn path(t: &[u64], r: u32, out: &mut [u64]) {
 fn node(t: &[u64], i: usize)
     requires { ⌜ 4 * i + 4 ≤ length (now t) ⌝ }
 {
-    io::write_all(1, b" |");
+    io::write_all(STDOUT_FILENO, b" |");
     number(table::round_at(t, i));
     number(table::parent_at(t, i));
     number(table::value_at(t, i));
@@ -61,170 +41,154 @@ fn nodes(t: &[u64]) {
     }
 }
 
-// Writes the nodes, and ends the line.
-fn end(t: &[u64]) {
-    nodes(t);
-    io::write_all(1, b"\n");
+fn fresh(t: &mut [u64]) {
+    let a = tree::fresh(t);
+    number(a.number() as u64);
 }
 
-// The label of a case that starts from a fresh table.
-fn start(t: &mut [u64], label: &[u8]) {
-    io::write_all(1, label);
-    tree::fresh(t);
+fn add(t: &mut [u64], r: u32, v: u32, p: u32) {
+    let a = tree::add(t, Round(r), v as u64, Round(p));
+    number(a.number() as u64);
 }
 
-fn p1_to_p3(t: &mut [u64]) {
-    start(t, b"P1");
-    add(t, 1, 5, 0);
-    end(t);
-    start(t, b"P2");
-    add(t, 1, 5, 0);
-    add(t, 1, 5, 0);
-    end(t);
-    start(t, b"P3");
-    add(t, 1, 5, 1);
-    end(t);
+fn commit(t: &mut [u64], r: u32) {
+    let a = tree::commit(t, Round(r));
+    number(a.number() as u64);
 }
 
-fn p4_and_p5(t: &mut [u64]) {
-    start(t, b"P4");
-    add(t, 3, 5, 0);
-    add(t, 2, 5, 3);
-    end(t);
-    start(t, b"P5");
-    add(t, 1, 5, 0);
-    add(t, 2, 6, 1);
-    end(t);
+// Writes the number of a path's answer, how many rounds it has, and the slice lent for it.
+fn path(t: &[u64], r: u32, out: &mut [u64]) {
+    let a = tree::path(t, Round(r), out);
+    number(a.number() as u64);
+    number(a.count() as u64);
+    numbers(out);
 }
 
-fn p6(t: &mut [u64], label: &[u8]) {
-    start(t, label);
-    add(t, 1, 5, 0);
-    add(t, 3, 6, 0);
-    add(t, 2, 5, 1);
-}
-
-fn p6_and_p7(t: &mut [u64]) {
-    p6(t, b"P6");
-    end(t);
-    p6(t, b"P7");
-    commit(t, 3);
-    add(t, 4, 5, 2);
-    add(t, 5, 6, 3);
-    end(t);
-}
-
-fn p8(t: &mut [u64]) {
-    start(t, b"P8");
-    add(t, 1, 5, 0);
-    commit(t, 1);
-    add(t, 3, 5, 1);
-    commit(t, 3);
-    add(t, 2, 6, 0);
-    end(t);
-}
-
-fn p9(t: &mut [u64]) {
-    start(t, b"P9");
-    commit(t, 0);
-    commit(t, 1);
-    end(t);
-}
-
-fn p10(t: &mut [u64]) {
-    start(t, b"P10");
-    add(t, 1, 5, 0);
-    end(t);
-}
-
-fn p11(t: &mut [u64]) {
-    start(t, b"P11");
-    add(t, 1000000, 0, 0);
-    add(t, 1000001, 0, 0);
-    end(t);
-}
-
-// A commit of a GHOST node and of a COMMITTED one.
-fn statuses(t: &mut [u64]) {
-    p6(t, b"statuses");
-    commit(t, 1);
-    commit(t, 3);
-    commit(t, 3);
-    end(t);
-}
-
-// Paths of the root, of a node, of a round out of range and of an absent one.
-fn paths(t: &[u64], out: &mut [u64]) {
-    io::write_all(1, b"paths");
-    path(t, 0, out);
-    path(t, 2, out);
-    path(t, 1000001, out);
-    path(t, 4, out);
-}
-
-// A path into a slice that is too short for it.
-fn short_path(t: &[u64], out: &mut [u64]) {
-    path(t, 2, out);
-    end(t);
-}
-
-// The four calls on a table of a wrong length, or on rows that no list of calls leaves.
-fn refused(t: &mut [u64], label: &[u8], out: &mut [u64]) {
-    io::write_all(1, label);
-    add(t, 1, 5, 0);
-    commit(t, 1);
-    path(t, 0, out);
-    fresh(t);
-    end(t);
-}
-
-// Adds a round to its parent; each fiftieth is committed.
-fn link(t: &mut [u64], r: u32, p: u32) {
-    add(t, r, 7, p);
-    if r % 50 == 0 {
-        commit(t, r);
+fn path_in(t: &[u64], r: u32, words: usize) {
+    let mut out = [0u64; 256];
+    if words <= 256 {
+        path(t, r, &mut out[0..words]);
     }
 }
 
-// Adds the rounds from 1 to last, each to the one before it.
-fn chain(t: &mut [u64], last: u32) {
-    let mut p = 0;
-    while p < last {
-        link(t, p + 1, p);
-        p += 1;
+fn put(t: &mut [u64], word: usize, x: u32) {
+    if word < t.len() {
+        t[word] = x as u64;
     }
 }
 
-// Fills every row, and asks for one more.
-fn full(t: &mut [u64], out: &mut [u64]) {
-    start(t, b"full");
-    chain(t, 255);
-    add(t, 256, 7, 255);
-    path(t, 255, out);
-    end(t);
+// Makes the call of that name; a call with fewer than three arguments has them last.
+fn make(t: &mut [u64], name: u8, a: u32, b: u32, c: u32) {
+    if name == b'f' {
+        fresh(t);
+        return;
+    }
+    if name == b'a' {
+        add(t, a, b, c);
+        return;
+    }
+    if name == b'c' {
+        commit(t, c);
+        return;
+    }
+    if name == b'p' {
+        path_in(t, b, c as usize);
+        return;
+    }
+    put(t, b as usize, c);
+}
+
+// What was read: the length of the table, the name of a call, and its last three arguments.
+struct Input {
+    words: usize,
+    name: u8,
+    a: u32,
+    b: u32,
+    c: u32,
+}
+
+impl Input {
+    // A digit goes to the last argument, a comma begins another, and a bracket the first; any other byte is a name.
+    fn read(self, x: u8) -> Input {
+        let mut s = self;
+        if x == b',' {
+            s.a = self.b;
+            s.b = self.c;
+            s.c = 0;
+            return s;
+        }
+        if x == b'(' {
+            s.a = 0;
+            s.b = 0;
+            s.c = 0;
+            return s;
+        }
+        if x < b'0' {
+            s.name = x;
+            return s;
+        }
+        if b'9' < x {
+            s.name = x;
+            return s;
+        }
+        if self.c <= 100000000 {
+            s.c = 10 * self.c + (x - b'0') as u32;
+        }
+        s
+    }
+
+    // Makes the call that was read.
+    fn call(self, t: &mut [u64]) -> Input {
+        let mut s = self;
+        if self.name == b'f' {
+            s.words = self.c as usize;
+        }
+        let words = s.words;
+        if words <= t.len() {
+            make(&mut t[0..words], self.name, self.a, self.b, self.c);
+        }
+        s
+    }
+
+    // Writes the nodes of the table.
+    fn show(self, t: &[u64]) {
+        let words = self.words;
+        if words <= t.len() {
+            nodes(&t[0..words]);
+        }
+    }
+
+    fn next(self, t: &mut [u64], x: u8) -> Input {
+        if x == b'\n' {
+            self.show(t);
+        }
+        let byte = [x];
+        io::write_all(STDOUT_FILENO, &byte);
+        if x == b')' {
+            return self.call(t);
+        }
+        self.read(x)
+    }
+}
+
+fn run(t: &mut [u64], text: &[u8]) {
+    let mut s = Input {
+        words: 0,
+        name: 0,
+        a: 0,
+        b: 0,
+        c: 0,
+    };
+    let mut i = 0;
+    while i < text.len() {
+        s = s.next(t, text[i]);
+        i += 1;
+    }
 }
 
 fn main() {
-    let mut t = [0u64; 64];
-    p1_to_p3(&mut t);
-    p4_and_p5(&mut t);
-    p6_and_p7(&mut t);
-    p8(&mut t);
-    p9(&mut t);
-    let mut row = [0u64; 4];
-    p10(&mut row);
-    p11(&mut t);
-    let mut out = [0u64; 256];
-    let mut short = [0u64; 2];
-    statuses(&mut t);
-    paths(&t, &mut out);
-    short_path(&t, &mut short);
-    let mut odd = [0u64; 6];
-    refused(&mut odd, b"length", &mut out);
-    let mut free = [0u64; 8];
-    refused(&mut free, b"no root", &mut out);
-    let mut twice = [0, 0, 0, 3, 0, 0, 0, 1];
-    refused(&mut twice, b"not a tree", &mut out);
-    let mut large = [0u64; 1024];
-    full(&mut large, &mut out);
+    let mut t = [0u64; 1024];
+    let mut text = [0u8; 8192];
+    let n = io::read_full(STDIN_FILENO, &mut text);
+    run(&mut t, &text[..n]);
 }

@@ -10,47 +10,38 @@ use borrow.Author.Needs.{needs}
 use Rattle.table.proofs.put_row.Statement.{statement}
 use Rattle.table.proofs.put_row.Tie as tie
 
-mul-t : tie.Need-mul-t
-mul-t c = search needs
+mul-at : tie.Need-mul-at
+mul-at c = omega arith
 
-mul-t-2 : tie.Need-mul-t-2
-mul-t-2 c = search needs
+mul-t : tie.Need-mul-t
+mul-t c = omega arith
 
 slice-write-t : tie.Need-slice-write-t
-slice-write-t c = search needs
-
-mul-t-3 : tie.Need-mul-t-3
-mul-t-3 c = search needs
+slice-write-t c = omega arith
 
 add-t : tie.Need-add-t
-add-t c = search needs
+add-t c = omega arith
 
-mul-t-4 : tie.Need-mul-t-4
-mul-t-4 c = search needs
+mul-t-2 : tie.Need-mul-t-2
+mul-t-2 c = omega arith
 
 slice-write-t-2 : tie.Need-slice-write-t-2
 slice-write-t-2 c = simp length-set (omega arith)
 
-mul-t-5 : tie.Need-mul-t-5
-mul-t-5 c = search needs
-
 add-t-2 : tie.Need-add-t-2
-add-t-2 c = search needs
+add-t-2 c = omega arith
 
-mul-t-6 : tie.Need-mul-t-6
-mul-t-6 c = search needs
+mul-t-3 : tie.Need-mul-t-3
+mul-t-3 c = omega arith
 
 slice-write-t-3 : tie.Need-slice-write-t-3
 slice-write-t-3 c = simp length-set (omega arith)
 
-mul-t-7 : tie.Need-mul-t-7
-mul-t-7 c = search needs
-
 add-t-3 : tie.Need-add-t-3
-add-t-3 c = search needs
+add-t-3 c = omega arith
 
-mul-t-8 : tie.Need-mul-t-8
-mul-t-8 c = search needs
+mul-t-4 : tie.Need-mul-t-4
+mul-t-4 c = omega arith
 
 slice-write-t-4 : tie.Need-slice-write-t-4
 slice-write-t-4 c = simp length-set (omega arith)
@@ -71,20 +62,17 @@ pub put-row-spec : {M : Type 1} → statement M
 put-row-spec =
     tie.close
     (tie.spec
+    mul-at
     mul-t
-    mul-t-2
     slice-write-t
-    mul-t-3
     add-t
-    mul-t-4
+    mul-t-2
     slice-write-t-2
-    mul-t-5
     add-t-2
-    mul-t-6
+    mul-t-3
     slice-write-t-3
-    mul-t-7
     add-t-3
-    mul-t-8
+    mul-t-4
     slice-write-t-4
     same-length
     returns)

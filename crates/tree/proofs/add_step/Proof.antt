@@ -1,5 +1,5 @@
 -- `tree::add_step` meets its contract: the answer is the machine's, and the table is changed only where it is OK. Assumes nothing.
-use mathlib.Core.Path.{_≡_, sym, ap, subst, _∙_}
+use mathlib.Core.Path.{_≡_, sym, subst, _∙_}
 use mathlib.Core.List.{[], _∷_, _++_, map}
 use Prim.Native.Nat.{_+_, _*_}
 use native.Mathlib.Omega.{arith}
@@ -9,8 +9,8 @@ use denote.Ref.{now}
 use Rattle.quorum_tree.specs.Machine.{add, answer, new-node}
 use Rattle.quorum_tree.specs.Table.{rows, rows-of, nodes, words}
 use Rattle.quorum_tree.proofs.Words.{used-rows}
-use Rattle.table.specs.Rows.{strike-crossed}
-use Rattle.tree.specs.Answers.{number-of-add}
+use Rattle.crossing.specs.Crossed.{strike-crossed}
+use Rattle.tree_answers.specs.Answers.{number-of-add}
 use Rattle.tree.proofs.Stepping.{refused, done, room, inserted}
 use Rattle.tree.proofs.add_step.Statement.{statement}
 use Rattle.tree.proofs.add_step.Tie as tie
@@ -27,8 +27,8 @@ answered : (c : tie.After-add-answer) →
     number-of-add (c .add-answer .result) ≡ answer (a .valued) (rows (now (a .t))) (nodes (now (a .t))) (add (a .r .0) (a .v) (a .p .0))
 answered c =
     let a = c .before .before .before .before .before .args in
-    c .add-answer .ensures ∙
-    ap (λ n. answer (a .valued) (rows (now (a .t))) (rows-of (now (a .t)) n) (add (a .r .0) (a .v) (a .p .0))) (c .before .before .used-rows .ensures)
+    subst (λ n. number-of-add (c .add-answer .result) ≡ answer (a .valued) (rows (now (a .t))) (rows-of (now (a .t)) n) (add (a .r .0) (a .v) (a .p .0)))
+    (c .before .before .used-rows .ensures) (c .add-answer .ensures)
 
 -- it is OK
 zero-answer : (c : tie.Then1) → number-of-add (c .before .before .add-answer .result) ≡ 0

@@ -2,9 +2,9 @@
 use mathlib.Core.Path.{_≡_, sym, _∙_}
 use mathlib.Core.Bool.{true}
 use borrow.Author.Needs.{needs}
-use borrow.Author.Tests.{not-true, not-false}
+use borrow.Author.Tests.{not-false}
 use denote.Ref.{now}
-use Rattle.quorum_tree.specs.Table.{sized, is-tree}
+use Rattle.quorum_tree.specs.Table.{sized, Tree}
 use Rattle.quorum_tree.proofs.Trees.{is-tree-exact}
 use Rattle.tree.proofs.Stepping.{wrong-length, not-tree, of-tree}
 use Rattle.tree.proofs.commit.Statement.{statement}
@@ -17,7 +17,7 @@ same-length : tie.Need-same-length
 same-length c = search needs
 
 returns : tie.Need-returns
-returns c = wrong-length true _ _ (sym (c .before .has-table-length .ensures) ∙ not-true _ (c .if1 .taken))
+returns c = wrong-length true _ _ (c .before .has-table-length .ensures) (c .if1 .taken)
 
 -- the length is that of a table
 long : (c : tie.Else1) → sized (now (c .before .before .before .before .args .t)) ≡ true
@@ -30,17 +30,16 @@ same-length-2 : tie.Need-same-length-2
 same-length-2 c = search needs
 
 returns-2 : tie.Need-returns-2
-returns-2 c = not-tree true _ _ (long (c .before .before .before)) (sym (c .before .is-tree .ensures) ∙ not-true _ (c .if2 .taken))
+returns-2 c = not-tree true _ _ (long (c .before .before .before)) (c .before .is-tree .ensures) (c .if2 .taken)
 
 -- the table is a tree
-grown : (c : tie.Else2) → is-tree true (now (c .before .before .before .before .before .before .before .args .t)) ≡ true
-grown c = sym (c .before .is-tree .ensures) ∙ not-false _ (c .if2 .left)
+held : (c : tie.Else2) → let t = c .before .before .before .before .before .before .before .args .t in (sized (now t) ≡ true) × Tree true (now t)
+held c =
+    let l = long (c .before .before .before) in
+    (l, is-tree-exact true _ l .0 (sym (c .before .is-tree .ensures) ∙ not-false _ (c .if2 .left)))
 
 commit-step-requires : tie.Need-commit-step-requires
-commit-step-requires c κs =
-    let b = c .before in
-    let l = long (b .before .before .before) in
-    (l, is-tree-exact true _ l .0 (grown b))
+commit-step-requires c κs = held (c .before)
 
 same-length-3 : tie.Need-same-length-3
 same-length-3 c = search needs
@@ -48,8 +47,7 @@ same-length-3 c = search needs
 returns-3 : tie.Need-returns-3
 returns-3 c =
     let s = c .before .before in
-    let b = s .before .before in
-    of-tree true _ _ _ _ (long (b .before .before .before)) (grown b) (s .commit-step .ensures)
+    of-tree true _ _ _ _ (held (s .before .before)) (s .commit-step .ensures)
 
 pub commit-spec : {M : Type 1} → statement M
 commit-spec =

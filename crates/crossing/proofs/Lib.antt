@@ -1,0 +1,2 @@
+-- Laws for the passes over the rows that an edge crosses.
+pub mod Striking

@@ -1,0 +1,2 @@
+-- Rows that an edge crosses.
+pub mod Crossed

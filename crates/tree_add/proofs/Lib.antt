@@ -1,0 +1,2 @@
+-- Laws for what an add writes.
+pub mod Inserting

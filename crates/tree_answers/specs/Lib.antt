@@ -1,0 +1,2 @@
+-- The answers of the tree's calls as 01's numbers.
+pub mod Answers

@@ -1,0 +1,2 @@
+-- What a commit writes.
+pub mod Committed

@@ -1,0 +1,2 @@
+-- Laws for the recursion that writes a path.
+pub mod Climbing

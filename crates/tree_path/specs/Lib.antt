@@ -1,0 +1,2 @@
+-- The recursion that writes a path.
+pub mod Climbed
