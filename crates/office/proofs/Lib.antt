@@ -1,6 +1,5 @@
--- Laws for one event of an office.
+-- Laws for what becomes of a step.
 pub mod Settling
 pub mod Memory
 pub mod Arms
 pub mod Facing
-pub mod Working

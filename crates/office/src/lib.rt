@@ -1,8 +1,5 @@
-// One event of an office in play: a member step on what the event before it left (01, "Play"). The members stand by value; an event
-// takes the record of its member and how much the office has sent, proposed and decided, and gives both back.
-use events::Event;
+// An office in play: its members by value, how much it has sent, proposed and decided, and what becomes of a member's step (01, "Play").
 use ids::Member;
-use ids::Round;
 use member::Answer;
 use member::Step;
 use member_record::MemberState;
@@ -10,9 +7,8 @@ ghost use mathlib.Core.Path.{_≡_};
 ghost use Prim.Native.Nat.{_+_, _<_};
 ghost use Rattle.member_record.specs.Record.{fresh};
 ghost use Rattle.member.specs.Answers.{outcome};
-ghost use Rattle.model.specs.Model.{member-number, at-member, start, deliver};
-ghost use Rattle.events.specs.Value.{model-event};
-ghost use Rattle.office.specs.Standing.{Seated, Faced, Works, Settles, fresh-office, counted, left, store-full, place-of};
+ghost use Rattle.model.specs.Model.{member-number};
+ghost use Rattle.office.specs.Standing.{Faced, Settles, fresh-office, counted, left, store-full};
 
 // N, and how many messages were sent, proposals and decisions made.
 pub struct Tally {
@@ -67,30 +63,6 @@ pub fn fresh_office(n: u32) -> Office
     }
 }
 
-// The place of a member's record.
-fn place_of(member: Member) -> usize
-    ensures { λ i. ⌜ i ≡ place-of (member .0) ⌝ }
-{
-    if member.0 < 7 {
-        return member.0 as usize;
-    }
-    0
-}
-
-// The place of the record of an event's member. A number above 6 has none: its event is refused, and leaves the first as it is.
-pub fn place(e: Event) -> usize
-    ensures { λ i. ⌜ i ≡ place-of (at-member (model-event e)) ⌝ }
-{
-    match e {
-        Event::Start {
-            member,
-            round: _,
-            offer: _,
-        } => place_of(member),
-        Event::Deliver { message: _, member } => place_of(member),
-    }
-}
-
 // So much more sent, proposed and decided.
 fn counted(tally: Tally, sent: usize, proposals: usize, decisions: usize) -> Tally
     requires { ⌜ (tally .sent + sent < 4096) × (tally .proposals + proposals < 4096) × (tally .decisions + decisions < 4096) ⌝ }
@@ -105,7 +77,7 @@ fn counted(tally: Tally, sent: usize, proposals: usize, decisions: usize) -> Tal
 }
 
 // A refused event leaves the record and the tally.
-fn left(m: MemberState, tally: Tally, number: u8) -> Worked
+pub fn left(m: MemberState, tally: Tally, number: u8) -> Worked
     ensures { λ w. ⌜ w ≡ left m tally number ⌝ }
 {
     Worked {
@@ -123,7 +95,13 @@ fn store_full(tally: Tally, messages: &[u8]) -> bool
 }
 
 // What becomes of a step of the member with record m: its number, or what it sends and names.
-fn settle(tally: Tally, m: MemberState, s: Step, messages: &mut [u8], nodes: &mut [u64]) -> Worked
+pub fn settle(
+    tally: Tally,
+    m: MemberState,
+    s: Step,
+    messages: &mut [u8],
+    nodes: &mut [u64],
+) -> Worked
     requires { ⌜ Faced tally m (outcome s) (now messages) (now nodes) ⌝ }
     ensures { λ w. ⌜ Settles tally m (outcome s) (now (messages .entry)) (now (nodes .entry)) (w .state) (w .tally) (w .number) (now (messages .exit)) (now (nodes .exit)) ⌝ }
 {
@@ -175,77 +153,5 @@ fn settle(tally: Tally, m: MemberState, s: Step, messages: &mut [u8], nodes: &mu
                 number: 0,
             }
         }
-    }
-}
-
-// A start: 29, or the member's step.
-fn work_start(
-    tally: Tally,
-    m: MemberState,
-    member: Member,
-    round: Round,
-    offer: u64,
-    messages: &mut [u8],
-    nodes: &mut [u64],
-) -> Worked
-    requires { ⌜ Seated tally m (start (member .0) (round .0) offer) (now messages) (now nodes) ⌝ }
-    ensures { λ w. ⌜ Works tally m (start (member .0) (round .0) offer) (now (messages .entry)) (now (nodes .entry)) (w .state) (w .tally) (w .number) (now (messages .exit)) (now (nodes .exit)) ⌝ }
-{
-    if tally.n <= member.0 {
-        return left(m, tally, 29);
-    }
-    let s = member::start_sound(m, round, offer);
-    settle(tally, m, s, messages, nodes)
-}
-
-// A delivery: 29, or the member's step at the message of that row.
-fn work_deliver(
-    tally: Tally,
-    m: MemberState,
-    message: u32,
-    member: Member,
-    messages: &mut [u8],
-    nodes: &mut [u64],
-) -> Worked
-    requires { ⌜ Seated tally m (deliver message (member .0)) (now messages) (now nodes) ⌝ }
-    ensures { λ w. ⌜ Works tally m (deliver message (member .0)) (now (messages .entry)) (now (nodes .entry)) (w .state) (w .tally) (w .number) (now (messages .exit)) (now (nodes .exit)) ⌝ }
-{
-    if tally.n <= member.0 {
-        return left(m, tally, 29);
-    }
-    let row = message as usize;
-    if tally.sent <= row {
-        return left(m, tally, 29);
-    }
-    let g = store::fetch(messages, row);
-    let s = member::deliver_sound(m, g);
-    settle(tally, m, s, messages, nodes)
-}
-
-// One event, at its member's record.
-pub fn work(
-    tally: Tally,
-    m: MemberState,
-    e: Event,
-    messages: &mut [u8],
-    nodes: &mut [u64],
-) -> Worked
-    requires { ⌜ Seated tally m (model-event e) (now messages) (now nodes) ⌝ }
-    ensures { λ w. ⌜ Works tally m (model-event e) (now (messages .entry)) (now (nodes .entry)) (w .state) (w .tally) (w .number) (now (messages .exit)) (now (nodes .exit)) ⌝ }
-{
-    match e {
-        Event::Start {
-            member,
-            round,
-            offer,
-        } => work_start(tally, m, member, round, offer, messages, nodes),
-        Event::Deliver { message, member } => work_deliver(
-            tally,
-            m,
-            message,
-            member,
-            messages,
-            nodes,
-        ),
     }
 }

@@ -33,9 +33,9 @@ fn run(list: &[u8], messages: &mut [u8], nodes: &mut [u64], answered: &mut [u8])
     while k < count {
         let e = events::read_event(&list[at..]);
         at += events::event_size(&list[at..]);
-        let i = office::place(e);
+        let i = office_event::place(e);
         let m = members[i];
-        let w = office::work(tally, m, e, messages, nodes);
+        let w = office_event::work(tally, m, e, messages, nodes);
         let state = w.state;
         members[i] = state;
         tally = w.tally;

@@ -1,13 +1,13 @@
--- `office::work_start` meets its contract: 29, or the step of the model's member, settled. Assumes nothing.
+-- `office_event::work_start` meets its contract: 29, or the step of the model's member, settled. Assumes nothing.
 use mathlib.Core.Path.{_≡_, refl}
 use denote.Ref.{now}
 use Rattle.model.specs.Model.{start}
 use Rattle.office.specs.Standing.{place-of}
 use Rattle.office.proofs.Settling.{as-left}
-use Rattle.office.proofs.Working.{no-member, sound-member, took-start}
+use Rattle.office_event.proofs.Working.{no-member, sound-member, took-start}
 use borrow.Author.Needs.{needs}
-use Rattle.office.proofs.work_start.Statement.{statement}
-use Rattle.office.proofs.work_start.Tie as tie
+use Rattle.office_event.proofs.work_start.Statement.{statement}
+use Rattle.office_event.proofs.work_start.Tie as tie
 
 left-requires : tie.Need-left-requires
 left-requires c κs = search needs

@@ -1,11 +1,11 @@
--- `office::place` meets its contract: the member that the event names. Assumes nothing.
+-- `office_event::place` meets its contract: the member that the event names. Assumes nothing.
 use mathlib.Core.Path.{_≡_, sym, ap, _∙_}
 use Rattle.events.specs.Value.{model-event}
 use Rattle.model.specs.Model.{at-member}
 use Rattle.office.specs.Standing.{place-of}
 use borrow.Author.Needs.{needs}
-use Rattle.office.proofs.place.Statement.{statement}
-use Rattle.office.proofs.place.Tie as tie
+use Rattle.office_event.proofs.place.Statement.{statement}
+use Rattle.office_event.proofs.place.Tie as tie
 
 enum-known-e : tie.Need-enum-known-e
 enum-known-e c = search needs

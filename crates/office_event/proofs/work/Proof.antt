@@ -1,11 +1,11 @@
--- `office::work` meets its contract: each kind of event has its own function. Assumes nothing.
+-- `office_event::work` meets its contract: each kind of event has its own function. Assumes nothing.
 use mathlib.Core.Path.{_≡_, sym, subst}
 use denote.Ref.{now}
 use Rattle.events.specs.Value.{model-event}
 use Rattle.office.specs.Standing.{Seated, Works}
 use borrow.Author.Needs.{needs}
-use Rattle.office.proofs.work.Statement.{statement}
-use Rattle.office.proofs.work.Tie as tie
+use Rattle.office_event.proofs.work.Statement.{statement}
+use Rattle.office_event.proofs.work.Tie as tie
 
 enum-known-e : tie.Need-enum-known-e
 enum-known-e c = search needs

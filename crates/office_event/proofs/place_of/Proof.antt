@@ -1,9 +1,9 @@
--- `office::place_of` meets its contract: one test. Assumes nothing.
+-- `office_event::place_of` meets its contract: one test. Assumes nothing.
 use mathlib.Core.Path.{refl}
 use borrow.Author.Tests.{lt-ltb, le-ltb}
 use borrow.Author.Needs.{needs}
-use Rattle.office.proofs.place_of.Statement.{statement}
-use Rattle.office.proofs.place_of.Tie as tie
+use Rattle.office_event.proofs.place_of.Statement.{statement}
+use Rattle.office_event.proofs.place_of.Tie as tie
 
 cast-result : tie.Need-cast-result
 cast-result c = search needs

@@ -1,13 +1,13 @@
--- `office::work_deliver` meets its contract: 29, or the step of the model's member at the message of that row, settled. Assumes nothing.
+-- `office_event::work_deliver` meets its contract: 29, or the step of the model's member at the message of that row, settled. Assumes nothing.
 use mathlib.Core.Path.{_≡_, refl}
 use denote.Ref.{now}
 use Rattle.model.specs.Model.{deliver}
 use Rattle.office.specs.Standing.{place-of}
 use Rattle.office.proofs.Settling.{as-left}
-use Rattle.office.proofs.Working.{no-member, no-message, sound-member, row-within, row-ranged, took-deliver}
+use Rattle.office_event.proofs.Working.{no-member, no-message, sound-member, row-within, row-ranged, took-deliver}
 use borrow.Author.Needs.{needs}
-use Rattle.office.proofs.work_deliver.Statement.{statement}
-use Rattle.office.proofs.work_deliver.Tie as tie
+use Rattle.office_event.proofs.work_deliver.Statement.{statement}
+use Rattle.office_event.proofs.work_deliver.Tie as tie
 
 left-requires : tie.Need-left-requires
 left-requires c κs = search needs

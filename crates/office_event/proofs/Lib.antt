@@ -1,0 +1,2 @@
+-- Laws for an event at its member.
+pub mod Working
