@@ -1,7 +1,7 @@
 -- Lists: membership, "some element passes", an element put at the end, cuts, lists mapped.
 use mathlib.Core.Path.{_≡_, refl, sym, ap}
 use mathlib.Core.Bool.{Bool, true, false, _||_, or-assoc, or-false}
-use mathlib.Core.List.{List, [], _∷_, _++_, map, List·Memᴰ, List·Memᴰ·head as here, List·Memᴰ·tail as there, List·Memᴰ·append-cases, List·Memᴰ·eq-of-singleton, Memᴰ·append-right, Memᴰ·of-map}
+use mathlib.Core.List.{List, [], _∷_, _++_, map, List·Memᴰ, List·Memᴰ·head as here, List·Memᴰ·tail as there, List·Memᴰ·append-cases, List·Memᴰ·eq-of-singleton, Memᴰ·append-right}
 use mathlib.Core.Logic.{⊎-elim}
 use Rattle.laws.specs.Tests.{by-test, clash, impossible, or-cases, or-left, or-right}
 
@@ -88,11 +88,6 @@ module _ {ℓ} {A : Type ℓ} where
 pub any-map {ℓ κ} : {A : Type ℓ} {B : Type κ} (p : B → Bool) (f : A → B) (l : List A) → any p (map f l) ≡ any (λ a. p (f a)) l
 any-map p f [] = refl
 any-map p f (x ∷ l) = rw (any-map p f l) refl
-
-pub every-map : {A B : Type 0} (P : B → Type 0) (f : A → B) (l : List A) → ((a : A) → a ∈ l → P (f a)) → (b : B) → b ∈ map f l → P b
-every-map P f l h b m =
-    let (a, n, e) = Memᴰ·of-map f l m in
-    rw (← e) (h a n)
 
 -- two lists mapped alike are alike where the functions agree
 pub map-same {ℓ κ} : {A : Type ℓ} {B : Type κ} (f g : A → B) (l : List A) → ((a : A) → a ∈ l → f a ≡ g a) → map f l ≡ map g l
