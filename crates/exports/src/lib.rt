@@ -133,7 +133,7 @@ fn refused_result(f: Fault) -> MessageResult
 pub extern "C" fn kalebasin_read_message(s: &[u8]) -> MessageResult
     ensures { λ r. ⌜ r ≡ read-result (read (now (s .entry))) ⌝ }
 {
-    let m = message::read_message(s);
+    let m = message_reader::read_message(s);
     match m {
         Read::Got(m) => message_result(m),
         Read::Refused(f) => refused_result(f),

@@ -78,7 +78,7 @@ fn send(g: Message, reply: &mut [u8]) -> usize
     requires { ⌜ (28 ≤ length (now reply)) × (in-range g ≡ true) ⌝ }
     ensures { λ n. ⌜ (n ≡ sent-length (g ∷ [])) × (now (reply .exit) ≡ reply-after (g ∷ []) (now (reply .entry))) ⌝ }
 {
-    let w = message::write_message(g, reply);
+    let w = message_writer::write_message(g, reply);
     match w {
         Written::Sent(n) => n,
         Written::ShortBuffer => 0,
@@ -157,7 +157,7 @@ pub fn deliver_into(m: MemberState, bytes: &[u8], reply: &mut [u8]) -> Called
     if number != 0 {
         return refuse(m, number);
     }
-    let read = message::read_message(bytes);
+    let read = message_reader::read_message(bytes);
     match read {
         Read::Refused(f) => refuse(m, message::number(f)),
         Read::Got(g) => tell(member::deliver_sound(m, g), reply),

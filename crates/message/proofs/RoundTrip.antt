@@ -10,7 +10,7 @@ use native.Mathlib.Omega.{arith}
 use lib.ListN.{length, take, drop}
 use lib.Seq.{take-at}
 use lib.Dec.{eqb, ltb, leb}
-use borrow.Author.Tests.{not-true, not-false, le-ltb, eqb-true}
+use borrow.Author.Tests.{not-true, not-false, le-ltb, ne-eqb, eqb-true}
 use Rattle.laws.specs.Tests.{tests, by-test, and-left, and-right, or-left, or-right}
 use Rattle.laws.specs.First.{first, passed}
 use Rattle.laws.specs.Answers.{number-kept}
@@ -242,6 +242,11 @@ in-range-written m old l h = simp (le-ltb (length old) 28 l, h, length-bytes m)
 pub left-in-front : (m : Message) (old : List ℕ) → 28 ≤ length old → in-range m ≡ true → buffer-after m old ≡ in-front m old
 unfolding buffer-after
 left-in-front m old l h = simp (le-ltb (length old) 28 l, h)
+
+-- a refusal leaves the buffer as it was
+pub left-as-it-was : (m : Message) (old : List ℕ) → (first (writer-row m old) ≡ 0 → ⊥) → buffer-after m old ≡ old
+unfolding buffer-after
+left-as-it-was m old refused = rw (ne-eqb (first (writer-row m old)) 0 refused)
 
 -- a message that the writer took stands at the front of the buffer, is in range, and reads back
 pub written-reads-back : (m : Message) (old : List ℕ) (n : ℕ) → Held m → written m old ≡ Sent n → (in-range m ≡ true) × (read (take n (buffer-after m old)) ≡ Got m)

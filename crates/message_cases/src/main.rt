@@ -70,7 +70,7 @@ fn print_message(m: Message) {
 fn show_read(s: &[u8]) {
     print_bytes(s);
     io::write_all(STDOUT_FILENO, b" ");
-    match message::read_message(s) {
+    match message_reader::read_message(s) {
         Read::Got(m) => print_message(m),
         Read::Refused(f) => print_number(message::number(f) as u64),
     }
@@ -86,7 +86,7 @@ fn show_front(s: &[u8], n: usize) {
 // What the writer makes of a message in a buffer of 28 bytes.
 fn show_written(m: Message) {
     let mut buf = [255u8; 28];
-    match message::write_message(m, &mut buf) {
+    match message_writer::write_message(m, &mut buf) {
         Written::Sent(n) => show_front(&buf, n),
         Written::ShortBuffer => show_refused(18, &buf),
         Written::OutOfRange => show_refused(16, &buf),

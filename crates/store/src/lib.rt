@@ -45,7 +45,7 @@ pub fn put(s: &mut [u8], k: usize, g: Message)
 {
     let a = ROW * k;
     let e = a + ROW;
-    message::write_message(g, &mut s[a..e]);
+    message_writer::write_message(g, &mut s[a..e]);
 }
 
 // The length of the message at the front of a row, by its kind and presence.
@@ -72,7 +72,7 @@ fn decode_row(row: &[u8]) -> Message
     ensures { λ m. ⌜ m ≡ decoded (take (size (now (row .entry))) (now (row .entry))) ⌝ }
 {
     let n = message_size(row);
-    message::decode(&row[..n])
+    message_reader::decode(&row[..n])
 }
 
 // The message of row k.

@@ -1,11 +1,11 @@
--- `message::put_message` meets its contract, variant by variant: each number that an arm puts behind those before it makes the longer front, up to the whole message.
+-- `message_writer::put_message` meets its contract, variant by variant: each number that an arm puts behind those before it makes the longer front, up to the whole message.
 -- Assumes nothing.
 use native.Mathlib.Omega.{arith}
 use Rattle.writer.proofs.Items.{put-behind}
 use Rattle.message.specs.Layout.{words}
 use borrow.Author.Needs.{needs}
-use Rattle.message.proofs.put_message.Statement.{statement}
-use Rattle.message.proofs.put_message.Tie as tie
+use Rattle.message_writer.proofs.put_message.Statement.{statement}
+use Rattle.message_writer.proofs.put_message.Tie as tie
 
 enum-known-m : tie.Need-enum-known-m
 enum-known-m c = search needs

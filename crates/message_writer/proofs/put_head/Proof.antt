@@ -1,10 +1,10 @@
--- `message::put_head` meets its contract: three words, one behind another. Assumes nothing.
+-- `message_writer::put_head` meets its contract: three words, one behind another. Assumes nothing.
 use native.Mathlib.Omega.{arith}
 use denote.Ref.{now}
 use Rattle.writer.proofs.Items.{at-front, put-behind}
 use borrow.Author.Needs.{needs}
-use Rattle.message.proofs.put_head.Statement.{statement}
-use Rattle.message.proofs.put_head.Tie as tie
+use Rattle.message_writer.proofs.put_head.Statement.{statement}
+use Rattle.message_writer.proofs.put_head.Tie as tie
 
 write-word-requires : tie.Need-write-word-requires
 write-word-requires c κs = search needs

@@ -1,11 +1,11 @@
--- `message::read_message` meets its contract: each return goes by the tests that led there. Assumes nothing.
+-- `message_reader::read_message` meets its contract: each return goes by the tests that led there. Assumes nothing.
 use mathlib.Core.Path.{sym, _∙_}
 use borrow.Author.Tests.{lt-ltb, le-ltb, ne-eqb}
 use borrow.Author.Needs.{needs}
 use Rattle.message.specs.Reading.{read}
 use Rattle.message.proofs.RoundTrip.{reads}
-use Rattle.message.proofs.read_message.Statement.{statement}
-use Rattle.message.proofs.read_message.Tie as tie
+use Rattle.message_reader.proofs.read_message.Statement.{statement}
+use Rattle.message_reader.proofs.read_message.Tie as tie
 
 returns : tie.Need-returns
 unfolding read

@@ -1,4 +1,4 @@
--- `message::write_message` meets its contract: each return goes by the tests that led there. Assumes nothing.
+-- `message_writer::write_message` meets its contract: each return goes by the tests that led there. Assumes nothing.
 use mathlib.Core.Path.{_≡_, sym, _∙_}
 use mathlib.Core.List.{List}
 use Prim.Native.Nat.{ℕ}
@@ -6,13 +6,13 @@ use lib.ListN.{length}
 use borrow.Author.Tests.{lt-ltb, le-ltb}
 use Rattle.xdr.proofs.Items.{length-encoded}
 use Rattle.writer.specs.Put.{Fronts}
 use Rattle.message.specs.declared.Message.{Message}
 use Rattle.message.specs.Layout.{words, bytes}
 use Rattle.message.specs.Writing.{in-front, written, buffer-after}
 use Rattle.message.proofs.RoundTrip.{writes}
 use borrow.Author.Needs.{needs}
-use Rattle.message.proofs.write_message.Statement.{statement}
-use Rattle.message.proofs.write_message.Tie as tie
+use Rattle.message_writer.proofs.write_message.Statement.{statement}
+use Rattle.message_writer.proofs.write_message.Tie as tie
 
 -- a message's words at the front are the message there
 sent : (m : Message) {old new : List ℕ} {n : ℕ} → Fronts (words m) old n new → (n ≡ length (bytes m)) × (new ≡ in-front m old)

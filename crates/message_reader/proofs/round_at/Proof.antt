@@ -1,9 +1,9 @@
--- `message::round_at` meets its contract: the word there, as a round. Assumes nothing.
+-- `message_reader::round_at` meets its contract: the word there, as a round. Assumes nothing.
 use mathlib.Core.Path.{ap}
 use Prim.Native.Nat.{ℕ}
 use borrow.Author.Needs.{needs}
-use Rattle.message.proofs.round_at.Statement.{statement}
-use Rattle.message.proofs.round_at.Tie as tie
+use Rattle.message_reader.proofs.round_at.Statement.{statement}
+use Rattle.message_reader.proofs.round_at.Tie as tie
 
 word-at-requires : tie.Need-word-at-requires
 word-at-requires c κs = search needs

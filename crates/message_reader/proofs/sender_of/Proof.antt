@@ -1,9 +1,9 @@
--- `message::sender_of` meets its contract: the word there, as a member. Assumes nothing.
+-- `message_reader::sender_of` meets its contract: the word there, as a member. Assumes nothing.
 use mathlib.Core.Path.{ap}
 use Prim.Native.Nat.{ℕ}
 use borrow.Author.Needs.{needs}
-use Rattle.message.proofs.sender_of.Statement.{statement}
-use Rattle.message.proofs.sender_of.Tie as tie
+use Rattle.message_reader.proofs.sender_of.Statement.{statement}
+use Rattle.message_reader.proofs.sender_of.Tie as tie
 
 word-at-requires : tie.Need-word-at-requires
 word-at-requires c κs = search needs

@@ -1,8 +1,8 @@
--- `message::ranged` meets its contract: each return goes by the test that led there. Assumes nothing.
+-- `message_reader::ranged` meets its contract: each return goes by the test that led there. Assumes nothing.
 use mathlib.Core.Path.{sym, _∙_}
 use borrow.Author.Needs.{needs}
-use Rattle.message.proofs.ranged.Statement.{statement}
-use Rattle.message.proofs.ranged.Tie as tie
+use Rattle.message_reader.proofs.ranged.Statement.{statement}
+use Rattle.message_reader.proofs.ranged.Tie as tie
 
 in-range-requires : tie.Need-in-range-requires
 in-range-requires c κs = search needs

@@ -1,13 +1,13 @@
--- `message::decode` meets its contract: the length of the kind has room for each word that is read, and each return goes by the tests
+-- `message_reader::decode` meets its contract: the length of the kind has room for each word that is read, and each return goes by the tests
 -- that led there. Assumes nothing.
 use mathlib.Core.Path.{sym, _∙_}
 use native.Mathlib.Omega.{arith}
 use borrow.Author.Tests.{ne-eqb}
 use denote.Ref.{now}
 use Rattle.message.specs.Reading.{decoded}
 use Rattle.message.proofs.Checks.{size-least, size-join-least, size-join-voted, size-propose, decoded-start, decoded-join-voted, decoded-propose}
-use Rattle.message.proofs.decode.Statement.{statement}
-use Rattle.message.proofs.decode.Tie as tie
+use Rattle.message_reader.proofs.decode.Statement.{statement}
+use Rattle.message_reader.proofs.decode.Tie as tie
 
 word-at-requires : tie.Need-word-at-requires
 word-at-requires c κs = omega (arith, size-least (now (c .before .args .s)))

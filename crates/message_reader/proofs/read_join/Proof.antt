@@ -1,4 +1,4 @@
--- `message::read_join` meets its contract: each return goes by the tests that led there. Assumes nothing.
+-- `message_reader::read_join` meets its contract: each return goes by the tests that led there. Assumes nothing.
 use mathlib.Core.Path.{_≡_, sym, ap, _∙_}
 use Prim.Native.Nat.{_≤_}
 use native.Mathlib.Omega.{arith}
@@ -6,13 +6,13 @@ use lib.ListN.{length}
 use borrow.Author.Tests.{le-ltb}
 use borrow.Author.Needs.{needs}
 use denote.Ref.{now}
 use Rattle.message.specs.Layout.{presence}
 use Rattle.message.specs.declared.Fault.the-variants.{Length}
 use Rattle.message.specs.declared.Read.the-variants.{Refused}
 use Rattle.message.specs.Reading.{size, ranged, read}
 use Rattle.message.proofs.Checks.{Known, join-short, join-neither, wrong-size, right-size, size-join, size-join-voted, decoded-join, decoded-join-voted}
-use Rattle.message.proofs.read_join.Statement.{statement}
-use Rattle.message.proofs.read_join.Tie as tie
+use Rattle.message_reader.proofs.read_join.Statement.{statement}
+use Rattle.message_reader.proofs.read_join.Tie as tie
 
 returns : tie.Need-returns
 returns c = let s = c .before .before in sym (join-short _ (s .pre .1) (s .pre .0) (c .if1 .taken))

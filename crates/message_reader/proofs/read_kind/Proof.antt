@@ -1,17 +1,17 @@
--- `message::read_kind` meets its contract: each return goes by the tests that led there. Assumes nothing.
+-- `message_reader::read_kind` meets its contract: each return goes by the tests that led there. Assumes nothing.
 use mathlib.Core.Path.{_≡_, sym, ap, _∙_}
 use native.Mathlib.Omega.{arith}
 use lib.ListN.{length}
 use borrow.Author.Tests.{ne-eqb}
 use borrow.Author.Needs.{needs}
 use denote.Ref.{now}
 use Rattle.message.specs.Layout.{kind}
 use Rattle.message.specs.declared.Fault.the-variants.{Length}
 use Rattle.message.specs.declared.Read.the-variants.{Refused}
 use Rattle.message.specs.Reading.{size, ranged, read}
 use Rattle.message.proofs.Checks.{Known, wrong-size, right-size, size-propose, size-other, decoded-start, decoded-propose, decoded-vote}
-use Rattle.message.proofs.read_kind.Statement.{statement}
-use Rattle.message.proofs.read_kind.Tie as tie
+use Rattle.message_reader.proofs.read_kind.Statement.{statement}
+use Rattle.message_reader.proofs.read_kind.Tie as tie
 
 word-at-requires : tie.Need-word-at-requires
 word-at-requires c κs = search needs
