@@ -2,9 +2,9 @@
 # The archive as a C program sees it: host/include/kalebasin.h fits it, and it asks its host for functions that copy, fill or compare memory
 # and for nothing else, so for no heap. It needs a C compiler and nm, which .ci/run installs where they are missing.
 cd "$(dirname "$0")/.." || exit 2
+. tests/archive.bash
 work=$(mktemp -d)
 trap 'rm -rf "$work"' EXIT
-archive=target/staticlib/libexports.a
 passed=0
 failed=0
 
@@ -22,7 +22,7 @@ check() {
 
 # A C program over the header calls each function.
 fits() {
-    rt staticlib exports &&
+    built &&
         cc -std=c11 -Wall -Wextra -Werror -pedantic -Ihost/include -o "$work/header" tests/header.c "$archive" && "$work/header"
 }
 

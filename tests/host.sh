@@ -2,9 +2,10 @@
 # The host package over the proved core: builds the archive and runs cargo's tests, among them the comparison of the core with the
 # second implementation.
 cd "$(dirname "$0")/.." || exit 2
+. tests/archive.bash
 out=$(mktemp)
 trap 'rm -f "$out"' EXIT
-if ! rt staticlib exports; then
+if ! built; then
     echo "host: the archive of the exports wasn't built"
     echo "0 passed, 1 failed"
     exit 1
