@@ -5,23 +5,25 @@ use mathlib.Core.List.{List, [], _∷_, _++_, append-nil}
 use Prim.Native.Nat.{ℕ, suc, _+_, _*_, _/_, _≤_, _<_}
 use native.Mathlib.Omega.{arith}
 use native.Mathlib.Nat.{add-zero}
-use lib.ListN.{length, set, take, drop}
+use borrow.Author.Tests.{leb-true, leb-false}
+use Rattle.laws.specs.Tests.{by-test}
+use lib.ListN.{length, set}
 use Rattle.quorum_tree.specs.Machine.{Call, add, commit, step}
 use Rattle.quorum_tree.specs.Table.{nodes, rows, table}
 use Rattle.message.specs.declared.Message.{Message}
-use Rattle.message.specs.Writing.{in-front}
 use Rattle.member_record.specs.declared.MemberState.{MemberState}
 use Rattle.member.specs.Table.{Outcome, refused, sends, silent, nothing, proposal, decision}
 use Rattle.model.specs.Model.{Sizes, Event, outcome, sends-one, proposes-one, answer, taken, next, proposals}
 use Rattle.model.specs.Model.{Office as ModelOffice}
 use Rattle.model.specs.Counts.{tree, decisions}
 use Rattle.model.proofs.Tree.{tree-nothing, tree-proposal, tree-decision}
-use Rattle.store.specs.Rows.{row-at, stored}
+use Rattle.store.specs.Rows.{stored}
 use Rattle.store.proofs.Stored.{put-stored}
-use Rattle.tree.specs.Promises.{Stepped}
-use Rattle.office.specs.declared.Tally.{Tally}
+use Rattle.office_effects.specs.declared.Tally.{Tally}
+use Rattle.office_effects.specs.declared.Worked.{Worked}
+use Rattle.office_effects.specs.Effects.{counted, left, gone, put-row, stepped-table, store-full, table-full, Sends, Proposes, Decides}
 use Rattle.office.specs.Standing.{Lent, Reached, Stands, Next, Took, Held, office-of}
-use Rattle.office.proofs.Settling.{placed, stays, unchanged, refused-step, store-full, no-row, sent-one, proposed-one, silent-one, goes-on}
+use Rattle.office.proofs.Settling.{placed, stays, unchanged, as-worked, refused-step, no-store-row, no-row, sent-one, proposed-one, silent-one, goes-on}
 use Rattle.office.proofs.Memory.{nodes-held}
 
 -- what a step that proposes, or decides, comes to
@@ -54,19 +56,19 @@ module _ (z : Sizes) (o : ModelOffice) (e : Event) (t : Tally) (ms : List Member
       (S .nodes-are ∙ ap (table (length ws)) (sym (tree-nothing z o e (ap (λ (u : Outcome). u .named) (sym (T .equals)))))))
 
   -- no row of the store is free
-  pub fills : (u : Outcome) → Took z o e i u → u .number ≡ 0 → sends-one (u .sent) ≡ true → length store / 28 ≤ t .sent → Next z o e (office-of t (set ms i was)) 30 store ws
-  fills u T n s h = stays-put 30 (store-full z o e i u T n s (omega (arith, L .store-rows, S .sent))) (λ q. omega arith)
+  fills : (u : Outcome) → Took z o e i u → u .number ≡ 0 → sends-one (u .sent) ≡ true → length store / 28 ≤ t .sent → Next z o e (office-of t (set ms i was)) 30 store ws
+  fills u T n s h = stays-put 30 (no-store-row z o e i u T n s (omega (arith, L .store-rows, S .sent))) (λ q. omega arith)
 
   free : t .sent < length store / 28 → length (o .sent) < z .store
   free h = omega (arith, L .store-rows, S .sent)
 
   put-behind : (g : Message) (store′ : List ℕ) → t .sent < length store / 28 →
-      store′ ≡ take (28 * t .sent) store ++ in-front g (row-at store (t .sent)) ++ drop (28 * t .sent + 28) store → store′ ≡ stored (length store) (o .sent ++ g ∷ [])
+      store′ ≡ put-row store (t .sent) g → store′ ≡ stored (length store) (o .sent ++ g ∷ [])
   put-behind g store′ h w = w ∙ put-stored store (o .sent) g (t .sent) (S .messages) (S .sent) (omega (arith, S .sent))
 
   -- a message is sent and nothing is named
-  pub goes-sent : (m : MemberState) (g : Message) (store′ : List ℕ) → Took z o e i (sends m g) → t .sent < length store / 28 → length store′ ≡ length store →
-      store′ ≡ take (28 * t .sent) store ++ in-front g (row-at store (t .sent)) ++ drop (28 * t .sent + 28) store → Next z o e (placed (office-of t ms) i m 1 0 0) 0 store′ ws
+  goes-sent : (m : MemberState) (g : Message) (store′ : List ℕ) → Took z o e i (sends m g) → t .sent < length store / 28 → length store′ ≡ length store →
+      store′ ≡ put-row store (t .sent) g → Next z o e (placed (office-of t ms) i m 1 0 0) 0 store′ ws
   unfolding proposals decisions
   goes-sent m g store′ T h l w =
       goes-on z o e i (sends m g) T (office-of t ms) store ws store′ ws 1 0 0 S (sent-one z o e i (sends m g) T refl refl (free h) refl) refl refl refl
@@ -74,34 +76,72 @@ module _ (z : Sizes) (o : ModelOffice) (e : Event) (t : Tally) (ms : List Member
       (S .nodes-are ∙ ap (table (length ws)) (sym (tree-nothing z o e (ap (λ (u : Outcome). u .named) (sym (T .equals))))))
 
   -- no row of the table is free
-  pub has-no-row : (m : MemberState) (g : Message) (r x b : ℕ) → Took z o e i (proposing m g r x b) → t .sent < length store / 28 → length ws / 4 ≤ t .proposals + 1 →
+  has-no-row : (m : MemberState) (g : Message) (r x b : ℕ) → Took z o e i (proposing m g r x b) → t .sent < length store / 28 → length ws / 4 ≤ t .proposals + 1 →
       Next z o e (office-of t (set ms i was)) 9 store ws
   has-no-row m g r x b T h f =
       stays-put 9 (no-row z o e i (proposing m g r x b) T refl refl (free h) refl (omega (arith, L .table-rows, S .proposed))) (λ q. omega arith)
 
   -- the tree's step on the table is the machine's on the model's tree
-  stepped : (c : Call) (number : ℕ) (ws′ : List ℕ) → Stepped true ws c number ws′ → length ws′ ≡ length ws → ws′ ≡ table (length ws′) (step true (z .table) (tree z o) c)
-  stepped c number ws′ P l =
-      P .table-is ∙ ap (λ ns. table (length ws) (step true (rows ws) ns c)) (nodes-held z o (office-of t ms) store ws L R S) ∙
+  stepped : (c : Call) (ws′ : List ℕ) → ws′ ≡ stepped-table ws c → length ws′ ≡ length ws → ws′ ≡ table (length ws′) (step true (z .table) (tree z o) c)
+  stepped c ws′ q l =
+      q ∙ ap (λ ns. table (length ws) (step true (rows ws) ns c)) (nodes-held z o (office-of t ms) store ws L R S) ∙
       ap (λ n. table (length ws) (step true n (tree z o) c)) (sym (L .table-rows)) ∙ ap (λ n. table n (step true (z .table) (tree z o) c)) (sym l)
 
   -- the proposal is sent and added
-  pub goes-proposed : (m : MemberState) (g : Message) (r x b : ℕ) (number : ℕ) (store′ ws′ : List ℕ) → Took z o e i (proposing m g r x b) → t .sent < length store / 28 →
+  goes-proposed : (m : MemberState) (g : Message) (r x b : ℕ) (store′ ws′ : List ℕ) → Took z o e i (proposing m g r x b) → t .sent < length store / 28 →
       t .proposals + 1 < length ws / 4 → length store′ ≡ length store →
-      store′ ≡ take (28 * t .sent) store ++ in-front g (row-at store (t .sent)) ++ drop (28 * t .sent + 28) store → length ws′ ≡ length ws →
-      Stepped true ws (add r x b) number ws′ → Next z o e (placed (office-of t ms) i m 1 1 0) 0 store′ ws′
+      store′ ≡ put-row store (t .sent) g → length ws′ ≡ length ws →
+      ws′ ≡ stepped-table ws (add r x b) → Next z o e (placed (office-of t ms) i m 1 1 0) 0 store′ ws′
   unfolding proposals decisions
-  goes-proposed m g r x b number store′ ws′ T h f l w l′ P =
+  goes-proposed m g r x b store′ ws′ T h f l w l′ q =
       goes-on z o e i (proposing m g r x b) T (office-of t ms) store ws store′ ws′ 1 1 0 S
       (proposed-one z o e i (proposing m g r x b) T refl refl (free h) refl (omega (arith, L .table-rows, S .proposed))) refl refl refl
       (put-behind g store′ h w ∙ ap (λ n. stored n (o .sent ++ g ∷ [])) (sym l))
-      (stepped (add r x b) number ws′ P l′ ∙ ap (table (length ws′)) (sym (tree-proposal z o e r x b (ap (λ (u : Outcome). u .named) (sym (T .equals))))))
+      (stepped (add r x b) ws′ q l′ ∙ ap (table (length ws′)) (sym (tree-proposal z o e r x b (ap (λ (u : Outcome). u .named) (sym (T .equals))))))
 
   -- the decision is committed
-  pub goes-decided : (m : MemberState) (r x : ℕ) (number : ℕ) (ws′ : List ℕ) → Took z o e i (deciding m r x) → length ws′ ≡ length ws → Stepped true ws (commit r) number ws′ →
+  goes-decided : (m : MemberState) (r x : ℕ) (ws′ : List ℕ) → Took z o e i (deciding m r x) → length ws′ ≡ length ws → ws′ ≡ stepped-table ws (commit r) →
       Next z o e (placed (office-of t ms) i m 0 0 1) 0 store ws′
   unfolding proposals decisions
-  goes-decided m r x number ws′ T l P =
+  goes-decided m r x ws′ T l q =
       goes-on z o e i (deciding m r x) T (office-of t ms) store ws store ws′ 0 0 1 S (silent-one z o e i (deciding m r x) T refl refl refl) refl refl refl
       (S .messages ∙ ap (stored (length store)) (sym (append-nil (o .sent))))
-      (stepped (commit r) number ws′ P l ∙ ap (table (length ws′)) (sym (tree-decision z o e r x (ap (λ (u : Outcome). u .named) (sym (T .equals))))))
+      (stepped (commit r) ws′ q l ∙ ap (table (length ws′)) (sym (tree-decision z o e r x (ap (λ (u : Outcome). u .named) (sym (T .equals))))))
+
+  -- what is handed back, by each effect of a step
+  pub sends-go : (m : MemberState) (g : Message) (w : Worked) (store′ : List ℕ) → Took z o e i (sends m g) → Sends t was m g store w store′ → length store′ ≡ length store →
+      Next z o e (office-of (w .tally) (set ms i (w .state))) (w .number) store′ ws
+  sends-go m g w store′ T P l =
+      by-test (store-full t store)
+      (λ f.
+      let u : w ≡ left was t 30 = rw f at (P .worked) in
+      let s : store′ ≡ store = rw f at (P .store-is) in
+      rw s (as-worked z o e ms i store ws w u (fills (sends m g) T refl refl (leb-true _ _ f))))
+      (λ f.
+      let u : w ≡ gone m (counted t 1 0 0) = rw f at (P .worked) in
+      as-worked z o e ms i store′ ws w u (goes-sent m g store′ T (leb-false _ _ f) l (rw f at (P .store-is))))
+
+  pub proposes-go : (m : MemberState) (g : Message) (r x b : ℕ) (w : Worked) (store′ ws′ : List ℕ) → Took z o e i (proposing m g r x b) →
+      Proposes t was m g (add r x b) store ws w store′ ws′ → length store′ ≡ length store → length ws′ ≡ length ws →
+      Next z o e (office-of (w .tally) (set ms i (w .state))) (w .number) store′ ws′
+  proposes-go m g r x b w store′ ws′ T P l l′ =
+      by-test (store-full t store)
+      (λ f.
+      let u : w ≡ left was t 30 = rw f at (P .worked) in
+      let s : store′ ≡ store = rw f at (P .store-is) in
+      let v : ws′ ≡ ws = rw f at (P .table-is) in
+      rw (s, v) (as-worked z o e ms i store ws w u (fills (proposing m g r x b) T refl refl (leb-true _ _ f))))
+      (λ f. by-test (table-full t ws)
+      (λ h.
+      let u : w ≡ left was t 9 = rw (f, h) at (P .worked) in
+      let s : store′ ≡ store = rw (f, h) at (P .store-is) in
+      let v : ws′ ≡ ws = rw (f, h) at (P .table-is) in
+      rw (s, v) (as-worked z o e ms i store ws w u (has-no-row m g r x b T (leb-false _ _ f) (leb-true _ _ h))))
+      (λ h.
+      let u : w ≡ gone m (counted t 1 1 0) = rw (f, h) at (P .worked) in
+      as-worked z o e ms i store′ ws′ w u
+      (goes-proposed m g r x b store′ ws′ T (leb-false _ _ f) (leb-false _ _ h) l (rw (f, h) at (P .store-is)) l′ (rw (f, h) at (P .table-is)))))
+
+  pub decides-go : (m : MemberState) (r x : ℕ) (w : Worked) (ws′ : List ℕ) → Took z o e i (deciding m r x) → Decides t m (commit r) ws w ws′ → length ws′ ≡ length ws →
+      Next z o e (office-of (w .tally) (set ms i (w .state))) (w .number) store ws′
+  decides-go m r x w ws′ T P l = as-worked z o e ms i store ws′ w (P .worked) (goes-decided m r x ws′ T l (P .table-is))

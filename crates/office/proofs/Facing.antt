@@ -2,9 +2,8 @@
 use mathlib.Core.Path.{_≡_, refl, sym, subst, _∙_}
 use mathlib.Core.Bool.{true, _||_}
 use mathlib.Core.List.{List, List·Memᴰ·head as here}
-use Prim.Native.Nat.{ℕ, _+_, _*_, _/_, _≤_, _<_}
+use Prim.Native.Nat.{ℕ, _≤_, _<_}
 use native.Mathlib.Omega.{arith}
-use lib.ListN.{length}
 use lib.Dec.{eqb}
 use Rattle.laws.specs.Tests.{or-cases, tests}
 use Rattle.laws.specs.Lists.{_∈_}
@@ -23,7 +22,8 @@ use Rattle.member.specs.Answers.{answer-outcome, outcome}
 use Rattle.member.specs.Table.{Outcome}
 use Rattle.model.specs.Model.{Sizes, Event}
 use Rattle.model.specs.Model.{Office as ModelOffice}
-use Rattle.office.specs.declared.Tally.{Tally}
+use Rattle.office_effects.specs.declared.Tally.{Tally}
+use Rattle.office_effects.specs.Effects.{Few}
 use Rattle.office.specs.declared.Office.{Office}
 use Rattle.office.specs.Standing.{Took, Faced, office-of}
 use Rattle.member_record.specs.Record.{allowed}
@@ -63,19 +63,14 @@ module _ (t : Tally) (m : MemberState) (u : Outcome) (store ws : List ℕ) (F : 
   office-kept : KeptOffice (F .standing .z) (F .standing .o)
   office-kept = let G = F .standing in kept (G .z) (G .o) office store ws (G .lent) (G .reached) (G .stands)
 
-  pub faced-proposals : t .proposals < 256
-  faced-proposals = let G = F .standing in proposals-few (G .z) (G .o) office store ws (G .lent) (G .reached) (G .stands)
-
-  pub counts-fit : (a b c : ℕ) → a ≤ 1 → b ≤ 1 → c ≤ 1 → (t .sent + a < 4096) × (t .proposals + b < 4096) × (t .decisions + c < 4096)
-  counts-fit a b c p q r =
-      let G = F .standing in (
-        omega (arith, sent-few (G .z) (G .o) office store ws (G .lent) (G .reached) (G .stands)),
-        omega (arith, faced-proposals),
-        omega (arith, decisions-few (G .z) (G .o) office store ws (G .lent) (G .reached) (G .stands)),
-      )
-
-  pub put-room : t .sent < length store / 28 → 28 * t .sent + 28 ≤ length store
-  put-room h = omega arith
+  pub few : Few t
+  few =
+      let G = F .standing in
+      record {
+        sent = omega (arith, sent-few (G .z) (G .o) office store ws (G .lent) (G .reached) (G .stands));
+        proposals = omega (arith, proposals-few (G .z) (G .o) office store ws (G .lent) (G .reached) (G .stands));
+        decisions = omega (arith, decisions-few (G .z) (G .o) office store ws (G .lent) (G .reached) (G .stands));
+      }
 
   pub faced-tree : (sized ws ≡ true) × Tree true ws
   faced-tree = let G = F .standing in (G .lent .table-length, is-a-tree (G .z) (G .o) office store ws (G .lent) (G .reached) (G .stands))

@@ -20,10 +20,11 @@ use Rattle.model.specs.Model.{Sizes, Event, outcome, at-member, unsent, sends-o
 use Rattle.model.specs.Model.{Office as ModelOffice}
 use Rattle.model.specs.Counts.{tree, decisions}
 use Rattle.store.specs.Rows.{stored}
+use Rattle.office_effects.specs.declared.Tally.{Tally}
+use Rattle.office_effects.specs.declared.Worked.{Worked}
+use Rattle.office_effects.specs.Effects.{counted}
 use Rattle.office.specs.declared.Office.{Office}
-use Rattle.office.specs.declared.Tally.{Tally}
-use Rattle.office.specs.declared.Worked.{Worked}
-use Rattle.office.specs.Standing.{Held, Lent, Reached, Stands, Next, Took, counted, left, office-of}
+use Rattle.office.specs.Standing.{Held, Lent, Reached, Stands, Next, Took, office-of}
 
 -- the record stands beside every answer
 pub state-of : (m : MemberState) (a : Answer) → answer-outcome m a .state ≡ m
@@ -61,10 +62,10 @@ pub unchanged : (z : Sizes) (o : ModelOffice) (e : Event) (t : Tally) (ms : List
     Held ms i m → Next z o e (office-of t ms) number store nodes → Next z o e (office-of t (set ms i m)) number store nodes
 unchanged z o e t ms i m number store nodes h N = subst (λ l. Next z o e (office-of t l) number store nodes) (sym (set-same ms i m h)) N
 
--- what a refused event hands back
-pub as-left : (z : Sizes) (o : ModelOffice) (e : Event) (ms : List MemberState) (i : ℕ) (store nodes : List ℕ) (w : Worked) {m : MemberState} {t : Tally} {number : ℕ} →
-    w ≡ left m t number → Next z o e (office-of t (set ms i m)) number store nodes → Next z o e (office-of (w .tally) (set ms i (w .state))) (w .number) store nodes
-as-left z o e ms i store nodes w q N = subst (λ (v : Worked). Next z o e (office-of (v .tally) (set ms i (v .state))) (v .number) store nodes) (sym q) N
+-- what the code hands back
+pub as-worked : (z : Sizes) (o : ModelOffice) (e : Event) (ms : List MemberState) (i : ℕ) (store nodes : List ℕ) (w : Worked) {v : Worked} →
+    w ≡ v → Next z o e (office-of (v .tally) (set ms i (v .state))) (v .number) store nodes → Next z o e (office-of (w .tally) (set ms i (w .state))) (w .number) store nodes
+as-worked z o e ms i store nodes w q N = subst (λ (v : Worked). Next z o e (office-of (v .tally) (set ms i (v .state))) (v .number) store nodes) (sym q) N
 
 -- a refused event changes nothing
 pub stays : (z : Sizes) (o : ModelOffice) (e : Event) (k : Office) (number : ℕ) (store nodes : List ℕ) → Stands z o k store nodes →
@@ -88,8 +89,8 @@ module _ (z : Sizes) (o : ModelOffice) (e : Event) (i : ℕ) (u : Outcome) (T : 
   refused-step n = number ∙ rw (ne-eqb (u .number) 0 n) refl
 
   module _ (ok : u .number ≡ 0) where
-    pub store-full : sends-one (u .sent) ≡ true → z .store ≤ length (o .sent) → answer z o e ≡ 30
-    store-full s f = number ∙ rw (ok, s, le-leb (z .store) (length (o .sent)) f) refl
+    pub no-store-row : sends-one (u .sent) ≡ true → z .store ≤ length (o .sent) → answer z o e ≡ 30
+    no-store-row s f = number ∙ rw (ok, s, le-leb (z .store) (length (o .sent)) f) refl
 
     pub no-row : sends-one (u .sent) ≡ true → length (o .sent) < z .store → proposes-one (u .named) ≡ true → z .table ≤ suc (proposals (o .made)) → answer z o e ≡ 9
     no-row s f p r = number ∙ rw (ok, s, lt-leb (z .store) (length (o .sent)) f, p, le-leb (z .table) (suc (proposals (o .made))) r) refl

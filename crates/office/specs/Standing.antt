@@ -1,10 +1,10 @@
 -- How an office by value, the store and the table stand for a state of the model, and what working one event comes to.
 use mathlib.Core.Path.{_≡_}
-use mathlib.Core.Bool.{Bool, true, false, cond}
+use mathlib.Core.Bool.{true, false, cond}
 use mathlib.Core.List.{List}
-use Prim.Native.Nat.{ℕ, _+_, _/_, _<_}
+use Prim.Native.Nat.{ℕ, _/_, _<_}
 use lib.ListN.{length, getD, set, take}
-use lib.Dec.{ltb, leb}
+use lib.Dec.{ltb}
 use Rattle.quorum_tree.specs.Table.{sized, table}
 use Rattle.member_record.specs.declared.MemberState.{MemberState}
 use Rattle.member_record.specs.Record.{allowed}
@@ -15,26 +15,13 @@ use Rattle.model.specs.Demand.{ended}
 use Rattle.model.specs.Counts.{tree, decisions}
 use Rattle.events.specs.List.{Offers}
 use Rattle.store.specs.Rows.{store-sized, stored}
-use Rattle.office.specs.declared.Tally.{Tally}
+use Rattle.office_effects.specs.declared.Tally.{Tally}
 use Rattle.office.specs.declared.Office.{Office}
-use Rattle.office.specs.declared.Worked.{Worked}
 
 -- the office at first; its array has seven records
 unfoldable pub fresh-office : ℕ → Office
 unfolding fresh-members
 fresh-office n = record { tally = record { n = n; sent = 0; proposals = 0; decisions = 0 }; members = fresh-members n 0 7 }
-
--- so much more sent, proposed and decided
-abbrev pub counted : Tally → ℕ → ℕ → ℕ → Tally
-counted t a b c = record { n = t .n; sent = t .sent + a; proposals = t .proposals + b; decisions = t .decisions + c }
-
--- a refused event leaves the record and the tally
-abbrev pub left : MemberState → Tally → ℕ → Worked
-left m t number = record { state = m; tally = t; number = number }
-
--- whether the messages sent fill the store
-abbrev pub store-full : Tally → List ℕ → Bool
-store-full t store = leb (length store / 28) (t .sent)
 
 abbrev pub office-of : Tally → List MemberState → Office
 office-of t ms = record { tally = t; members = ms }

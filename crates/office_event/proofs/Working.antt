@@ -21,7 +21,7 @@ use Rattle.model.specs.Model.{Office as ModelOffice}
 use Rattle.model.proofs.Kept.{KeptOffice, step-is-sound, message-in}
 use Rattle.store.specs.Rows.{fetched}
 use Rattle.store.proofs.Stored.{fetch-stored}
-use Rattle.office.specs.declared.Tally.{Tally}
+use Rattle.office_effects.specs.declared.Tally.{Tally}
 use Rattle.office.specs.declared.Office.{Office}
 use Rattle.office.specs.Standing.{Held, Lent, Reached, Stands, Next, Took, office-of, place-of}
 use Rattle.office.proofs.Settling.{stays, unchanged}

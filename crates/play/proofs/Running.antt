@@ -25,7 +25,7 @@ use Rattle.events.specs.List.{members-of, count-of, body, list-fits, exact, eve
 use Rattle.events.proofs.Events.{events-suc, behind-suc, length-events, due-stands, offers-small, bytes-left}
 use Rattle.store.specs.Rows.{store-sized, stored}
 use Rattle.member_record.specs.declared.MemberState.{MemberState}
-use Rattle.office.specs.declared.Tally.{Tally}
+use Rattle.office_effects.specs.declared.Tally.{Tally}
 use Rattle.office.specs.declared.Office.{Office}
 use Rattle.office.specs.Standing.{Held, Lent, Reached, Stands, Standing, Seated, Works, Next, fresh-office, office-of, place-of}
 use Rattle.play.specs.Promise.{sizes-of, one, Ready, Worked}

@@ -3,7 +3,7 @@ use mathlib.Core.Path.{_≡_, refl}
 use denote.Ref.{now}
 use Rattle.model.specs.Model.{deliver}
 use Rattle.office.specs.Standing.{place-of}
-use Rattle.office.proofs.Settling.{as-left}
+use Rattle.office.proofs.Settling.{as-worked}
 use Rattle.office_event.proofs.Working.{no-member, no-message, sound-member, row-within, row-ranged, took-deliver}
 use borrow.Author.Needs.{needs}
 use Rattle.office_event.proofs.work_deliver.Statement.{statement}
@@ -15,7 +15,7 @@ left-requires c κs = search needs
 returns : tie.Need-returns
 returns c =
     λ ms z o H L R S.
-    as-left z o (deliver (c .before .before .before .before .before .before .args .message) (c .before .before .before .before .before .before .args .member .0)) ms (place-of (c .before .before .before .before .before .before .args .member .0)) (now (c .before .before .before .before .before .before .args .messages)) (now (c .before .before .before .before .before .before .args .nodes)) _ (c .left .ensures)
+    as-worked z o (deliver (c .before .before .before .before .before .before .args .message) (c .before .before .before .before .before .before .args .member .0)) ms (place-of (c .before .before .before .before .before .before .args .member .0)) (now (c .before .before .before .before .before .before .args .messages)) (now (c .before .before .before .before .before .before .args .nodes)) _ (c .left .ensures)
     (no-member z o (c .before .before .before .before .before .before .args .tally) ms (now (c .before .before .before .before .before .before .args .messages)) (now (c .before .before .before .before .before .before .args .nodes)) L R S (deliver (c .before .before .before .before .before .before .args .message) (c .before .before .before .before .before .before .args .member .0)) (c .before .before .before .before .before .before .args .m) H (c .before .if1 .taken))
 
 left-requires-2 : tie.Need-left-requires-2
@@ -24,7 +24,7 @@ left-requires-2 c κs = search needs
 returns-2 : tie.Need-returns-2
 returns-2 c =
     λ ms z o H L R S.
-    as-left z o (deliver (c .before .before .before .before .before .before .before .before .args .message) (c .before .before .before .before .before .before .before .before .args .member .0)) ms (place-of (c .before .before .before .before .before .before .before .before .args .member .0)) (now (c .before .before .before .before .before .before .before .before .args .messages)) (now (c .before .before .before .before .before .before .before .before .args .nodes)) _ (c .left2 .ensures)
+    as-worked z o (deliver (c .before .before .before .before .before .before .before .before .args .message) (c .before .before .before .before .before .before .before .before .args .member .0)) ms (place-of (c .before .before .before .before .before .before .before .before .args .member .0)) (now (c .before .before .before .before .before .before .before .before .args .messages)) (now (c .before .before .before .before .before .before .before .before .args .nodes)) _ (c .left2 .ensures)
     (no-message z o (c .before .before .before .before .before .before .before .before .args .tally) ms (now (c .before .before .before .before .before .before .before .before .args .messages)) (now (c .before .before .before .before .before .before .before .before .args .nodes)) L R S (c .before .before .before .before .before .before .before .before .args .message) (c .before .before .before .before .before .before .before .before .args .member .0) (c .before .before .before .before .before .before .before .before .args .m) H (c .before .before .before .if1 .left) (c .before .if2 .taken))
 
 fetch-requires : tie.Need-fetch-requires

@@ -3,7 +3,7 @@ use mathlib.Core.Path.{_≡_, refl}
 use denote.Ref.{now}
 use Rattle.model.specs.Model.{start}
 use Rattle.office.specs.Standing.{place-of}
-use Rattle.office.proofs.Settling.{as-left}
+use Rattle.office.proofs.Settling.{as-worked}
 use Rattle.office_event.proofs.Working.{no-member, sound-member, took-start}
 use borrow.Author.Needs.{needs}
 use Rattle.office_event.proofs.work_start.Statement.{statement}
@@ -15,7 +15,7 @@ left-requires c κs = search needs
 returns : tie.Need-returns
 returns c =
     λ ms z o H L R S.
-    as-left z o (start (c .before .before .before .before .before .before .args .member .0) (c .before .before .before .before .before .before .args .round .0) (c .before .before .before .before .before .before .args .offer)) ms (place-of (c .before .before .before .before .before .before .args .member .0)) (now (c .before .before .before .before .before .before .args .messages)) (now (c .before .before .before .before .before .before .args .nodes)) _ (c .left .ensures)
+    as-worked z o (start (c .before .before .before .before .before .before .args .member .0) (c .before .before .before .before .before .before .args .round .0) (c .before .before .before .before .before .before .args .offer)) ms (place-of (c .before .before .before .before .before .before .args .member .0)) (now (c .before .before .before .before .before .before .args .messages)) (now (c .before .before .before .before .before .before .args .nodes)) _ (c .left .ensures)
     (no-member z o (c .before .before .before .before .before .before .args .tally) ms (now (c .before .before .before .before .before .before .args .messages)) (now (c .before .before .before .before .before .before .args .nodes)) L R S (start (c .before .before .before .before .before .before .args .member .0) (c .before .before .before .before .before .before .args .round .0) (c .before .before .before .before .before .before .args .offer)) (c .before .before .before .before .before .before .args .m) H (c .before .if1 .taken))
 
 start-sound-requires : tie.Need-start-sound-requires

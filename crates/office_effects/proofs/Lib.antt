@@ -1,0 +1,2 @@
+-- Laws of the effects.
+pub mod Room

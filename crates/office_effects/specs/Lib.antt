@@ -1,0 +1,2 @@
+-- What a message, a proposal and a decision do.
+pub mod Effects
