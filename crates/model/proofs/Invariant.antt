@@ -55,7 +55,7 @@ pub record Added (made : List Named) (r x : ℕ) : Type 0 where
   pub parent : ℕ
   pub is-made : proposal r x parent ∈ made
 
--- L is at least the round of a START or PROPOSE that the member sent (1), J that of a JOIN (3), V that of a VOTE (4)
+-- L is at least the round of a START or PROPOSE that the member sent, J that of a JOIN, V that of a VOTE
 abbrev pub Reached : (j v l : ℕ) → Message → Type 0
 Reached j v l (Start r s) = r .0 ≤ l
 Reached j v l (Join r s) = r .0 ≤ j
@@ -66,34 +66,34 @@ Reached j v l (Vote r s) = r .0 ≤ v
 -- what member t said, its J, V and L beside it
 pub record Spoken (sent : List Message) (t j v l : ℕ) : Type 0 where
   pub reached : (g : Message) → g ∈ sent → sender g ≡ t → Reached j v l g
-  -- (3) a VOTE for a round below that of a JOIN is for a round at most the one that the JOIN carries
+  -- a VOTE for a round below that of a JOIN is for a round at most the one that the JOIN carries
   pub past : (g : Message) (r c : ℕ) → g ∈ sent → JoinOf r t g → Voted sent c t → c < r → c ≤ carried g
 
 -- what member t does as a leader: its L, phase, X, B and flags
 pub record Leading (n : ℕ) (sent : List Message) (made : List Named) (offers : List ℕ) (t led phase value source : ℕ) (flags : List Bool) : Type 0 where
-  -- (2) L is at least each round that t leads and that was proposed
+  -- L is at least each round that t leads and that was proposed
   pub highest : (r x b : ℕ) → proposal r x b ∈ made → r % n ≡ t → r ≤ led
-  -- (2) while it collects, no proposal of L was made; when it has proposed or decided, that of X and B was; while it has only
+  -- while it collects, no proposal of L was made; when it has proposed or decided, that of X and B was; while it has only
   -- proposed, L was not decided
   pub collects : phase ≡ 1 → (x b : ℕ) → proposal led x b ∈ made → ⊥
   pub proposed : 2 ≤ phase → phase ≤ 3 → proposal led value source ∈ made
   pub undecided : phase ≡ 2 → (x : ℕ) → decision led x ∈ made → ⊥
-  -- (6) while it collects, each flagged member sent a JOIN of L whose vote is at most B, and B, if above 0, was proposed with X
+  -- while it collects, each flagged member sent a JOIN of L whose vote is at most B, and B, if above 0, was proposed with X
   pub joins : phase ≡ 1 → (s : ℕ) → flag flags s ≡ true → Joined sent led source s
   pub source-added : phase ≡ 1 → 0 < source → Added made source value
-  -- (6) while it has only proposed, each flagged member sent a VOTE of L
+  -- while it has only proposed, each flagged member sent a VOTE of L
   pub votes : phase ≡ 2 → (s : ℕ) → flag flags s ≡ true → Voted sent led s
-  -- (9) X was offered
+  -- X was offered
   pub value-offered : 1 ≤ phase → phase ≤ 3 → value ∈ offers
 
 -- what holds of member t, whose record is m
 pub record Stands (n : ℕ) (sent : List Message) (made : List Named) (offers : List ℕ) (t : ℕ) (m : MemberState) : Type 0 where
   pub spoken : Spoken sent t (m .joined .0) (m .voted .0) (m .led .0)
   pub leading : Leading n sent made offers t (m .led .0) (m .phase) (m .value) (m .source .0) (m .flags)
-  -- (5) V, if above 0, was proposed with W
+  -- V, if above 0, was proposed with W
   pub vote-added : 0 < m .voted .0 → Added made (m .voted .0) (m .vote)
 
--- (1) a START or PROPOSE is sent by the leader of its round
+-- a START or PROPOSE is sent by the leader of its round
 abbrev pub FromLeader : ℕ → Message → Type 0
 FromLeader n (Start r s) = r .0 % n ≡ s .0
 FromLeader n (Join r s) = Unit {0}
@@ -101,7 +101,7 @@ FromLeader n (JoinVoted r s q w) = Unit {0}
 FromLeader n (Propose r s v) = r .0 % n ≡ s .0
 FromLeader n (Vote r s) = Unit {0}
 
--- (2) what a PROPOSE says was proposed; (3) so was the vote that a JOIN carries
+-- what a PROPOSE says was proposed; so was the vote that a JOIN carries
 abbrev pub Backed : List Named → Message → Type 0
 Backed made (Start r s) = Unit {0}
 Backed made (Join r s) = Unit {0}
@@ -111,15 +111,15 @@ Backed made (Vote r s) = Unit {0}
 
 -- what holds of the proposals and decisions made
 pub record MadeSo (z : Sizes) (sent : List Message) (made : List Named) (offers : List ℕ) : Type 0 where
-  -- the four properties, which have the order of (7) and (8), and the one proposal for a round of (2)
+  -- the four properties: among them that a round has one proposal, made before its decision
   pub properties : Properties true (calls made)
   pub ranged : InRange (calls made)
-  -- (7) a join quorum sent JOINs of the proposal's round whose votes are at most its parent
+  -- a join quorum sent JOINs of the proposal's round whose votes are at most its parent
   pub join-met : (r x b : ℕ) → proposal r x b ∈ made → Quorum (z .n) (join-quorum (z .n)) (Joined sent r b)
-  -- (8) a vote quorum sent VOTEs of the round decided, and the value decided is the one proposed
+  -- a vote quorum sent VOTEs of the round decided, and the value decided is the one proposed
   pub vote-met : (r x : ℕ) → decision r x ∈ made → Quorum (z .n) (vote-quorum (z .n)) (Voted sent r)
   pub decided-added : (r x : ℕ) → decision r x ∈ made → Added made r x
-  -- (9) each value proposed was offered
+  -- each value proposed was offered
   pub offered-so : (r x b : ℕ) → proposal r x b ∈ made → x ∈ offers
   -- there is a row for each proposal
   pub room : 0 < z .table → proposals made < z .table

@@ -33,7 +33,7 @@ allowed-meets n h =
     or-cases (eqb n 3) _ h (λ e. odd-meets n 1 (omega tests))
     (λ h′. or-cases (eqb n 5) (eqb n 7) h′ (λ e. odd-meets n 2 (omega tests)) (λ e. odd-meets n 3 (omega tests)))
 
--- (3) of every member
+-- `past` of every member
 abbrev pub Pasts : ℕ → List Message → Type 0
 Pasts n sent = (s : ℕ) → s < n → (g : Message) (r c : ℕ) → g ∈ sent → JoinOf r s g → Voted sent c s → c < r → c ≤ carried g
 
