@@ -6,8 +6,8 @@ use denote.Ref.{now}
 use borrow.Author.Tests.{leb-true, leb-false}
 use Rattle.laws.specs.Tests.{tests}
 use Rattle.member.specs.Answers.{outcome}
-use Rattle.member_cells.specs.Refusals.{refusal-number}
-use Rattle.member_cells.proofs.Refusals.{numbered}
+use Rattle.member_refusals.specs.Refusals.{refusal-number}
+use Rattle.member_refusals.proofs.Refusals.{numbered}
 use Rattle.office.specs.Standing.{Next, office-of}
 use Rattle.office.proofs.Arms.{refuses, fills, has-no-row, goes-silent, goes-sent, goes-proposed, goes-decided}
 use Rattle.office.proofs.Facing.{retook, refusal-small, counts-fit, put-room, sent-ranged, answers-sent, answers-proposed, faced-proposals, faced-tree}
