@@ -20,7 +20,8 @@ use Rattle.message.specs.declared.Message.{Message}
 use Rattle.message.specs.declared.Message.the-variants.{Start, Join, JoinVoted, Propose, Vote}
 use Rattle.member_record.specs.declared.MemberState.{MemberState}
 use Rattle.member_record.specs.Record.{allowed, leads, round}
-use Rattle.member_cells.specs.Cells.{counting, adopting, start-causes, START-causes, count-causes, other-vote, PROPOSE-causes}
+use Rattle.member_refusals.specs.Causes.{start-causes, START-causes, count-causes, other-vote, PROPOSE-causes}
+use Rattle.member_changes.specs.Changes.{counting, adopting}
 use Rattle.member.specs.Table.{Outcome, silent, complete, proposes, decides, causes, row, sound-step}
 use Rattle.member.specs.Table.{Event as MemberEvent, start as starts, deliver as delivers}
 use Rattle.model.specs.Model.{Sizes, Event, start, deliver, Office, first-office, member-at, message-at, at-member, unsent, event-of, outcome, absent, no-store-row, no-table-row, sends-one, proposes-one, proposals, answer, offered}

@@ -18,7 +18,8 @@ use Rattle.message.specs.declared.Message.{Message}
 use Rattle.message.specs.declared.Message.the-variants.{Start, Join, JoinVoted, Propose, Vote}
 use Rattle.member_record.specs.declared.MemberState.{MemberState}
 use Rattle.member_record.specs.Record.{leads, round}
-use Rattle.member_cells.specs.Cells.{start-causes, leading, START-causes, join-of, counting, PROPOSE-causes}
+use Rattle.member_refusals.specs.Causes.{start-causes, START-causes, PROPOSE-causes}
+use Rattle.member_changes.specs.Changes.{leading, join-of, counting}
 use Rattle.member.specs.Table.{proposal, decision, silent, start-row, START-row, complete, proposes, JOIN-row, PROPOSE-row, decides, VOTE-row}
 use Rattle.model.specs.Model.{Sizes, Office, member-number, proposals, proposes-one}
 use Rattle.model.specs.Demand.{calls}

@@ -12,12 +12,12 @@ use Rattle.quorum_tree.specs.Table.{sized, Tree}
 use Rattle.message.specs.declared.Message.{Message}
 use Rattle.message.specs.Fields.{in-range}
 use Rattle.member_record.specs.declared.MemberState.{MemberState}
-use Rattle.member_cells.specs.declared.Refusal.{Refusal}
-use Rattle.member_cells.specs.declared.Refusal.the-variants.{NotSound, Field, RoundRange, NotLeader, NotAboveLed, Sender, MovedPast, OtherValue, NotAwaited, CountedAlready}
+use Rattle.member_refusals.specs.declared.Refusal.{Refusal}
+use Rattle.member_refusals.specs.declared.Refusal.the-variants.{NotSound, Field, RoundRange, NotLeader, NotAboveLed, Sender, MovedPast, OtherValue, NotAwaited, CountedAlready}
 use Rattle.member.specs.declared.Answer.{Answer}
 use Rattle.member.specs.declared.Answer.the-variants.{Sent, Proposed}
 use Rattle.member.specs.declared.Step.{Step}
-use Rattle.member_cells.specs.Refusals.{refusal-number}
+use Rattle.member_refusals.specs.Refusals.{refusal-number}
 use Rattle.member.specs.Answers.{answer-outcome, outcome}
 use Rattle.member.specs.Table.{Outcome}
 use Rattle.model.specs.Model.{Sizes, Event}

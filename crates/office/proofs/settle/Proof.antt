@@ -3,8 +3,8 @@ use mathlib.Core.Path.{_≡_}
 use native.Mathlib.Omega.{arith}
 use denote.Ref.{now}
 use Rattle.laws.specs.Tests.{tests}
-use Rattle.member_cells.specs.Refusals.{refusal-number}
-use Rattle.member_cells.proofs.Refusals.{numbered}
+use Rattle.member_refusals.specs.Refusals.{refusal-number}
+use Rattle.member_refusals.proofs.Refusals.{numbered}
 use Rattle.office.proofs.Arms.{refuses, goes-silent, sends-go, proposes-go, decides-go}
 use Rattle.office.proofs.Facing.{retook, refusal-small, few, sent-ranged, answers-sent, answers-proposed, faced-tree}
 use Rattle.office.proofs.Settling.{as-worked}

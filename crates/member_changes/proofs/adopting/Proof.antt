@@ -1,8 +1,8 @@
--- `member_cells::adopting` meets its contract: each return goes by the tests that led there. Assumes nothing.
+-- `member_changes::adopting` meets its contract: each return goes by the tests that led there. Assumes nothing.
 use borrow.Author.Tests.{lt-ltb, le-ltb}
-use Rattle.member_cells.specs.Cells.{adopting}
-use Rattle.member_cells.proofs.adopting.Statement.{statement}
-use Rattle.member_cells.proofs.adopting.Tie as tie
+use Rattle.member_changes.specs.Changes.{adopting}
+use Rattle.member_changes.proofs.adopting.Statement.{statement}
+use Rattle.member_changes.proofs.adopting.Tie as tie
 
 returns : tie.Need-returns
 unfolding adopting

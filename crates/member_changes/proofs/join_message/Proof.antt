@@ -1,7 +1,7 @@
--- `member_cells::join_message` meets its contract: each return goes by the tests that led there. Assumes nothing.
+-- `member_changes::join_message` meets its contract: each return goes by the tests that led there. Assumes nothing.
 use borrow.Author.Tests.{lt-ltb, le-ltb}
-use Rattle.member_cells.proofs.join_message.Statement.{statement}
-use Rattle.member_cells.proofs.join_message.Tie as tie
+use Rattle.member_changes.proofs.join_message.Statement.{statement}
+use Rattle.member_changes.proofs.join_message.Tie as tie
 
 returns : tie.Need-returns
 returns c = simp (lt-ltb _ _ (c .if1 .taken))

@@ -1,7 +1,7 @@
--- `member_cells::voted_otherwise` meets its contract: each return goes by the tests that led there. Assumes nothing.
+-- `member_refusals::voted_otherwise` meets its contract: each return goes by the tests that led there. Assumes nothing.
 use borrow.Author.Tests.{eq-eqb, ne-eqb}
-use Rattle.member_cells.proofs.voted_otherwise.Statement.{statement}
-use Rattle.member_cells.proofs.voted_otherwise.Tie as tie
+use Rattle.member_refusals.proofs.voted_otherwise.Statement.{statement}
+use Rattle.member_refusals.proofs.voted_otherwise.Tie as tie
 
 returns : tie.Need-returns
 returns c = simp (ne-eqb _ _ (c .if1 .taken))

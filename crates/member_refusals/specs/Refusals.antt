@@ -1,9 +1,9 @@
 -- 01's numbers of the refusals.
 use Prim.Native.Nat.{ℕ}
-use Rattle.member_cells.specs.declared.Refusal.{Refusal}
-use Rattle.member_cells.specs.declared.Refusal.the-variants.{NotSound, Field, RoundRange, NotLeader, NotAboveLed, Sender, MovedPast, OtherValue, NotAwaited, CountedAlready}
-use Rattle.member_cells.specs.declared.Check.{Check}
-use Rattle.member_cells.specs.declared.Check.the-variants.{Pass, Refused}
+use Rattle.member_refusals.specs.declared.Refusal.{Refusal}
+use Rattle.member_refusals.specs.declared.Refusal.the-variants.{NotSound, Field, RoundRange, NotLeader, NotAboveLed, Sender, MovedPast, OtherValue, NotAwaited, CountedAlready}
+use Rattle.member_refusals.specs.declared.Check.{Check}
+use Rattle.member_refusals.specs.declared.Check.the-variants.{Pass, Refused}
 
 abbrev pub refusal-number : Refusal → ℕ
 refusal-number NotSound = 17

@@ -2,9 +2,9 @@
 use mathlib.Core.Path.{_≡_, refl, sym, _∙_, ap}
 use mathlib.Core.Bool.{Bool, true, false, not}
 use lib.Dec.{eqb}
-use Rattle.member_cells.specs.declared.Refusal.{Refusal}
-use Rattle.member_cells.specs.declared.Refusal.the-variants.{NotSound, Field, RoundRange, NotLeader, NotAboveLed, Sender, MovedPast, OtherValue, NotAwaited, CountedAlready}
-use Rattle.member_cells.specs.Refusals.{refusal-number}
+use Rattle.member_refusals.specs.declared.Refusal.{Refusal}
+use Rattle.member_refusals.specs.declared.Refusal.the-variants.{NotSound, Field, RoundRange, NotLeader, NotAboveLed, Sender, MovedPast, OtherValue, NotAwaited, CountedAlready}
+use Rattle.member_refusals.specs.Refusals.{refusal-number}
 
 pub numbered : (k : Refusal) → eqb (refusal-number k) 0 ≡ false
 numbered NotSound = refl

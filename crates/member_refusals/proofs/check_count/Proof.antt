@@ -1,8 +1,8 @@
--- `member_cells::check_count` meets its contract: each return goes by the tests that led there. Assumes nothing.
+-- `member_refusals::check_count` meets its contract: each return goes by the tests that led there. Assumes nothing.
 use borrow.Author.Tests.{eq-eqb, ne-eqb, le-leb, lt-leb}
 use borrow.Author.Needs.{needs}
-use Rattle.member_cells.proofs.check_count.Statement.{statement}
-use Rattle.member_cells.proofs.check_count.Tie as tie
+use Rattle.member_refusals.proofs.check_count.Statement.{statement}
+use Rattle.member_refusals.proofs.check_count.Tie as tie
 
 returns : tie.Need-returns
 returns c = rw (le-leb _ _ (c .if1 .taken))

@@ -1,15 +1,14 @@
-// The cells of the member table of 01, "Members": the further refusals of each event, and what it changes of the record else.
+// The further refusals of the member table of 01, "Members": for each event, the first whose cause holds.
 use ids::Member;
 use ids::Round;
 use ids::in_range;
 use member_record::MemberState;
 use member_record::is_leader;
-use message::Message;
 ghost use mathlib.Core.Path.{_≡_};
-ghost use Prim.Native.Nat.{_≤_, _<_};
+ghost use Prim.Native.Nat.{_≤_};
 ghost use Rattle.laws.specs.First.{first};
-ghost use Rattle.member_cells.specs.Cells.{start-causes, leading, START-causes, joining, join-of, count-causes, counting, adopting, proposing, deciding, other-vote, PROPOSE-causes, voting};
-ghost use Rattle.member_cells.specs.Refusals.{check-number};
+ghost use Rattle.member_refusals.specs.Causes.{start-causes, START-causes, count-causes, other-vote, PROPOSE-causes};
+ghost use Rattle.member_refusals.specs.Refusals.{check-number};
 
 // Why a step is refused; 01's numbers are in specs/Refusals.antt.
 pub enum Refusal {
@@ -49,20 +48,6 @@ pub fn check_start_call(m: MemberState, r: Round) -> Check
     Check::Pass
 }
 
-// start(r, offer): the leader of round r in phase 1.
-pub fn leading(m: MemberState, r: Round, offer: u64) -> MemberState
-    ensures { λ t. ⌜ t ≡ leading m r offer ⌝ }
-{
-    let none = Round(0);
-    let mut leader = m;
-    leader.led = r;
-    leader.phase = 1;
-    leader.value = offer;
-    leader.source = none;
-    leader.flags = [false; 7];
-    leader
-}
-
 // The refusals of START r.
 pub fn check_start(m: MemberState, r: Round, s: Member) -> Check
     requires { ⌜ 1 ≤ m .n ⌝ }
@@ -75,35 +60,6 @@ pub fn check_start(m: MemberState, r: Round, s: Member) -> Check
         return Check::Refused(Refusal::MovedPast);
     }
     Check::Pass
-}
-
-// START r is joined.
-pub fn joining(m: MemberState, r: Round) -> MemberState
-    ensures { λ t. ⌜ t ≡ joining m r ⌝ }
-{
-    let mut next = m;
-    next.joined = r;
-    next
-}
-
-// The JOIN of round r: with the last vote, if there was one.
-pub fn join_message(m: MemberState, r: Round) -> Message
-    ensures { λ g. ⌜ g ≡ join-of m r ⌝ }
-{
-    let me = m.me;
-    let voted = m.voted;
-    if 0 < voted.0 {
-        return Message::JoinVoted {
-            round: r,
-            sender: me,
-            voted: voted,
-            value: m.vote,
-        };
-    }
-    Message::Join {
-        round: r,
-        sender: me,
-    }
 }
 
 // The refusals of JOIN r, awaited in phase 1, and of VOTE r, in phase 2.
@@ -126,40 +82,6 @@ pub fn check_count(m: MemberState, phase: u32, r: Round, s: Member) -> Check
         return Check::Refused(Refusal::CountedAlready);
     }
     Check::Pass
-}
-
-// JOIN and VOTE flag the sender.
-pub fn counting(m: MemberState, s: Member) -> MemberState
-    requires { ⌜ s .0 < 7 ⌝ }
-    ensures { λ t. ⌜ t ≡ counting m s ⌝ }
-{
-    let at = s.0 as usize;
-    let mut next = m;
-    next.flags[at] = true;
-    next
-}
-
-// A JOIN with a vote for w in round q: a voted round above B replaces B and X.
-pub fn adopting(m: MemberState, q: Round, w: u64) -> MemberState
-    ensures { λ t. ⌜ t ≡ adopting m q w ⌝ }
-{
-    if m.source.0 < q.0 {
-        let mut next = m;
-        next.value = w;
-        next.source = q;
-        return next;
-    }
-    m
-}
-
-// The quorum of joins: phase 2, the flags cleared for the votes.
-pub fn proposing(m: MemberState) -> MemberState
-    ensures { λ t. ⌜ t ≡ proposing m ⌝ }
-{
-    let mut next = m;
-    next.phase = 2;
-    next.flags = [false; 7];
-    next
 }
 
 // Whether the vote in round r went to another value.
@@ -187,24 +109,4 @@ pub fn check_propose(m: MemberState, r: Round, s: Member, v: u64) -> Check
         return Check::Refused(Refusal::OtherValue);
     }
     Check::Pass
-}
-
-// PROPOSE r, v is voted for.
-pub fn voting(m: MemberState, r: Round, v: u64) -> MemberState
-    ensures { λ t. ⌜ t ≡ voting m r v ⌝ }
-{
-    let mut voted = m;
-    voted.joined = r;
-    voted.voted = r;
-    voted.vote = v;
-    voted
-}
-
-// The quorum of votes: phase 3.
-pub fn deciding(m: MemberState) -> MemberState
-    ensures { λ t. ⌜ t ≡ deciding m ⌝ }
-{
-    let mut next = m;
-    next.phase = 3;
-    next
 }

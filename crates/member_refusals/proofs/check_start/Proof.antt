@@ -1,9 +1,9 @@
--- `member_cells::check_start` meets its contract: each return goes by the tests that led there. Assumes nothing.
+-- `member_refusals::check_start` meets its contract: each return goes by the tests that led there. Assumes nothing.
 use borrow.Author.Tests.{le-leb, lt-leb}
-use Rattle.member_cells.proofs.Refusals.{denied}
+use Rattle.member_refusals.proofs.Refusals.{denied}
 use borrow.Author.Needs.{needs}
-use Rattle.member_cells.proofs.check_start.Statement.{statement}
-use Rattle.member_cells.proofs.check_start.Tie as tie
+use Rattle.member_refusals.proofs.check_start.Statement.{statement}
+use Rattle.member_refusals.proofs.check_start.Tie as tie
 
 is-leader-requires : tie.Need-is-leader-requires
 is-leader-requires c κs = search needs

@@ -1,13 +1,13 @@
--- `member_cells::check_propose` meets its contract: each return goes by the tests that led there. Assumes nothing.
+-- `member_refusals::check_propose` meets its contract: each return goes by the tests that led there. Assumes nothing.
 use mathlib.Core.Path.{_≡_, sym, _∙_}
 use mathlib.Core.List.{[], _∷_}
 use borrow.Author.Tests.{lt-ltb, le-ltb}
 use Rattle.laws.specs.First.{_gives_, first}
-use Rattle.member_cells.specs.Cells.{other-vote, PROPOSE-causes}
-use Rattle.member_cells.proofs.Refusals.{denied}
+use Rattle.member_refusals.specs.Causes.{other-vote, PROPOSE-causes}
+use Rattle.member_refusals.proofs.Refusals.{denied}
 use borrow.Author.Needs.{needs}
-use Rattle.member_cells.proofs.check_propose.Statement.{statement}
-use Rattle.member_cells.proofs.check_propose.Tie as tie
+use Rattle.member_refusals.proofs.check_propose.Statement.{statement}
+use Rattle.member_refusals.proofs.check_propose.Tie as tie
 
 is-leader-requires : tie.Need-is-leader-requires
 is-leader-requires c κs = search needs

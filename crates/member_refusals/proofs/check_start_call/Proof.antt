@@ -1,15 +1,15 @@
--- `member_cells::check_start_call` meets its contract: each return goes by the tests that led there. Assumes nothing.
+-- `member_refusals::check_start_call` meets its contract: each return goes by the tests that led there. Assumes nothing.
 use mathlib.Core.Path.{_≡_}
 use mathlib.Core.List.{[], _∷_}
 use lib.Dec.{leb}
 use borrow.Author.Tests.{le-leb, lt-leb}
 use Rattle.laws.specs.First.{_gives_, first}
 use Rattle.ids.specs.Ranges.{out-of-range}
-use Rattle.member_cells.specs.Cells.{start-causes}
-use Rattle.member_cells.proofs.Refusals.{denied, held}
+use Rattle.member_refusals.specs.Causes.{start-causes}
+use Rattle.member_refusals.proofs.Refusals.{denied, held}
 use borrow.Author.Needs.{needs}
-use Rattle.member_cells.proofs.check_start_call.Statement.{statement}
-use Rattle.member_cells.proofs.check_start_call.Tie as tie
+use Rattle.member_refusals.proofs.check_start_call.Statement.{statement}
+use Rattle.member_refusals.proofs.check_start_call.Tie as tie
 
 in-range-requires : tie.Need-in-range-requires
 in-range-requires c κs = search needs

@@ -1,2 +1,0 @@
--- Laws of the cells.
-pub mod Refusals

@@ -1,3 +1,0 @@
--- The meanings of the cells.
-pub mod Cells
-pub mod Refusals

@@ -1,0 +1,2 @@
+-- The meanings of the changes.
+pub mod Changes

@@ -1,0 +1,46 @@
+-- The column "Further refusals" of the member table of 01, "Members", in the order of the place table.
+use mathlib.Core.Bool.{Bool, _&&_, not}
+use mathlib.Core.List.{List, [], _∷_}
+use Prim.Native.Nat.{ℕ}
+use lib.Dec.{ltb, leb, eqb}
+use Rattle.laws.specs.First.{Cause, _gives_}
+use Rattle.ids.specs.declared.Round.{Round}
+use Rattle.ids.specs.declared.Member.{Member}
+use Rattle.ids.specs.Ranges.{out-of-range}
+use Rattle.member_record.specs.declared.MemberState.{MemberState}
+use Rattle.member_record.specs.Record.{leads, flag}
+
+-- start(r, offer): 3; 19 unless this member leads r; 20 if r ≤ L
+abbrev pub start-causes : MemberState → Round → List Cause
+start-causes m r =
+    out-of-range (r .0) gives 3 ∷
+    not (leads (m .n) (m .me) r) gives 19 ∷
+    leb (r .0) (m .led .0) gives 20 ∷ []
+
+-- START r: 21 unless the sender leads r; 22 if J ≥ r
+abbrev pub START-causes : MemberState → Round → Member → List Cause
+START-causes m r s =
+    not (leads (m .n) s r) gives 21 ∷
+    leb (r .0) (m .joined .0) gives 22 ∷ []
+
+-- r = L in this phase
+abbrev pub awaits : MemberState → ℕ → Round → Bool
+awaits m phase r = eqb (r .0) (m .led .0) && eqb (m .phase) phase
+
+-- JOIN r (phase 1) and VOTE r (phase 2): 21 if sender ≥ N; 24 unless r = L in that phase; 25
+abbrev pub count-causes : ℕ → MemberState → Round → Member → List Cause
+count-causes phase m r s =
+    leb (m .n) (s .0) gives 21 ∷
+    not (awaits m phase r) gives 24 ∷
+    flag (m .flags) (s .0) gives 25 ∷ []
+
+-- V = r and W ≠ v
+abbrev pub other-vote : MemberState → Round → ℕ → Bool
+other-vote m r v = eqb (m .voted .0) (r .0) && not (eqb (m .vote) v)
+
+-- PROPOSE r, v: 21 unless the sender leads r; 22 if J > r; 23 if V = r and W ≠ v
+abbrev pub PROPOSE-causes : MemberState → Round → Member → ℕ → List Cause
+PROPOSE-causes m r s v =
+    not (leads (m .n) s r) gives 21 ∷
+    ltb (r .0) (m .joined .0) gives 22 ∷
+    other-vote m r v gives 23 ∷ []

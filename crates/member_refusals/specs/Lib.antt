@@ -1,0 +1,3 @@
+-- The meanings of the refusals.
+pub mod Causes
+pub mod Refusals
