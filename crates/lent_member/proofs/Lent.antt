@@ -26,12 +26,12 @@ use denote.Struct.Laws as LL
 use Rattle.member_record.specs.declared.MemberState.{MemberState}
 use Rattle.member_record.proofs.MemberState as T
 use Rattle.member_record.proofs.MemberState.Laws as T′
-use Rattle.member_calls.specs.declared.Called.{Called}
-use Rattle.member_calls.specs.declared.Report.{Report}
-use Rattle.member_calls.proofs.Called as K
-use Rattle.member_calls.proofs.Called.Laws as K′
-use Rattle.member_calls.proofs.Report as R
-use Rattle.member_calls.proofs.Report.Laws as R′
+use Rattle.member_reply.specs.declared.Called.{Called}
+use Rattle.member_reply.specs.declared.Report.{Report}
+use Rattle.member_reply.proofs.Called as K
+use Rattle.member_reply.proofs.Called.Laws as K′
+use Rattle.member_reply.proofs.Report as R
+use Rattle.member_reply.proofs.Report.Laws as R′
 
 abbrev pub vals : MemberState → List Val
 vals = LL.vals T.the-type T′.the-laws

@@ -2,13 +2,13 @@
 // Each takes the record apart for a step by value, and puts back what the step left.
 use ids::Member;
 use ids::Round;
-use member_calls::Report;
 use member_calls::deliver_into;
 use member_calls::fresh_into;
 use member_calls::start_into;
 use member_record::MemberState;
+use member_reply::Report;
+ghost use Rattle.member_reply.specs.Reports.{Answers, Replies};
 ghost use Rattle.member_calls.specs.Calls.{fresh-call, start-call, deliver-call};
-ghost use Rattle.member_calls.specs.Reports.{Answers, Replies};
 
 // Makes the record fresh.
 pub fn fresh(m: &mut MemberState, me: Member, n: u32) -> Report

@@ -1,3 +1,2 @@
 -- The meanings of the member calls.
 pub mod Calls
-pub mod Reports

@@ -7,9 +7,9 @@ use ids::Member;
 use ids::Round;
 use libc::STDIN_FILENO;
 use libc::STDOUT_FILENO;
-use member_calls::Called;
-use member_calls::Report;
 use member_record::MemberState;
+use member_reply::Called;
+use member_reply::Report;
 ghost use Prim.Native.Nat.{_+_, _≤_};
 ghost use lib.ListN.{length};
 

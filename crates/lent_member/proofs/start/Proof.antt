@@ -45,12 +45,12 @@ use Rattle.ids.proofs.Round as N
 use Rattle.ids.proofs.Round.Laws as N′
 use Rattle.member_record.specs.declared.MemberState.{MemberState}
 use Rattle.member_record.proofs.MemberState as T
-use Rattle.member_calls.specs.declared.Called.{Called}
+use Rattle.member_reply.specs.declared.Called.{Called}
+use Rattle.member_reply.specs.Reports.{Replies}
+use Rattle.member_reply.proofs.Called as K
+use Rattle.member_reply.proofs.Called.Laws as K′
+use Rattle.member_reply.proofs.Report as R
 use Rattle.member_calls.specs.Calls.{start-call}
-use Rattle.member_calls.specs.Reports.{Replies}
-use Rattle.member_calls.proofs.Called as K
-use Rattle.member_calls.proofs.Called.Laws as K′
-use Rattle.member_calls.proofs.Report as R
 use Rattle.lent_member.proofs.Lent.{vals, report-val, owned-record, owned-report, typed-record, typed-called, typed-report, state-is, report-is, copies-out, copies-in}
 use Rattle.member_calls.proofs.start_into as into
 use Rattle.member_calls.proofs.start_into.Symbol as into-def

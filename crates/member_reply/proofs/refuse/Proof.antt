@@ -1,8 +1,8 @@
--- `member_calls::refuse` meets its contract: all numbers but the first are 0. Assumes nothing.
+-- `member_reply::refuse` meets its contract: all numbers but the first are 0. Assumes nothing.
 use mathlib.Core.Path.{refl}
 use borrow.Author.Needs.{needs}
-use Rattle.member_calls.proofs.refuse.Statement.{statement}
-use Rattle.member_calls.proofs.refuse.Tie as tie
+use Rattle.member_reply.proofs.refuse.Statement.{statement}
+use Rattle.member_reply.proofs.refuse.Tie as tie
 
 give-requires : tie.Need-give-requires
 give-requires c κs = search needs

@@ -1,4 +1,4 @@
--- `member_calls::send` meets its contract: a message in range, with room for any, is written. Assumes nothing.
+-- `member_reply::send` meets its contract: a message in range, with room for any, is written. Assumes nothing.
 use mathlib.Core.Path.{_≡_, sym, ap, _∙_}
 use mathlib.Core.Bool.{true}
 use mathlib.Core.List.{List}
@@ -13,8 +13,8 @@ use Rattle.message.specs.Layout.{bytes}
 use Rattle.message.specs.Writing.{written-number, in-front, Writes}
 use Rattle.message.proofs.RoundTrip.{length-bytes, in-range-written, left-in-front}
 use borrow.Author.Needs.{needs}
-use Rattle.member_calls.proofs.send.Statement.{statement}
-use Rattle.member_calls.proofs.send.Tie as tie
+use Rattle.member_reply.proofs.send.Statement.{statement}
+use Rattle.member_reply.proofs.send.Tie as tie
 
 -- what the writer answers and leaves then
 whole : (g : Message) {old new : List ℕ} {w : Written} → (28 ≤ length old) × (in-range g ≡ true) → Writes g old w new → (w ≡ Sent (length (bytes g))) × (new ≡ in-front g old)

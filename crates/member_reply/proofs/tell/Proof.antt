@@ -1,9 +1,9 @@
--- `member_calls::tell` meets its contract, answer by answer. Assumes nothing.
+-- `member_reply::tell` meets its contract, answer by answer. Assumes nothing.
 use mathlib.Core.Path.{refl}
 use mathlib.Core.List.{List·Memᴰ·head as here}
 use borrow.Author.Needs.{needs}
-use Rattle.member_calls.proofs.tell.Statement.{statement}
-use Rattle.member_calls.proofs.tell.Tie as tie
+use Rattle.member_reply.proofs.tell.Statement.{statement}
+use Rattle.member_reply.proofs.tell.Tie as tie
 
 enum-known-answer : tie.Need-enum-known-answer
 enum-known-answer c = search needs

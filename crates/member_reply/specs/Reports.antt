@@ -9,7 +9,7 @@ use Rattle.message.specs.Writing.{in-front}
 use Rattle.member_record.specs.declared.MemberState.{MemberState}
 use Rattle.member_record.specs.Record.{round}
 use Rattle.member.specs.Table.{Named, nothing, proposal, decision, Outcome}
-use Rattle.member_calls.specs.declared.Report.{Report}
+use Rattle.member_reply.specs.declared.Report.{Report}
 
 -- the sent length; 0 if nothing is sent
 abbrev pub sent-length : List Message → ℕ

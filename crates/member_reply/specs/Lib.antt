@@ -1,0 +1,2 @@
+-- The meaning of a call's result.
+pub mod Reports
