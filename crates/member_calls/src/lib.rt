@@ -36,10 +36,12 @@ pub fn fresh_into(m: MemberState, me: Member, n: u32) -> Called
 fn record_number(m: MemberState, room: usize) -> u32
     ensures { λ k. ⌜ k ≡ first (record-row m room) ⌝ }
 {
-    if !is_sound(m) {
+    let unsound = !is_sound(m);
+    let short = room < LONGEST;
+    if unsound {
         return NOT_SOUND;
     }
-    if room < LONGEST {
+    if short {
         return SHORT_BUFFER;
     }
     0
