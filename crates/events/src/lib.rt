@@ -2,9 +2,8 @@
 use ids::Member;
 use ids::Round;
 ghost use mathlib.Core.Path.{_≡_};
-ghost use mathlib.Core.Bool.{true};
 ghost use Prim.Native.Nat.{_≤_};
-ghost use lib.ListN.{length, drop};
+ghost use lib.ListN.{length};
 ghost use Rattle.events.specs.List.{event-size, event-at, exact, body, list-fits};
 ghost use Rattle.events.specs.Value.{model-event};
 

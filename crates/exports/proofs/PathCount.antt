@@ -1,5 +1,5 @@
 -- The count of a path fits 32 bits: a refusal's is 0, and a path has no more rounds than its table has words. Assumes nothing.
-use mathlib.Core.Path.{_≡_, refl}
+use mathlib.Core.Path.{refl}
 use mathlib.Core.Bool.{true, not}
 use mathlib.Core.List.{List, [], _∷_, _++_}
 use Prim.Native.Nat.{ℕ, _≤_}

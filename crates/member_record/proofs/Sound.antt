@@ -1,6 +1,6 @@
 -- A sound record taken apart and put together again. Assumes nothing.
 use mathlib.Core.Path.{_≡_}
-use mathlib.Core.Bool.{Bool, true, false, cond, not, _&&_, _||_, and-true}
+use mathlib.Core.Bool.{true, false, not, _&&_, _||_, and-true}
 use Prim.Native.Nat.{ℕ, _≤_}
 use lib.Dec.{ltb, leb, eqb}
 use Rattle.laws.specs.Tests.{and-left, and-right}

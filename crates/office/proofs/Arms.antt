@@ -2,18 +2,18 @@
 use mathlib.Core.Path.{_≡_, refl, sym, ap, subst, _∙_}
 use mathlib.Core.Bool.{true}
 use mathlib.Core.List.{List, [], _∷_, _++_, append-nil}
-use Prim.Native.Nat.{ℕ, suc, _+_, _*_, _/_, _≤_, _<_}
+use Prim.Native.Nat.{ℕ, _+_, _/_, _≤_, _<_}
 use native.Mathlib.Omega.{arith}
 use native.Mathlib.Nat.{add-zero}
 use borrow.Author.Tests.{leb-true, leb-false}
 use Rattle.laws.specs.Tests.{by-test}
 use lib.ListN.{length, set}
 use Rattle.quorum_tree.specs.Machine.{Call, add, commit, step}
-use Rattle.quorum_tree.specs.Table.{nodes, rows, table}
+use Rattle.quorum_tree.specs.Table.{rows, table}
 use Rattle.message.specs.declared.Message.{Message}
 use Rattle.member_record.specs.declared.MemberState.{MemberState}
-use Rattle.member.specs.Table.{Outcome, refused, sends, silent, nothing, proposal, decision}
-use Rattle.model.specs.Model.{Sizes, Event, outcome, sends-one, proposes-one, answer, taken, next, proposals}
+use Rattle.member.specs.Table.{Outcome, refused, sends, silent, proposal, decision}
+use Rattle.model.specs.Model.{Sizes, Event, sends-one, answer, proposals}
 use Rattle.model.specs.Model.{Office as ModelOffice}
 use Rattle.model.specs.Counts.{tree, decisions}
 use Rattle.model.proofs.Tree.{tree-nothing, tree-proposal, tree-decision}

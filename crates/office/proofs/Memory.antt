@@ -1,18 +1,18 @@
 -- What the memory that stands for a reached state holds: sound members, messages that read back, a tree, and counts that fit. Assumes nothing.
 use mathlib.Core.Path.{_≡_, refl, sym, ap, subst, _∙_}
-use mathlib.Core.Bool.{Bool, true, false, cond, _&&_}
-use mathlib.Core.List.{List, [], _∷_, _++_, List·Memᴰ·head as here, List·Memᴰ·tail as there, List·Memᴰ·append-cases, List·Memᴰ·eq-of-singleton, List·Memᴰ·not-nil}
+use mathlib.Core.Bool.{true, _&&_}
+use mathlib.Core.List.{List, [], _∷_, List·Memᴰ·head as here, List·Memᴰ·tail as there, List·Memᴰ·append-cases, List·Memᴰ·eq-of-singleton, List·Memᴰ·not-nil}
 use mathlib.Core.Logic.{⊎-elim}
-use Prim.Native.Nat.{ℕ, zero, suc, _+_, _*_, _/_, _%_, _≤_, _<_}
+use Prim.Native.Nat.{ℕ, zero, suc, _%_, _≤_, _<_}
 use native.Mathlib.Omega.{arith}
-use lib.ListN.{length, getD, take}
+use lib.ListN.{length, getD}
 use lib.Seq.{getD-take}
 use lib.Dec.{leb, ltb, eqb}
 use borrow.Author.Tests.{leb-true, ltb-true}
-use Rattle.laws.specs.Tests.{by-test, clash, and-left, and-right}
+use Rattle.laws.specs.Tests.{by-test, and-right}
 use Rattle.laws.specs.Lists.{_∈_}
 use Rattle.quorum_tree.specs.Machine.{Node, COMMITTED, fresh, after}
-use Rattle.quorum_tree.specs.Table.{nodes, sized, rows, table, Tree}
+use Rattle.quorum_tree.specs.Table.{nodes, rows, table, Tree}
 use Rattle.quorum_tree.proofs.Words.{nodes-table}
 use Rattle.quorum_tree.proofs.Grown.{Grown}
 use Rattle.quorum_tree.proofs.History.{all-grown}
@@ -25,14 +25,13 @@ use Rattle.member_record.specs.declared.MemberState.{MemberState}
 use Rattle.member_record.specs.Record.{fresh as fresh-member}
 use Rattle.model.specs.Model.{Sizes, Event, start, deliver, first-office, answer, next, offered, offers-at, member-at, member-number, proposals}
 use Rattle.model.specs.Model.{Office as ModelOffice}
-use Rattle.model.specs.Demand.{calls, ended}
+use Rattle.model.specs.Demand.{calls}
 use Rattle.model.specs.Counts.{tree, decisions, committed-nodes}
 use Rattle.model.proofs.Kept.{KeptOffice, ended-kept}
 use Rattle.model.proofs.Invariant.{Invariant, Added, Backed}
 use Rattle.model.proofs.Events.{holds}
 use Rattle.model.proofs.Tree.{nodes-counted, committed-counted}
 use Rattle.events.specs.List.{Offer, Offers}
-use Rattle.store.specs.Rows.{store-sized}
 use Rattle.office.specs.declared.Office.{Office}
 use Rattle.office.specs.Standing.{Lent, Reached, Stands, place-of}
 

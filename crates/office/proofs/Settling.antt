@@ -1,14 +1,13 @@
 -- What becomes of a member's step in the model, by its outcome: the number, and the state for which the memory then stands. Assumes nothing.
 use mathlib.Core.Path.{_≡_, refl, sym, ap, subst, _∙_}
-use mathlib.Core.Bool.{Bool, true, false, cond, _&&_, not}
+use mathlib.Core.Bool.{true, false, _&&_, not}
 use mathlib.Core.List.{List, [], _∷_, _++_}
 use Prim.Native.Nat.{ℕ, zero, suc, _+_, _≤_, _<_}
 use native.Mathlib.Omega.{arith}
-use lib.ListN.{length, set, take, length-append, length-set}
+use lib.ListN.{length, set, length-append, length-set}
 use lib.Seq.{take-set-lt}
 use lib.Dec.{leb, eqb}
 use borrow.Author.Tests.{eq-eqb, ne-eqb, le-leb, lt-leb}
-use Rattle.laws.specs.Tests.{tests}
 use Rattle.laws.specs.First.{first, _gives_}
 use Rattle.quorum_tree.specs.Table.{table}
 use Rattle.member_record.specs.declared.MemberState.{MemberState}
@@ -16,7 +15,7 @@ use Rattle.member.specs.declared.Answer.{Answer}
 use Rattle.member.specs.declared.Answer.the-variants.{Refused, Sent, Done, Proposed, Decided}
 use Rattle.member.specs.Answers.{answer-outcome}
 use Rattle.member.specs.Table.{Outcome, Named, nothing, proposal, decision}
-use Rattle.model.specs.Model.{Sizes, Event, outcome, at-member, unsent, sends-one, proposes-one, proposals, event-causes, answer, made-by, taken, next}
+use Rattle.model.specs.Model.{Sizes, Event, at-member, sends-one, proposes-one, proposals, event-causes, answer, made-by, taken, next}
 use Rattle.model.specs.Model.{Office as ModelOffice}
 use Rattle.model.specs.Counts.{tree, decisions}
 use Rattle.store.specs.Rows.{stored}
@@ -24,7 +23,7 @@ use Rattle.office_effects.specs.declared.Tally.{Tally}
 use Rattle.office_effects.specs.declared.Worked.{Worked}
 use Rattle.office_effects.specs.Effects.{counted}
 use Rattle.office.specs.declared.Office.{Office}
-use Rattle.office.specs.Standing.{Held, Lent, Reached, Stands, Next, Took, office-of}
+use Rattle.office.specs.Standing.{Held, Stands, Next, Took, office-of}
 
 -- the record stands beside every answer
 pub state-of : (m : MemberState) (a : Answer) → answer-outcome m a .state ≡ m

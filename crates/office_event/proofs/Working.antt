@@ -2,7 +2,7 @@
 use mathlib.Core.Path.{_≡_, refl, sym, ap, subst, _∙_}
 use mathlib.Core.Bool.{true, false, _||_}
 use mathlib.Core.List.{List}
-use Prim.Native.Nat.{ℕ, _+_, _*_, _/_, _≤_, _<_}
+use Prim.Native.Nat.{ℕ, _+_, _*_, _≤_, _<_}
 use native.Mathlib.Omega.{arith}
 use lib.ListN.{length, getD, set}
 use lib.Dec.{leb}
@@ -16,9 +16,9 @@ use Rattle.member.specs.Answers.{outcome as step-outcome}
 use Rattle.member.specs.Kept.{Stepped}
 use Rattle.member.specs.Table.{sound-step}
 use Rattle.member.specs.Table.{Event as MemberEvent, start as starts, deliver as delivers}
-use Rattle.model.specs.Model.{Sizes, Event, start, deliver, at-member, unsent, event-of, message-at, member-at, event-causes, answer, outcome}
+use Rattle.model.specs.Model.{Sizes, Event, start, deliver, at-member, unsent, event-of, message-at, member-at, event-causes, answer}
 use Rattle.model.specs.Model.{Office as ModelOffice}
-use Rattle.model.proofs.Kept.{KeptOffice, step-is-sound, message-in}
+use Rattle.model.proofs.Kept.{step-is-sound, message-in}
 use Rattle.store.specs.Rows.{fetched}
 use Rattle.store.proofs.Stored.{fetch-stored}
 use Rattle.office_effects.specs.declared.Tally.{Tally}

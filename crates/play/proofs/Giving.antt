@@ -1,14 +1,13 @@
 -- Play's promise: a refused list leaves everything; a list that is taken has the model's answers, store and tree, and the third demand.
 -- Assumes nothing.
 use mathlib.Core.Path.{_≡_, refl, sym, ap, subst, _∙_}
-use mathlib.Core.Bool.{Bool, true, false, cond, not, _||_}
+use mathlib.Core.Bool.{true, false}
 use mathlib.Core.List.{List, [], _++_}
 use Prim.Native.Nat.{ℕ, suc, _/_, _≤_, _<_}
 use native.Mathlib.Omega.{arith}
 use lib.ListN.{length, drop, replicate, length-replicate}
-use lib.Dec.{ltb}
 use borrow.Author.Tests.{lt-ltb, le-ltb}
-use Rattle.laws.specs.Tests.{by-test, clash}
+use Rattle.laws.specs.Tests.{by-test}
 use Rattle.quorum_tree.specs.Machine.{fresh}
 use Rattle.quorum_tree.specs.Table.{nodes, rows, sized, table, fresh-number, fresh-table}
 use Rattle.quorum_tree.proofs.Words.{length-table, nodes-table}
@@ -16,7 +15,7 @@ use Rattle.quorum_tree.proofs.History.{all-grown}
 use Rattle.quorum_tree.proofs.Trees.{sized-rows, grown-fit, grown-stated}
 use Rattle.quorum_tree.proofs.Steps.{fresh-written}
 use Rattle.member_record.specs.Record.{allowed}
-use Rattle.model.specs.Model.{Sizes, Event, first-office, answers, proposals}
+use Rattle.model.specs.Model.{Sizes, first-office, answers, proposals}
 use Rattle.model.specs.Demand.{calls, ended}
 use Rattle.model.specs.Counts.{tree, zeros, decisions, committed-nodes}
 use Rattle.model.proofs.Demanded.{demand}
@@ -28,7 +27,7 @@ use Rattle.play.specs.declared.answers.Counts.{Counts}
 use Rattle.play.specs.declared.answers.ListRefusal.{ListRefusal}
 use Rattle.play.specs.declared.answers.ListRefusal.the-variants.{NotExact, Members, StoreOrAnswers, TableLength}
 use Rattle.play.specs.Answers.{refusal-number, no-counts}
-use Rattle.play.specs.Promise.{play-number, sizes-of, Ready, Worked, Taken, Left, Given}
+use Rattle.play.specs.Promise.{play-number, sizes-of, Ready, Worked, Given}
 
 refusal-some : (k : ListRefusal) → refusal-number k ≡ 0 → ⊥
 refusal-some NotExact e = omega arith

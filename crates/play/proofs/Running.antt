@@ -1,6 +1,6 @@
 -- The events one after another: after k of them the memory stands for the model's state, and the answers are the model's. Assumes nothing.
 use mathlib.Core.Path.{_≡_, refl, sym, ap, subst, _∙_}
-use mathlib.Core.Bool.{Bool, true, false, cond, _&&_}
+use mathlib.Core.Bool.{true, _&&_}
 use mathlib.Core.List.{List, [], _∷_, _++_, append-assoc, List·Memᴰ·head as here, List·Memᴰ·tail as there}
 use Prim.Native.Nat.{ℕ, zero, suc, _+_, _-_, _/_, _≤_, _<_}
 use native.Mathlib.Omega.{arith}
@@ -10,13 +10,11 @@ use lib.Seq.{drop-cons, set-at, drop-drop}
 use lib.Dec.{leb, eqb}
 use borrow.Author.Tests.{leb-true}
 use Rattle.laws.specs.Tests.{by-test, and-left, and-right}
-use Rattle.laws.specs.Lists.{_∈_}
-use Rattle.laws.specs.Parts.{to-end}
 use Rattle.xdr.specs.Words.{Bytes}
 use Rattle.quorum_tree.specs.Machine.{after}
 use Rattle.quorum_tree.specs.Table.{sized, table}
 use Rattle.member_record.specs.Record.{fresh as fresh-member}
-use Rattle.model.specs.Model.{Sizes, Event, at-member, member-number, fresh-members, first-office, answer, answers, next, proposals}
+use Rattle.model.specs.Model.{Event, at-member, member-number, fresh-members, first-office, answers, proposals}
 use Rattle.model.specs.Model.{after as ended-from}
 use Rattle.model.specs.Demand.{calls, ended}
 use Rattle.model.specs.Counts.{tree, zeros, decisions}

@@ -1,5 +1,5 @@
 -- `office::fresh_member` meets its contract: a fresh record stands beside either answer. Assumes nothing.
-use mathlib.Core.Path.{_≡_, refl, sym, ap, _∙_}
+use mathlib.Core.Path.{refl, sym, ap, _∙_}
 use borrow.Author.Needs.{needs}
 use Rattle.member.specs.Table.{Outcome, fresh-step}
 use Rattle.member_record.specs.Record.{sound-number}

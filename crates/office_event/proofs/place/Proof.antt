@@ -1,5 +1,5 @@
 -- `office_event::place` meets its contract: the member that the event names. Assumes nothing.
-use mathlib.Core.Path.{_≡_, sym, ap, _∙_}
+use mathlib.Core.Path.{sym, ap, _∙_}
 use Rattle.events.specs.Value.{model-event}
 use Rattle.model.specs.Model.{at-member}
 use Rattle.office.specs.Standing.{place-of}

@@ -1,5 +1,5 @@
 -- `office_event::work` meets its contract: each kind of event has its own function. Assumes nothing.
-use mathlib.Core.Path.{_≡_, sym, subst}
+use mathlib.Core.Path.{sym, subst}
 use denote.Ref.{now}
 use Rattle.events.specs.Value.{model-event}
 use Rattle.office.specs.Standing.{Seated, Works}

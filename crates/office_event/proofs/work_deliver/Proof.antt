@@ -1,5 +1,4 @@
 -- `office_event::work_deliver` meets its contract: 29, or the step of the model's member at the message of that row, settled. Assumes nothing.
-use mathlib.Core.Path.{_≡_, refl}
 use denote.Ref.{now}
 use Rattle.model.specs.Model.{deliver}
 use Rattle.office.specs.Standing.{place-of}

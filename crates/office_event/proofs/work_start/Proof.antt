@@ -1,5 +1,4 @@
 -- `office_event::work_start` meets its contract: 29, or the step of the model's member, settled. Assumes nothing.
-use mathlib.Core.Path.{_≡_, refl}
 use denote.Ref.{now}
 use Rattle.model.specs.Model.{start}
 use Rattle.office.specs.Standing.{place-of}

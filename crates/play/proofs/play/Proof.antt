@@ -1,14 +1,14 @@
 -- `play::play` meets its contract: each refusal in its order, then the events on a cleared store and a fresh table. Assumes nothing.
-use mathlib.Core.Path.{_≡_, refl, sym, ap, subst, _∙_}
-use mathlib.Core.Bool.{true, false}
-use Prim.Native.Nat.{_≤_, _<_}
+use mathlib.Core.Path.{_≡_, sym, ap, subst, _∙_}
+use mathlib.Core.Bool.{true}
+use Prim.Native.Nat.{_≤_}
 use native.Mathlib.Omega.{arith}
 use lib.ListN.{length, replicate}
 use borrow.Author.Tests.{not-true, not-false}
 use denote.Ref.{now}
 use Rattle.quorum_tree.specs.Table.{sized, fresh-number, fresh-table}
 use Rattle.member_record.specs.Record.{allowed}
-use Rattle.events.specs.List.{members-of, count-of, list-fits, events-of}
+use Rattle.events.specs.List.{members-of, count-of, list-fits}
 use Rattle.store.specs.Rows.{store-sized}
 use Rattle.play.specs.declared.answers.ListRefusal.the-variants.{TableLength}
 use Rattle.play.specs.Answers.{refusal-number, no-counts}
