@@ -41,11 +41,6 @@ module _ {ℓ} {A : Type ℓ} where
   none-any p [] f = refl
   none-any p (x ∷ l) f = rw (f x (here refl)) (none-any p l (λ a m. f a (there m)))
 
-  -- a test that agrees on every element
-  pub any-same : (p q : A → Bool) (l : List A) → ((a : A) → a ∈ l → p a ≡ q a) → any p l ≡ any q l
-  any-same p q [] f = refl
-  any-same p q (x ∷ l) f = rw (f x (here refl), any-same p q l (λ a m. f a (there m))) refl
-
   -- a member of a list with one element more at its end
   pub by-last {κ} : {C : Type κ} (l : List A) {x a : A} → a ∈ l ++ x ∷ [] → (a ∈ l → C) → (a ≡ x → C) → C
   by-last l m f g = ⊎-elim f (λ n. g (List·Memᴰ·eq-of-singleton n)) (List·Memᴰ·append-cases l m)

@@ -4,7 +4,7 @@ use mathlib.Core.Path.{_≡_, sym}
 use mathlib.Core.Bool.{Bool, true, false, not, and-false}
 use mathlib.Core.List.{List}
 use mathlib.Core.Logic.{_≢_}
-use Prim.Native.Nat.{ℕ, suc, _+_, _-_, _*_, _/_, _<_, _≤_}
+use Prim.Native.Nat.{ℕ, suc, _<_, _≤_}
 use native.Mathlib.Omega.{arith}
 use lib.ListN.{length, set, getD-replicate}
 use lib.Seq.{getD-set-same, getD-set-other}
@@ -13,8 +13,7 @@ use lib.Dec.{ltb, leb, eqb}
 use Rattle.laws.specs.Tests.{tests, by-test, or-cases, and-left, and-right, and-cases, same-test}
 use Rattle.ids.specs.declared.Member.{Member}
 use Rattle.quorum.specs.Count.{count, some}
-use Rattle.quorum.specs.Quorum.{Quorum, quorum}
-use Rattle.quorum.proofs.Meet.{of-odd}
+use Rattle.quorum.specs.Quorum.{quorum}
 use Rattle.quorum.proofs.Counts.{count-none, count-more, count-beyond, beyond-none, some-none, none-some}
 use Rattle.member_record.specs.Record.{allowed, sound-number, flag, flagged, flag-from, no-flags}
 
@@ -81,18 +80,3 @@ module _ (fs : List Bool) (s : ℕ) (seven : length fs ≡ 7) (low : s < 7) wher
           let d : t ≢ s = omega tests in
           rw (a, getD-set-other fs s t true false d) (none-from n fs h t (omega tests) k))
           (λ a. rw a)
-
--- as many flags as a quorum are a quorum of members, where there is none from N on
-pub flag-quorum : (n k : ℕ) (fs : List Bool) (P : ℕ → Type 0) → n ≤ 7 → not (some (flag-from n fs) 7) ≡ true → k ≤ flagged fs →
-    ((s : ℕ) → s < n → flag fs s ≡ true → P s) → Quorum n k P
-unfolding flagged
-flag-quorum n k fs P l h e f =
-    record { who = flag fs; enough = rw (count-beyond (flag fs) n 7 l (none-from n fs h)) at e; each = f }
-
--- an allowed N is odd, so that two of its quorums meet
-pub allowed-odd : (n : ℕ) → allowed n ≡ true → n ≡ 2 * ((n - 1) / 2) + 1
-allowed-odd n h =
-    or-cases (eqb n 3) _ h (λ e. omega tests) (λ h′. or-cases (eqb n 5) (eqb n 7) h′ (λ e. omega tests) (λ e. omega tests))
-
-pub quorums-meet : (n : ℕ) → allowed n ≡ true → n < quorum n + quorum n
-quorums-meet n h = omega (arith, allowed-odd n h, of-odd n ((n - 1) / 2) (allowed-odd n h))

@@ -109,12 +109,6 @@ module _ (valued : Bool) (ws : List ℕ) (n : ℕ) where
   fits-all (suc k) f = and-intro (fits-all k (λ i l. f i (omega arith))) (f k (omega arith))
 
 module _ (ws : List ℕ) (a : ℕ) where
-  -- none of the first words is looked at up to word a
-  pub zeros-before : (j : ℕ) → j ≤ a → zeros-to ws a j ≡ true
-  unfolding zeros-to
-  zeros-before zero h = refl
-  zeros-before (suc j) h = and-intro (zeros-before j (omega arith)) (rw (lt-ltb j a (omega arith)) refl)
-
   zeros-at : (j i : ℕ) → zeros-to ws a j ≡ true → i < j → a ≤ i → getD ws i 0 ≡ 0
   unfolding zeros-to
   zeros-at zero i h l b = absurd (omega arith)

@@ -48,15 +48,6 @@ row-words (n ∷ ns) zs zero h = refl
 row-words (n ∷ ns) zs (suc i) h =
     row-tail (n .round) (n .parent) (n .value) (n .status) (words ns ++ zs) i ∙ row-words ns zs i (omega arith)
 
-pub round-word : (ns : List Node) (zs : List ℕ) (i : ℕ) → i < length ns → getD (words ns ++ zs) (4 * i) 0 ≡ getD ns i root .round
-round-word ns zs i h = ap (λ n. n .round) (row-words ns zs i h)
-
-pub parent-word : (ns : List Node) (zs : List ℕ) (i : ℕ) → i < length ns → getD (words ns ++ zs) (4 * i + 1) 0 ≡ getD ns i root .parent
-parent-word ns zs i h = ap (λ n. n .parent) (row-words ns zs i h)
-
-pub value-word : (ns : List Node) (zs : List ℕ) (i : ℕ) → i < length ns → getD (words ns ++ zs) (4 * i + 2) 0 ≡ getD ns i root .value
-value-word ns zs i h = ap (λ n. n .value) (row-words ns zs i h)
-
 pub status-word : (ns : List Node) (zs : List ℕ) (i : ℕ) → i < length ns → getD (words ns ++ zs) (4 * i + 3) 0 ≡ getD ns i root .status
 status-word ns zs i h = ap (λ n. n .status) (row-words ns zs i h)
 

@@ -48,11 +48,6 @@ unfolding rows-of
 length-rows [] = refl
 length-rows (g ∷ gs) = rw (length-append (row-of g) (rows-of gs), length-row g, length-rows gs) (omega arith)
 
-pub length-stored : (len : ℕ) (gs : List Message) → 28 * length gs ≤ len → length (stored len gs) ≡ len
-unfolding stored
-length-stored len gs h =
-    rw (length-append (rows-of gs) (zeros (len - 28 * length gs)), length-rows gs, length-zeros (len - 28 * length gs)) (omega arith)
-
 -- a cleared store has no message
 pub cleared : (n : ℕ) → replicate n 0 ≡ stored n []
 unfolding stored
