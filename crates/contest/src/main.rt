@@ -1,13 +1,13 @@
 // Drives an office of three through a contested round by the member steps alone: member 1 proposes 70 in round 1, member 2 takes over
 // in round 2 before all votes have arrived and has to propose 70 again. A line for each answer: its number, the message sent, and
 // what is proposed or decided.
-ghost use Prim.Native.Nat.{_<_};
 use ids::Member;
 use ids::Round;
 use member::Answer;
 use member::Step;
 use member_record::MemberState;
 use message::Message;
+ghost use Prim.Native.Nat.{_<_};
 
 // The office after an event, and the message sent.
 struct Event {

@@ -1,10 +1,9 @@
 // The messages of 01, "Messages": the enum, its ranges, and what the reader and the writer answer.
-ghost use mathlib.Core.Path.{_≡_};
-ghost use mathlib.Core.Bool.{true, false};
-ghost use Rattle.message.specs.Fields.{head-in-range, vote-in-range, in-range};
-ghost use Rattle.message.specs.Reading.{fault-number};
 use ids::Member;
 use ids::Round;
+ghost use mathlib.Core.Path.{_≡_};
+ghost use Rattle.message.specs.Fields.{head-in-range, vote-in-range, in-range};
+ghost use Rattle.message.specs.Reading.{fault-number};
 
 // A message by value: one of the four kinds, a JOIN without or with a vote.
 pub enum Message {

@@ -1,15 +1,15 @@
 // The reader of messages (01, "Messages").
+use ids::Member;
+use ids::Round;
+use message::Fault;
+use message::Message;
+use message::Read;
 ghost use mathlib.Core.Path.{_≡_};
 ghost use Prim.Native.Nat.{_+_, _≤_};
 ghost use lib.ListN.{length};
 ghost use Rattle.message.specs.declared.Message.the-variants.{Start, Join, JoinVoted, Propose, Vote};
 ghost use Rattle.message.specs.Layout.{kind, round-at, round, sender, voted, voted-value, proposed};
 ghost use Rattle.message.specs.Reading.{size, decoded, ranged, read, Reads};
-use ids::Member;
-use ids::Round;
-use message::Fault;
-use message::Message;
-use message::Read;
 
 // The round at a place.
 fn round_at(s: &[u8], at: usize) -> Round

@@ -1,14 +1,14 @@
 // The writer of messages (01, "Messages").
-ghost use Prim.Native.Nat.{_≤_};
-ghost use lib.ListN.{length};
-ghost use Rattle.writer.specs.Put.{Fronts};
-ghost use Rattle.message.specs.Layout.{head, words};
-ghost use Rattle.message.specs.Writing.{Writes};
 use ids::Member;
 use ids::Round;
 use message::LONGEST;
 use message::Message;
 use message::Written;
+ghost use Prim.Native.Nat.{_≤_};
+ghost use lib.ListN.{length};
+ghost use Rattle.writer.specs.Put.{Fronts};
+ghost use Rattle.message.specs.Layout.{head, words};
+ghost use Rattle.message.specs.Writing.{Writes};
 
 // Writes what every message starts with, and answers the place behind it.
 fn put_head(buf: &mut [u8], kind: u32, round: Round, sender: Member) -> usize

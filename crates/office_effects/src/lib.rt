@@ -5,7 +5,7 @@ use member_record::MemberState;
 use message::Message;
 ghost use mathlib.Core.Path.{_≡_};
 ghost use mathlib.Core.Bool.{true};
-ghost use Prim.Native.Nat.{_+_, _<_};
+ghost use Prim.Native.Nat.{_<_};
 ghost use Rattle.quorum_tree.specs.Machine.{add, commit};
 ghost use Rattle.quorum_tree.specs.Table.{sized, Tree};
 ghost use Rattle.message.specs.Fields.{in-range};
