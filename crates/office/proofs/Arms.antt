@@ -17,11 +17,12 @@ use Rattle.model.specs.Model.{Sizes, Event, sends-one, answer, proposals}
 use Rattle.model.specs.Model.{Office as ModelOffice}
 use Rattle.model.specs.Counts.{tree, decisions}
 use Rattle.model.proofs.Tree.{tree-nothing, tree-proposal, tree-decision}
-use Rattle.store.specs.Rows.{stored}
+use Rattle.store.specs.Rows.{stored, put-row}
 use Rattle.store.proofs.Stored.{put-stored}
+use Rattle.tree.specs.Promises.{stepped-table}
 use Rattle.office_effects.specs.declared.Tally.{Tally}
 use Rattle.office_effects.specs.declared.Worked.{Worked}
-use Rattle.office_effects.specs.Effects.{counted, left, gone, put-row, stepped-table, store-full, table-full, Sends, Proposes, Decides}
+use Rattle.office_effects.specs.Effects.{counted, left, gone, store-full, table-full, Sends, Proposes, Decides}
 use Rattle.office.specs.Standing.{Lent, Reached, Stands, Next, Took, Held, office-of}
 use Rattle.office.proofs.Settling.{placed, stays, unchanged, as-worked, refused-step, no-store-row, no-row, sent-one, proposed-one, silent-one, goes-on}
 use Rattle.office.proofs.Memory.{nodes-held}
@@ -82,7 +83,7 @@ module _ (z : Sizes) (o : ModelOffice) (e : Event) (t : Tally) (ms : List Member
       stays-put 9 (no-row z o e i (proposing m g r x b) T refl refl (free h) refl (omega (arith, L .table-rows, S .proposed))) (λ q. omega arith)
 
   -- the tree's step on the table is the machine's on the model's tree
-  stepped : (c : Call) (ws′ : List ℕ) → ws′ ≡ stepped-table ws c → length ws′ ≡ length ws → ws′ ≡ table (length ws′) (step true (z .table) (tree z o) c)
+  stepped : (c : Call) (ws′ : List ℕ) → ws′ ≡ stepped-table true ws c → length ws′ ≡ length ws → ws′ ≡ table (length ws′) (step true (z .table) (tree z o) c)
   stepped c ws′ q l =
       q ∙ ap (λ ns. table (length ws) (step true (rows ws) ns c)) (nodes-held z o (office-of t ms) store ws L R S) ∙
       ap (λ n. table (length ws) (step true n (tree z o) c)) (sym (L .table-rows)) ∙ ap (λ n. table n (step true (z .table) (tree z o) c)) (sym l)
@@ -91,7 +92,7 @@ module _ (z : Sizes) (o : ModelOffice) (e : Event) (t : Tally) (ms : List Member
   goes-proposed : (m : MemberState) (g : Message) (r x b : ℕ) (store′ ws′ : List ℕ) → Took z o e i (proposing m g r x b) → t .sent < length store / 28 →
       t .proposals + 1 < length ws / 4 → length store′ ≡ length store →
       store′ ≡ put-row store (t .sent) g → length ws′ ≡ length ws →
-      ws′ ≡ stepped-table ws (add r x b) → Next z o e (placed (office-of t ms) i m 1 1 0) 0 store′ ws′
+      ws′ ≡ stepped-table true ws (add r x b) → Next z o e (placed (office-of t ms) i m 1 1 0) 0 store′ ws′
   unfolding proposals decisions
   goes-proposed m g r x b store′ ws′ T h f l w l′ q =
       goes-on z o e i (proposing m g r x b) T (office-of t ms) store ws store′ ws′ 1 1 0 S
@@ -100,7 +101,7 @@ module _ (z : Sizes) (o : ModelOffice) (e : Event) (t : Tally) (ms : List Member
       (stepped (add r x b) ws′ q l′ ∙ ap (table (length ws′)) (sym (tree-proposal z o e r x b (ap (λ (u : Outcome). u .named) (sym (T .equals))))))
 
   -- the decision is committed
-  goes-decided : (m : MemberState) (r x : ℕ) (ws′ : List ℕ) → Took z o e i (deciding m r x) → length ws′ ≡ length ws → ws′ ≡ stepped-table ws (commit r) →
+  goes-decided : (m : MemberState) (r x : ℕ) (ws′ : List ℕ) → Took z o e i (deciding m r x) → length ws′ ≡ length ws → ws′ ≡ stepped-table true ws (commit r) →
       Next z o e (placed (office-of t ms) i m 0 0 1) 0 store ws′
   unfolding proposals decisions
   goes-decided m r x ws′ T l q =

@@ -1,17 +1,16 @@
 -- What a message sent, a proposal and a decision do to the tally, the store and the table, and when they are refused with 30 and 9.
 use mathlib.Core.Path.{_≡_}
 use mathlib.Core.Bool.{Bool, true, cond}
-use mathlib.Core.List.{List, [], _∷_, _++_}
-use Prim.Native.Nat.{ℕ, _+_, _*_, _/_, _<_}
-use lib.ListN.{length, take, drop}
+use mathlib.Core.List.{List, [], _∷_}
+use Prim.Native.Nat.{ℕ, _+_, _/_, _<_}
+use lib.ListN.{length}
 use lib.Dec.{leb, eqb}
 use Rattle.laws.specs.First.{Cause, first, _gives_}
-use Rattle.quorum_tree.specs.Machine.{Call, step}
-use Rattle.quorum_tree.specs.Table.{nodes, rows, table}
+use Rattle.quorum_tree.specs.Machine.{Call}
 use Rattle.message.specs.declared.Message.{Message}
-use Rattle.message.specs.Writing.{in-front}
 use Rattle.member_record.specs.declared.MemberState.{MemberState}
-use Rattle.store.specs.Rows.{row-at}
+use Rattle.tree.specs.Promises.{stepped-table}
+use Rattle.store.specs.Rows.{put-row}
 use Rattle.office_effects.specs.declared.Tally.{Tally}
 use Rattle.office_effects.specs.declared.Worked.{Worked}
 
@@ -41,14 +40,6 @@ store-full t store = leb (length store / 28) (t .sent)
 abbrev pub table-full : Tally → List ℕ → Bool
 table-full t ws = leb (length ws / 4) (t .proposals + 1)
 
--- the store with message k at the front of row k
-abbrev pub put-row : List ℕ → ℕ → Message → List ℕ
-put-row store k g = take (28 * k) store ++ in-front g (row-at store k) ++ drop (28 * k + 28) store
-
--- the table after a call of the machine
-abbrev pub stepped-table : List ℕ → Call → List ℕ
-stepped-table ws c = table (length ws) (step true (rows ws) (nodes ws) c)
-
 -- a step from record m to m′ that sends g
 pub record Sends (t : Tally) (m m′ : MemberState) (g : Message) (store : List ℕ) (w : Worked) (store′ : List ℕ) : Type 0 where
   pub worked : w ≡ cond (store-full t store) (left m t 30) (gone m′ (counted t 1 0 0))
@@ -67,9 +58,9 @@ proposal-number t store ws = first (proposal-causes t store ws)
 pub record Proposes (t : Tally) (m m′ : MemberState) (g : Message) (c : Call) (store ws : List ℕ) (w : Worked) (store′ ws′ : List ℕ) : Type 0 where
   pub worked : w ≡ cond (eqb (proposal-number t store ws) 0) (gone m′ (counted t 1 1 0)) (left m t (proposal-number t store ws))
   pub store-is : store′ ≡ cond (eqb (proposal-number t store ws) 0) (put-row store (t .sent) g) store
-  pub table-is : ws′ ≡ cond (eqb (proposal-number t store ws) 0) (stepped-table ws c) ws
+  pub table-is : ws′ ≡ cond (eqb (proposal-number t store ws) 0) (stepped-table true ws c) ws
 
 -- a step to record m′ that names c and sends nothing
 pub record Decides (t : Tally) (m′ : MemberState) (c : Call) (ws : List ℕ) (w : Worked) (ws′ : List ℕ) : Type 0 where
   pub worked : w ≡ gone m′ (counted t 0 0 1)
-  pub table-is : ws′ ≡ stepped-table ws c
+  pub table-is : ws′ ≡ stepped-table true ws c

@@ -17,7 +17,7 @@ use Rattle.message.specs.Layout.{bytes, byte-count, Held}
 use Rattle.message.specs.Reading.{size, decoded}
 use Rattle.message.specs.Writing.{in-front}
 use Rattle.message.proofs.RoundTrip.{length-bytes, spelt-front}
-use Rattle.store.specs.Rows.{row-of, rows-of, stored, row-at, fetched}
+use Rattle.store.specs.Rows.{row-of, rows-of, stored, row-at, put-row, fetched}
 
 -- no message is longer than a row
 longest : (g : Message) → length (bytes g) ≤ 28
@@ -75,14 +75,14 @@ put-between g front row behind a p q =
 
 -- a message put at the first free row is stored behind the others
 pub put-stored : (s : List ℕ) (gs : List Message) (g : Message) (k : ℕ) → s ≡ stored (length s) gs → k ≡ length gs → 28 * length gs + 28 ≤ length s →
-    take (28 * k) s ++ in-front g (row-at s k) ++ drop (28 * k + 28) s ≡ stored (length s) (gs ++ g ∷ [])
+    put-row s k g ≡ stored (length s) (gs ++ g ∷ [])
 unfolding stored row-of
 put-stored s gs g k e q h =
     let free = length s - 28 * length (gs ++ g ∷ []) in
     let cut : length s - 28 * length gs ≡ 28 + free = omega (arith, length-append gs (g ∷ [])) in
     let shape : s ≡ rows-of gs ++ (zeros 28 ++ zeros free) = e ∙ ap (λ (z : List ℕ). rows-of gs ++ z) (zeros-cut (length s - 28 * length gs) 28 free cut) in
     let front : length (rows-of gs) ≡ 28 * k = rw q (length-rows gs) in
-    ap (λ (t : List ℕ). take (28 * k) t ++ in-front g (row-at t k) ++ drop (28 * k + 28) t) shape
+    ap (λ (t : List ℕ). put-row t k g) shape
     ∙ put-between g (rows-of gs) (zeros 28) (zeros free) (28 * k) front (length-zeros 28)
     ∙ ap (λ (r : List ℕ). rows-of gs ++ r ++ zeros free) (in-zeros g 28 (longest g))
     ∙ ap (λ (r : List ℕ). r ++ zeros free) (sym (rows-snoc gs g))

@@ -2,13 +2,11 @@
 use message::Message;
 ghost use mathlib.Core.Path.{_≡_};
 ghost use mathlib.Core.Bool.{true};
-ghost use mathlib.Core.List.{_++_};
 ghost use Prim.Native.Nat.{_+_, _*_, _≤_};
-ghost use lib.ListN.{length, take, drop, replicate};
+ghost use lib.ListN.{length, take, replicate};
 ghost use Rattle.message.specs.Fields.{in-range};
 ghost use Rattle.message.specs.Reading.{size, decoded};
-ghost use Rattle.message.specs.Writing.{in-front};
-ghost use Rattle.store.specs.Rows.{store-sized, row-at, fetched};
+ghost use Rattle.store.specs.Rows.{store-sized, put-row, fetched};
 
 // The length of a row.
 pub const ROW: usize = 28;
@@ -41,7 +39,7 @@ pub fn clear(s: &mut [u8])
 // Puts a message at the front of row k.
 pub fn put(s: &mut [u8], k: usize, g: Message)
     requires { ⌜ (28 * k + 28 ≤ length (now s)) × (in-range g ≡ true) ⌝ }
-    ensures { λ _. ⌜ now (s .exit) ≡ take (28 * k) (now (s .entry)) ++ in-front g (row-at (now (s .entry)) k) ++ drop (28 * k + 28) (now (s .entry)) ⌝ }
+    ensures { λ _. ⌜ now (s .exit) ≡ put-row (now (s .entry)) k g ⌝ }
 {
     let a = ROW * k;
     let e = a + ROW;

@@ -12,7 +12,7 @@ use borrow.Author.Tests.{eq-eqb, ne-eqb, ltb-true, leb-true, leb-false, not-true
 use Rattle.laws.specs.Tests.{by-test, clash, tests, and-left, and-right}
 use Rattle.laws.specs.Lists.{any-intro}
 use Rattle.laws.specs.First.{passed}
-use Rattle.quorum_tree.specs.Machine.{Call, add, commit, COMMITTED, has-round, present, causes, answer, struck, committed, new-node, change, step}
+use Rattle.quorum_tree.specs.Machine.{Call, add, commit, COMMITTED, has-round, present, causes, answer, struck, committed, new-node, change}
 use Rattle.quorum_tree.specs.Table.{row, rows, rows-of, used, nodes, words, sized, table, Tree, is-tree, call-number, call-table}
 use Rattle.quorum_tree.proofs.Words.{length-words, length-rows, used-rows, row-in}
 use Rattle.quorum_tree.proofs.Grown.{placed-cut}
@@ -23,7 +23,7 @@ use Rattle.quorum_tree.proofs.Steps.{step-tree, tree-number, tree-table}
 use Rattle.table.proofs.Rows.{rows-from, rows-split, Passed, pass-none, pass-on, pass-set, pass-end}
 use Rattle.crossing.specs.Crossed.{strike-crossed}
 use Rattle.tree_commit.specs.Committed.{Committed}
-use Rattle.tree.specs.Promises.{Called, Stepped}
+use Rattle.tree.specs.Promises.{stepped-table, Called, Stepped}
 
 drop-zeros : (k n : ℕ) → drop {A = ℕ} k (replicate n 0) ≡ replicate (n - k) 0
 drop-zeros zero n = let e : n - 0 ≡ n = omega arith in rw e refl
@@ -35,7 +35,7 @@ module _ (valued : Bool) (ws : List ℕ) (h : sized ws ≡ true) (T : Tree value
   pub refused : (c : Call) (number : ℕ) → number ≡ answer valued (rows ws) (nodes ws) c → (number ≡ 0 → ⊥) → Stepped valued ws c number ws
   refused c number e z =
       let t : eqb (answer valued (rows ws) (nodes ws) c) 0 ≡ false = ne-eqb _ _ (λ q. z (e ∙ q)) in
-      let w : ws ≡ table (length ws) (step valued (rows ws) (nodes ws) c) =
+      let w : ws ≡ stepped-table valued ws c =
       tree-held valued ws h T .whole ∙ ap (table (length ws)) (sym (step-refused valued (rows ws) (nodes ws) c t)) in
       record { number-is = e; table-is = w; tree = T }
 
@@ -44,7 +44,7 @@ module _ (valued : Bool) (ws : List ℕ) (h : sized ws ≡ true) (T : Tree value
       ws′ ≡ table (length ws) (change (nodes ws) c) → Stepped valued ws c number ws′
   done c number ws′ e z w =
       let t : eqb (answer valued (rows ws) (nodes ws) c) 0 ≡ true = eq-eqb _ _ (sym e ∙ z) in
-      let w′ : ws′ ≡ table (length ws) (step valued (rows ws) (nodes ws) c) = w ∙ ap (table (length ws)) (sym (step-ok valued (rows ws) (nodes ws) c t)) in
+      let w′ : ws′ ≡ stepped-table valued ws c = w ∙ ap (table (length ws)) (sym (step-ok valued (rows ws) (nodes ws) c t)) in
       record { number-is = e; table-is = w′; tree = subst (Tree valued) (sym w′) (step-tree valued ws h T c) }
 
   -- behind the used rows stand zeros

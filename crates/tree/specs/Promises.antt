@@ -12,10 +12,14 @@ pub record Called (valued : Bool) (ws : List ℕ) (c : Call) (number : ℕ) (ws�
   pub number-is : number ≡ call-number valued ws c
   pub table-is : ws′ ≡ call-table valued ws c
 
+-- the table after the machine's step on its nodes
+abbrev pub stepped-table : Bool → List ℕ → Call → List ℕ
+stepped-table valued ws c = table (length ws) (step valued (rows ws) (nodes ws) c)
+
 -- add or commit of a tree: the machine's number and the machine's table; it is a tree again
 pub record Stepped (valued : Bool) (ws : List ℕ) (c : Call) (number : ℕ) (ws′ : List ℕ) : Type 0 where
   pub number-is : number ≡ answer valued (rows ws) (nodes ws) c
-  pub table-is : ws′ ≡ table (length ws) (step valued (rows ws) (nodes ws) c)
+  pub table-is : ws′ ≡ stepped-table valued ws c
   pub tree : Tree valued ws′
 
 -- path of any table: 01's number, how many rounds, and the slice lent for them
