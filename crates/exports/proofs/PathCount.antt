@@ -10,8 +10,8 @@ use borrow.Author.Tests.{eqb-true, not-false}
 use Rattle.laws.specs.Tests.{by-test}
 use Rattle.laws.specs.First.{_gives_, passed}
 use Rattle.ids.specs.Ranges.{above-range}
-use Rattle.quorum_tree.specs.Machine.{present, path}
-use Rattle.quorum_tree.specs.Table.{nodes, used, table-causes, path-number, path-count}
+use Rattle.tree_theory.specs.Machine.{present, path}
+use Rattle.tree_theory.specs.Table.{nodes, used, table-causes, path-number, path-count}
 use Rattle.tree.proofs.PathCalls.{path-of}
 
 pub count-fits : (ws : List ℕ) (r : ℕ) (out : List ℕ) → path-count true ws r out ≤ 1024

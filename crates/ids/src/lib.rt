@@ -2,7 +2,7 @@
 ghost use mathlib.Core.Path.{_≡_};
 ghost use mathlib.Core.Bool.{not};
 ghost use Prim.Native.Nat.{_<_, _%_};
-ghost use Rattle.ids.specs.Ranges.{out-of-range};
+ghost use Rattle.ids.specs.Ranges.{above-range, out-of-range};
 
 pub struct Round(pub u32);
 
@@ -11,17 +11,28 @@ pub struct Member(pub u32);
 // The highest round.
 pub const LAST_ROUND: u32 = 1000000;
 
+// Whether a number is above every round.
+pub fn above_range(x: u64) -> bool
+    ensures { λ b. ⌜ b ≡ above-range x ⌝ }
+{
+    (LAST_ROUND as u64) < x
+}
+
+// Whether a number, as a word of a table holds it, is a round: one of 1 to 1,000,000.
+pub fn number_in_range(x: u64) -> bool
+    ensures { λ b. ⌜ b ≡ not (out-of-range x) ⌝ }
+{
+    if x == 0 {
+        return false;
+    }
+    !above_range(x)
+}
+
 // Whether a round is one of 1 to 1,000,000.
 pub fn in_range(r: Round) -> bool
     ensures { λ b. ⌜ b ≡ not (out-of-range (r .0)) ⌝ }
 {
-    if r.0 == 0 {
-        return false;
-    }
-    if LAST_ROUND < r.0 {
-        return false;
-    }
-    true
+    number_in_range(r.0 as u64)
 }
 
 // The leader of round r in an office of n members: r mod n.

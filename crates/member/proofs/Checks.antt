@@ -10,13 +10,13 @@ use Rattle.laws.specs.First.{Cause, first, passed}
 use Rattle.ids.specs.declared.Round.{Round}
 use Rattle.ids.specs.declared.Member.{Member}
 use Rattle.member_record.specs.declared.MemberState.{MemberState}
-use Rattle.member_refusals.specs.declared.Refusal.{Refusal}
-use Rattle.member_refusals.specs.declared.Check.{Check}
-use Rattle.member_refusals.specs.declared.Check.the-variants.{Pass, Refused}
-use Rattle.member_refusals.specs.Causes.{count-causes}
-use Rattle.member_refusals.specs.Refusals.{refusal-number, check-number}
-use Rattle.member_refusals.proofs.Refusals.{numbered}
-use Rattle.member_changes.specs.Changes.{adopting}
+use Rattle.member_rules.specs.declared.refusals.Refusal.{Refusal}
+use Rattle.member_rules.specs.declared.refusals.Check.{Check}
+use Rattle.member_rules.specs.declared.refusals.Check.the-variants.{Pass, Refused}
+use Rattle.member_rules.specs.Causes.{count-causes}
+use Rattle.member_rules.specs.Refusals.{refusal-number, check-number}
+use Rattle.member_rules.proofs.Refusals.{numbered}
+use Rattle.member_rules.specs.Changes.{adopting}
 use Rattle.member.specs.Table.{Outcome, refused, silent, unless, complete, at-quorum}
 
 -- the causes, the record, what the row says, and the check

@@ -21,8 +21,8 @@ use Rattle.message.specs.declared.Message.the-variants.{Start, Join, JoinVoted,
 use Rattle.message.specs.Fields.{head-in-range, in-range}
 use Rattle.member_record.specs.declared.MemberState.{MemberState}
 use Rattle.member_record.specs.Record.{leads, flag, flagged, flag-from, no-flags, sound}
-use Rattle.member_refusals.specs.Causes.{start-causes, START-causes, awaits, count-causes}
-use Rattle.member_changes.specs.Changes.{leading, joining, join-of, counting, adopted, adopting, voting}
+use Rattle.member_rules.specs.Causes.{start-causes, START-causes, awaits, count-causes}
+use Rattle.member_rules.specs.Changes.{leading, joining, join-of, counting, adopted, adopting, voting}
 use Rattle.member.specs.Table.{Outcome, silent, start-row, START-row, complete, at-quorum, proposes, JOIN-row, PROPOSE-row, decides, VOTE-row, Event, start, deliver, fitting, causes, row, sound-step, step}
 use Rattle.member.specs.Kept.{Kept}
 use Rattle.member_record.proofs.Flags.{number-sizes, cleared-short, cleared-from, set-count, set-from}

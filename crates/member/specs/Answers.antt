@@ -1,7 +1,7 @@
 -- 01's number and values for every case of the answers.
 use mathlib.Core.List.{[], _∷_}
 use Rattle.member_record.specs.declared.MemberState.{MemberState}
-use Rattle.member_refusals.specs.Refusals.{refusal-number}
+use Rattle.member_rules.specs.Refusals.{refusal-number}
 use Rattle.member.specs.declared.Answer.{Answer}
 use Rattle.member.specs.declared.Answer.the-variants.{Refused, Sent, Done, Proposed, Decided}
 use Rattle.member.specs.declared.Step.{Step}

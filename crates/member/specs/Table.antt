@@ -12,8 +12,8 @@ use Rattle.message.specs.declared.Message.the-variants.{Start, Join, JoinVoted,
 use Rattle.message.specs.Fields.{in-range}
 use Rattle.member_record.specs.declared.MemberState.{MemberState}
 use Rattle.member_record.specs.Record.{flagged, sound, sound-number, fresh}
-use Rattle.member_refusals.specs.Causes.{start-causes, START-causes, count-causes, PROPOSE-causes}
-use Rattle.member_changes.specs.Changes.{leading, joining, join-of, counting, adopting, proposing, voting, deciding}
+use Rattle.member_rules.specs.Causes.{start-causes, START-causes, count-causes, PROPOSE-causes}
+use Rattle.member_rules.specs.Changes.{leading, joining, join-of, counting, adopting, proposing, voting, deciding}
 
 -- what an answer names
 pub data Named : Type 0 where

@@ -1,2 +1,3 @@
--- The meanings of the member calls.
+-- The meaning of a call's result.
+pub mod Reports
 pub mod Calls

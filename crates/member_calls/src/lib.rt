@@ -1,19 +1,21 @@
 // The member calls of 01, "Members", by value: a record in and out, and a reply buffer that what is sent is put in.
+pub mod reply;
+
 use ids::Member;
 use ids::Round;
 use member_record::MemberState;
 use member_record::blank;
 use member_record::is_sound;
 use member_record::number_sound;
-use member_reply::Called;
-use member_reply::give;
-use member_reply::refuse;
-use member_reply::tell;
+use crate::reply::Called;
+use crate::reply::give;
+use crate::reply::refuse;
+use crate::reply::tell;
 use message::LONGEST;
 use message::Read;
 ghost use mathlib.Core.Path.{_≡_};
 ghost use Rattle.laws.specs.First.{first};
-ghost use Rattle.member_reply.specs.Reports.{Answers, Replies};
+ghost use Rattle.member_calls.specs.Reports.{Answers, Replies};
 ghost use Rattle.member_calls.specs.Calls.{record-row, fresh-call, start-call, deliver-call};
 
 // The causes of the row "record, then buffer".

@@ -8,8 +8,8 @@ use ids::Round;
 use libc::STDIN_FILENO;
 use libc::STDOUT_FILENO;
 use member_record::MemberState;
-use member_reply::Called;
-use member_reply::Report;
+use member_calls::reply::Called;
+use member_calls::reply::Report;
 ghost use Prim.Native.Nat.{_+_, _≤_};
 ghost use lib.ListN.{length};
 

@@ -6,7 +6,7 @@ use message::Message;
 use message::Written;
 ghost use Prim.Native.Nat.{_≤_};
 ghost use lib.ListN.{length};
-ghost use Rattle.writer.specs.Put.{Fronts};
+ghost use Rattle.xdr_writer.specs.Put.{Fronts};
 ghost use Rattle.message.specs.Layout.{head, words};
 ghost use Rattle.message.specs.Writing.{Writes};
 
@@ -15,9 +15,9 @@ fn put_head(buf: &mut [u8], kind: u32, round: Round, sender: Member) -> usize
     requires { ⌜ 12 ≤ length (now buf) ⌝ }
     ensures { λ n. ⌜ Fronts (head kind round sender) (now (buf .entry)) n (now (buf .exit)) ⌝ }
 {
-    let at = writer::write_word(buf, 0, kind);
-    let at = writer::write_word(buf, at, round.0);
-    writer::write_word(buf, at, sender.0)
+    let at = xdr_writer::write_word(buf, 0, kind);
+    let at = xdr_writer::write_word(buf, at, round.0);
+    xdr_writer::write_word(buf, at, sender.0)
 }
 
 // Writes a message at the front of a buffer that has room for any, word by word, and answers its length.
@@ -29,7 +29,7 @@ fn put_message(m: Message, buf: &mut [u8]) -> usize
         Message::Start { round, sender } => put_head(buf, 1, round, sender),
         Message::Join { round, sender } => {
             let at = put_head(buf, 2, round, sender);
-            writer::write_word(buf, at, 0)
+            xdr_writer::write_word(buf, at, 0)
         }
         Message::JoinVoted {
             round,
@@ -38,9 +38,9 @@ fn put_message(m: Message, buf: &mut [u8]) -> usize
             value,
         } => {
             let at = put_head(buf, 2, round, sender);
-            let at = writer::write_word(buf, at, 1);
-            let at = writer::write_word(buf, at, voted.0);
-            writer::write_hyper(buf, at, value)
+            let at = xdr_writer::write_word(buf, at, 1);
+            let at = xdr_writer::write_word(buf, at, voted.0);
+            xdr_writer::write_hyper(buf, at, value)
         }
         Message::Propose {
             round,
@@ -48,7 +48,7 @@ fn put_message(m: Message, buf: &mut [u8]) -> usize
             value,
         } => {
             let at = put_head(buf, 3, round, sender);
-            writer::write_hyper(buf, at, value)
+            xdr_writer::write_hyper(buf, at, value)
         }
         Message::Vote { round, sender } => put_head(buf, 4, round, sender),
     }

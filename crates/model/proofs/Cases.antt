@@ -4,7 +4,7 @@ use mathlib.Core.Path.{_≡_, refl}
 use mathlib.Core.Bool.{true}
 use mathlib.Core.List.{List, [], _∷_, _++_, map}
 use Prim.Native.Nat.{ℕ}
-use Rattle.quorum_tree.specs.Machine.{Call, add, commit, fresh, after, answers, causes, answer, change, step, find, path-in, struck, new-node, committed}
+use Rattle.tree_theory.specs.Machine.{Call, add, commit, fresh, after, answers, causes, answer, change, step, find, path-in, struck, new-node, committed}
 use Rattle.xdr.specs.Words.{word, word-at}
 use Rattle.xdr.specs.Items.{integer, encoded}
 use Rattle.message.specs.declared.Message.{Message}

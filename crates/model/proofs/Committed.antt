@@ -10,10 +10,10 @@ use borrow.Author.Tests.{not-false, eq-eqb}
 use Rattle.laws.specs.Tests.{tests, by-test, clash, and-left, or-left, or-right}
 use Rattle.laws.specs.Lists.{_∈_, any, any-none, none-any, cut}
 use Rattle.laws.specs.First.{passed}
-use Rattle.quorum_tree.specs.Machine.{Call, add, commit, Node, ADDED, COMMITTED, has-round, present, find, above, strikes, struck, new-node, committed, causes, answer, change, step, after, answers}
-use Rattle.quorum_tree.proofs.Grown.{Grown, placed-cut}
-use Rattle.quorum_tree.proofs.History.{step-ok}
-use Rattle.quorum_tree.proofs.Steps.{step-grown}
+use Rattle.tree_theory.specs.Machine.{Call, add, commit, Node, ADDED, COMMITTED, has-round, present, find, above, strikes, struck, new-node, committed, causes, answer, change, step, after, answers}
+use Rattle.tree_theory.proofs.Grown.{Grown, placed-cut}
+use Rattle.tree_theory.proofs.History.{step-ok}
+use Rattle.tree_theory.proofs.Steps.{step-grown}
 use Rattle.model.specs.Counts.{committed-nodes}
 
 append-count : (l k : List Node) → committed-nodes (l ++ k) ≡ committed-nodes l + committed-nodes k

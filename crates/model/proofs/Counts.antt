@@ -20,7 +20,7 @@ use Rattle.message.specs.declared.Message.{Message}
 use Rattle.message.specs.declared.Message.the-variants.{Start, Join, JoinVoted, Propose, Vote}
 use Rattle.member_record.specs.declared.MemberState.{MemberState}
 use Rattle.member_record.specs.Record.{flag, flagged, flag-from, no-flags}
-use Rattle.member_changes.specs.Changes.{counting, adopted}
+use Rattle.member_rules.specs.Changes.{counting, adopted}
 use Rattle.member.specs.Table.{complete}
 use Rattle.member_record.proofs.Sound.{parts, sound-size}
 use Rattle.member_record.proofs.Flags.{counts-agree, set-from}

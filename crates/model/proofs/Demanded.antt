@@ -7,14 +7,14 @@ use Prim.Native.Nat.{ℕ, _<_}
 use lib.ListN.{length}
 use borrow.Author.Tests.{eqb-true}
 use Rattle.laws.specs.Lists.{_∈_}
-use Rattle.quorum_tree.specs.Machine.{Call, Node, COMMITTED, fresh, after}
-use Rattle.quorum_tree.specs.Table.{table}
-use Rattle.quorum_tree.specs.Properties.{Properties, InRange, AllOk, adds-in, history}
-use Rattle.quorum_tree.proofs.Calls.{commits-intro}
-use Rattle.quorum_tree.proofs.Rebuilt.{made, in-added, history-committed, round-positive}
-use Rattle.quorum_tree.proofs.History.{Told}
-use Rattle.quorum_tree.proofs.FourProperties.{told-ok, ok-exactly}
-use Rattle.quorum_tree.proofs.Agreement.{agreement}
+use Rattle.tree_theory.specs.Machine.{Call, Node, COMMITTED, fresh, after}
+use Rattle.tree_theory.specs.Table.{table}
+use Rattle.tree_theory.specs.Properties.{Properties, InRange, AllOk, adds-in, history}
+use Rattle.tree_theory.proofs.Calls.{commits-intro}
+use Rattle.tree_theory.proofs.Rebuilt.{made, in-added, history-committed, round-positive}
+use Rattle.tree_theory.proofs.History.{Told}
+use Rattle.tree_theory.proofs.FourProperties.{told-ok, ok-exactly}
+use Rattle.tree_theory.proofs.Agreement.{agreement}
 use Rattle.member_record.specs.Record.{allowed}
 use Rattle.member.specs.Table.{decision}
 use Rattle.model.specs.Model.{Sizes, Event, first-office, offered}

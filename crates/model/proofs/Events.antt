@@ -11,14 +11,14 @@ use Rattle.laws.specs.Lists.{_∈_}
 use Rattle.laws.specs.First.{first, passed}
 use Rattle.ids.specs.declared.Round.{Round}
 use Rattle.ids.specs.declared.Member.{Member}
-use Rattle.quorum_tree.proofs.Calls.{none}
+use Rattle.tree_theory.proofs.Calls.{none}
 use Rattle.message.specs.declared.Message.{Message}
 use Rattle.message.specs.declared.Message.the-variants.{Start, Join, JoinVoted, Propose, Vote}
 use Rattle.message.specs.Fields.{in-range, head-in-range, vote-in-range}
 use Rattle.member_record.specs.declared.MemberState.{MemberState}
 use Rattle.member_record.specs.Record.{allowed, fresh, round}
-use Rattle.member_refusals.specs.Causes.{START-causes, start-causes, count-causes, PROPOSE-causes, awaits}
-use Rattle.member_changes.specs.Changes.{adopted, adopting}
+use Rattle.member_rules.specs.Causes.{START-causes, start-causes, count-causes, PROPOSE-causes, awaits}
+use Rattle.member_rules.specs.Changes.{adopted, adopting}
 use Rattle.member.specs.Table.{JOIN-row, causes, row}
 use Rattle.member.specs.Table.{deliver as delivers}
 use Rattle.model.specs.Model.{Sizes, Event, start, deliver, Office, member-number, first-office, member-at, message-at, at-member, outcome, proposes-one, proposals, answer, next, after, offer-of, offers-at, offered}

@@ -6,7 +6,7 @@ use mathlib.Core.List.{List}
 use Prim.Native.Nat.{ℕ, _<_, _≤_, _%_}
 use Rattle.laws.specs.Lists.{_∈_}
 use Rattle.quorum.specs.Quorum.{Quorum, quorum}
-use Rattle.quorum_tree.specs.Properties.{Properties, InRange}
+use Rattle.tree_theory.specs.Properties.{Properties, InRange}
 use Rattle.message.specs.declared.Message.{Message}
 use Rattle.message.specs.declared.Message.the-variants.{Start, Join, JoinVoted, Propose, Vote}
 use Rattle.member_record.specs.declared.MemberState.{MemberState}

@@ -5,8 +5,8 @@ use Prim.Native.Nat.{ℕ, suc, _+_}
 use native.Mathlib.Omega.{arith}
 use Rattle.laws.specs.Tests.{impossible}
 use Rattle.laws.specs.Lists.{_∈_}
-use Rattle.quorum_tree.specs.Machine.{add, commit}
-use Rattle.quorum_tree.specs.Properties.{adds-in}
+use Rattle.tree_theory.specs.Machine.{add, commit}
+use Rattle.tree_theory.specs.Properties.{adds-in}
 use Rattle.member.specs.Table.{Named, nothing, proposal, decision}
 use Rattle.model.specs.Model.{proposals}
 use Rattle.model.specs.Demand.{calls}

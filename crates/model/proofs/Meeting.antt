@@ -11,9 +11,9 @@ use Rattle.laws.specs.Lists.{_∈_, by-last, every-snoc, none-any}
 use Rattle.ids.specs.Ranges.{out-of-range}
 use Rattle.quorum.specs.Quorum.{Quorum}
 use Rattle.quorum.proofs.Meet.{wider, both, of-odd}
-use Rattle.quorum_tree.specs.Machine.{Call, add, commit, crosses}
-use Rattle.quorum_tree.specs.Properties.{round-of, adds, commits, edge-crosses}
-use Rattle.quorum_tree.proofs.Calls.{Next, grow, adds-intro, adds-with-intro}
+use Rattle.tree_theory.specs.Machine.{Call, add, commit, crosses}
+use Rattle.tree_theory.specs.Properties.{round-of, adds, commits, edge-crosses}
+use Rattle.tree_theory.proofs.Calls.{Next, grow, adds-intro, adds-with-intro}
 use Rattle.message.specs.declared.Message.{Message}
 use Rattle.member_record.specs.Record.{allowed}
 use Rattle.member.specs.Table.{Named, proposal, decision}

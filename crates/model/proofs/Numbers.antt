@@ -15,13 +15,13 @@ use Rattle.laws.specs.Numbers.{first-has}
 use Rattle.ids.specs.declared.Round.{Round}
 use Rattle.ids.specs.declared.Member.{Member}
 use Rattle.ids.specs.Ranges.{out-of-range, above-range}
-use Rattle.quorum_tree.proofs.Calls.{unique}
+use Rattle.tree_theory.proofs.Calls.{unique}
 use Rattle.message.specs.declared.Message.{Message}
 use Rattle.message.specs.declared.Message.the-variants.{Start, Join, JoinVoted, Propose, Vote}
 use Rattle.member_record.specs.declared.MemberState.{MemberState}
 use Rattle.member_record.specs.Record.{allowed, leads, round}
-use Rattle.member_refusals.specs.Causes.{start-causes, START-causes, count-causes, other-vote, PROPOSE-causes}
-use Rattle.member_changes.specs.Changes.{counting, adopting}
+use Rattle.member_rules.specs.Causes.{start-causes, START-causes, count-causes, other-vote, PROPOSE-causes}
+use Rattle.member_rules.specs.Changes.{counting, adopting}
 use Rattle.member.specs.Table.{Outcome, silent, complete, proposes, decides, causes, row, sound-step}
 use Rattle.member.specs.Table.{Event as MemberEvent, start as starts, deliver as delivers}
 use Rattle.model.specs.Model.{Sizes, Event, start, deliver, Office, first-office, member-at, message-at, at-member, unsent, event-of, outcome, absent, no-store-row, no-table-row, sends-one, proposes-one, proposals, answer, offered}

@@ -4,8 +4,8 @@ use mathlib.Core.Path.{_≡_, refl}
 use mathlib.Core.List.{List, [], _∷_}
 use Prim.Native.Nat.{ℕ}
 use Rattle.quorum.specs.Count.{some}
-use Rattle.quorum_tree.specs.Machine.{ADDED, COMMITTED, node, add, commit, struck, new-node, find, path-in, committed}
-use Rattle.quorum_tree.specs.Machine.{after as after-calls}
+use Rattle.tree_theory.specs.Machine.{ADDED, COMMITTED, node, add, commit, struck, new-node, find, path-in, committed}
+use Rattle.tree_theory.specs.Machine.{after as after-calls}
 use Rattle.model.specs.Model.{Sizes, Event, start, deliver, first-office, after, answers, offered}
 use Rattle.model.specs.Demand.{calls, ended}
 use Rattle.model.specs.Counts.{tree}

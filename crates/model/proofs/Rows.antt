@@ -13,13 +13,13 @@ use Rattle.laws.specs.First.{Passed}
 use Rattle.ids.specs.declared.Round.{Round}
 use Rattle.ids.specs.declared.Member.{Member}
 use Rattle.quorum.specs.Quorum.{Quorum}
-use Rattle.quorum_tree.proofs.Calls.{adds-elim, committed-added}
+use Rattle.tree_theory.proofs.Calls.{adds-elim, committed-added}
 use Rattle.message.specs.declared.Message.{Message}
 use Rattle.message.specs.declared.Message.the-variants.{Start, Join, JoinVoted, Propose, Vote}
 use Rattle.member_record.specs.declared.MemberState.{MemberState}
 use Rattle.member_record.specs.Record.{leads, round}
-use Rattle.member_refusals.specs.Causes.{start-causes, START-causes, PROPOSE-causes}
-use Rattle.member_changes.specs.Changes.{leading, join-of, counting}
+use Rattle.member_rules.specs.Causes.{start-causes, START-causes, PROPOSE-causes}
+use Rattle.member_rules.specs.Changes.{leading, join-of, counting}
 use Rattle.member.specs.Table.{proposal, decision, silent, start-row, START-row, complete, proposes, JOIN-row, PROPOSE-row, decides, VOTE-row}
 use Rattle.model.specs.Model.{Sizes, Office, member-number, proposals, proposes-one}
 use Rattle.model.specs.Demand.{calls}

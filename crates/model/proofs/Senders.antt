@@ -14,7 +14,7 @@ use Rattle.ids.specs.declared.Member.{Member}
 use Rattle.message.specs.declared.Message.{Message}
 use Rattle.message.specs.declared.Message.the-variants.{Start, Join, JoinVoted, Propose, Vote}
 use Rattle.member_record.specs.declared.MemberState.{MemberState}
-use Rattle.member_changes.specs.Changes.{counting, adopting, adopted, join-of}
+use Rattle.member_rules.specs.Changes.{counting, adopting, adopted, join-of}
 use Rattle.member.specs.Table.{Outcome, refused, silent, complete, proposes, decides, Event, start, deliver, causes, row, unfit, sound-step, step}
 
 abbrev pub sender : Message → ℕ

@@ -6,13 +6,13 @@ use mathlib.Core.List.{List, [], _∷_, _++_}
 use Prim.Native.Nat.{ℕ, suc, _<_}
 use native.Mathlib.Omega.{arith}
 use lib.ListN.{length}
-use Rattle.quorum_tree.specs.Machine.{Call, add, commit, fresh, step}
-use Rattle.quorum_tree.specs.Machine.{answer as answer-call, after as after-calls}
-use Rattle.quorum_tree.specs.Properties.{Properties, InRange, adds-in}
-use Rattle.quorum_tree.proofs.Rebuilt.{length-added}
-use Rattle.quorum_tree.proofs.History.{told-fresh, told-grown}
-use Rattle.quorum_tree.proofs.FourProperties.{next-ok}
-use Rattle.quorum_tree.proofs.Steps.{after-append}
+use Rattle.tree_theory.specs.Machine.{Call, add, commit, fresh, step}
+use Rattle.tree_theory.specs.Machine.{answer as answer-call, after as after-calls}
+use Rattle.tree_theory.specs.Properties.{Properties, InRange, adds-in}
+use Rattle.tree_theory.proofs.Rebuilt.{length-added}
+use Rattle.tree_theory.proofs.History.{told-fresh, told-grown}
+use Rattle.tree_theory.proofs.FourProperties.{next-ok}
+use Rattle.tree_theory.proofs.Steps.{after-append}
 use Rattle.member_record.specs.Record.{allowed}
 use Rattle.member.specs.Table.{Named, nothing, proposal, decision}
 use Rattle.model.specs.Model.{Sizes, Event, Office, first-office, outcome, answer, made-by, taken, proposals}

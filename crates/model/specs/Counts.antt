@@ -4,8 +4,8 @@ use mathlib.Core.Bool.{true, cond}
 use mathlib.Core.List.{List, [], _∷_}
 use Prim.Native.Nat.{ℕ, suc}
 use lib.Dec.{eqb}
-use Rattle.quorum_tree.specs.Machine.{Node, COMMITTED, fresh}
-use Rattle.quorum_tree.specs.Machine.{after as after-calls}
+use Rattle.tree_theory.specs.Machine.{Node, COMMITTED, fresh}
+use Rattle.tree_theory.specs.Machine.{after as after-calls}
 use Rattle.member.specs.Table.{Named, nothing, proposal, decision}
 use Rattle.model.specs.Model.{Sizes, Office, Event, answer, next}
 use Rattle.model.specs.Demand.{calls}

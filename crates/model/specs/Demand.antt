@@ -5,10 +5,10 @@ use mathlib.Core.List.{List, [], _∷_, _++_}
 use Prim.Native.Nat.{ℕ}
 use lib.ListN.{length}
 use Rattle.laws.specs.Lists.{_∈_}
-use Rattle.quorum_tree.specs.Machine.{Call, add, commit, fresh}
-use Rattle.quorum_tree.specs.Machine.{after as after-calls}
-use Rattle.quorum_tree.specs.Table.{table}
-use Rattle.quorum_tree.specs.Properties.{AllOk}
+use Rattle.tree_theory.specs.Machine.{Call, add, commit, fresh}
+use Rattle.tree_theory.specs.Machine.{after as after-calls}
+use Rattle.tree_theory.specs.Table.{table}
+use Rattle.tree_theory.specs.Properties.{AllOk}
 use Rattle.member.specs.Table.{Named, nothing, proposal, decision}
 use Rattle.model.specs.Model.{Sizes, Event, Office, first-office, after, offered}
 

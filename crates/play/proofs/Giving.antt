@@ -8,21 +8,21 @@ use native.Mathlib.Omega.{arith}
 use lib.ListN.{length, drop, replicate, length-replicate}
 use borrow.Author.Tests.{lt-ltb, le-ltb}
 use Rattle.laws.specs.Tests.{by-test}
-use Rattle.quorum_tree.specs.Machine.{fresh}
-use Rattle.quorum_tree.specs.Table.{nodes, rows, sized, table, fresh-number, fresh-table}
-use Rattle.quorum_tree.proofs.Words.{length-table, nodes-table}
-use Rattle.quorum_tree.proofs.History.{all-grown}
-use Rattle.quorum_tree.proofs.Trees.{sized-rows, grown-fit, grown-stated}
-use Rattle.quorum_tree.proofs.Steps.{fresh-written}
+use Rattle.tree_theory.specs.Machine.{fresh}
+use Rattle.tree_theory.specs.Table.{nodes, rows, sized, table, fresh-number, fresh-table}
+use Rattle.tree_theory.proofs.Words.{length-table, nodes-table}
+use Rattle.tree_theory.proofs.History.{all-grown}
+use Rattle.tree_theory.proofs.Trees.{sized-rows, grown-fit, grown-stated}
+use Rattle.tree_theory.proofs.Steps.{fresh-written}
 use Rattle.member_record.specs.Record.{allowed}
 use Rattle.model.specs.Model.{Sizes, first-office, answers, proposals}
 use Rattle.model.specs.Demand.{calls, ended}
 use Rattle.model.specs.Counts.{tree, zeros, decisions, committed-nodes}
 use Rattle.model.proofs.Demanded.{demand}
 use Rattle.model.proofs.Tree.{nodes-counted, committed-counted}
-use Rattle.events.specs.List.{members-of, count-of, list-fits, events-of}
-use Rattle.store.specs.Rows.{store-sized, stored}
-use Rattle.store.proofs.Stored.{cleared}
+use Rattle.play_events.specs.List.{members-of, count-of, list-fits, events-of}
+use Rattle.play_store.specs.Rows.{store-sized, stored}
+use Rattle.play_store.proofs.Stored.{cleared}
 use Rattle.play.specs.declared.answers.Counts.{Counts}
 use Rattle.play.specs.declared.answers.ListRefusal.{ListRefusal}
 use Rattle.play.specs.declared.answers.ListRefusal.the-variants.{NotExact, Members, StoreOrAnswers, TableLength}

@@ -11,24 +11,24 @@ use lib.Dec.{leb, eqb}
 use borrow.Author.Tests.{leb-true}
 use Rattle.laws.specs.Tests.{by-test, and-left, and-right}
 use Rattle.xdr.specs.Words.{Bytes}
-use Rattle.quorum_tree.specs.Machine.{after}
-use Rattle.quorum_tree.specs.Table.{sized, table}
+use Rattle.tree_theory.specs.Machine.{after}
+use Rattle.tree_theory.specs.Table.{sized, table}
 use Rattle.member_record.specs.Record.{fresh as fresh-member}
 use Rattle.model.specs.Model.{Event, at-member, member-number, fresh-members, first-office, answers, proposals}
 use Rattle.model.specs.Model.{after as ended-from}
 use Rattle.model.specs.Demand.{calls, ended}
 use Rattle.model.specs.Counts.{tree, zeros, decisions}
 use Rattle.model.proofs.Fold.{after-last, answers-last, length-answers, zeros-append}
-use Rattle.events.specs.List.{members-of, count-of, body, list-fits, exact, events-in, events-of, event-at, event-size, behind, rest}
-use Rattle.events.proofs.Events.{events-suc, behind-suc, length-events, due-stands, offers-small, bytes-left}
-use Rattle.store.specs.Rows.{store-sized, stored}
+use Rattle.play_events.specs.List.{members-of, count-of, body, list-fits, exact, events-in, events-of, event-at, event-size, behind, rest}
+use Rattle.play_events.proofs.Events.{events-suc, behind-suc, length-events, due-stands, offers-small, bytes-left}
+use Rattle.play_store.specs.Rows.{store-sized, stored}
 use Rattle.member_record.specs.declared.MemberState.{MemberState}
-use Rattle.office_effects.specs.declared.Tally.{Tally}
-use Rattle.office.specs.declared.Office.{Office}
-use Rattle.office.specs.Standing.{Held, Lent, Reached, Stands, Standing, Seated, Works, Next, fresh-office, office-of, place-of}
+use Rattle.play_effects.specs.declared.Tally.{Tally}
+use Rattle.play_office.specs.declared.Office.{Office}
+use Rattle.play_office.specs.Standing.{Held, Lent, Reached, Stands, Standing, Seated, Works, Next, fresh-office, office-of, place-of}
 use Rattle.play.specs.Promise.{sizes-of, one, Ready, Worked}
-use Rattle.office.proofs.Memory.{default, place-below, sent-few, proposals-few, decisions-few}
-use Rattle.office.proofs.Facing.{allowed-seven}
+use Rattle.play_office.proofs.Memory.{default, place-below, sent-few, proposals-few, decisions-few}
+use Rattle.play_office.proofs.Facing.{allowed-seven}
 
 -- elements below 256 are bytes
 pub bytes-of : (s : List ℕ) → ((i : ℕ) → getD s i 0 < 256) → Bytes s

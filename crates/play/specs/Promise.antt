@@ -6,14 +6,14 @@ use Prim.Native.Nat.{ℕ, suc, _/_, _≤_}
 use lib.ListN.{length, drop}
 use lib.Dec.{ltb, eqb}
 use Rattle.laws.specs.First.{Cause, _gives_, first}
-use Rattle.quorum_tree.specs.Machine.{fresh}
-use Rattle.quorum_tree.specs.Table.{sized, nodes, table}
+use Rattle.tree_theory.specs.Machine.{fresh}
+use Rattle.tree_theory.specs.Table.{sized, nodes, table}
 use Rattle.member_record.specs.Record.{allowed}
 use Rattle.model.specs.Model.{Sizes, Event, first-office, answers, proposals}
 use Rattle.model.specs.Demand.{Demand, ended}
 use Rattle.model.specs.Counts.{tree, zeros, decisions, committed-nodes}
-use Rattle.events.specs.List.{members-of, count-of, list-fits, events-of}
-use Rattle.store.specs.Rows.{store-sized, stored}
+use Rattle.play_events.specs.List.{members-of, count-of, list-fits, events-of}
+use Rattle.play_store.specs.Rows.{store-sized, stored}
 use Rattle.play.specs.declared.answers.Counts.{Counts}
 use Rattle.play.specs.Answers.{no-counts}
 

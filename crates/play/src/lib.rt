@@ -24,18 +24,18 @@ fn run(list: &[u8], messages: &mut [u8], nodes: &mut [u64], answered: &mut [u8])
     ensures { λ c. ⌜ Ran (now (list .entry)) (now (messages .entry)) (now (nodes .entry)) (now (answered .entry)) c (now (messages .exit)) (now (nodes .exit)) (now (answered .exit)) ⌝ }
 {
     let count = xdr::word_at(list, 4) as usize;
-    let first = office::fresh_office(xdr::word_at(list, 0));
+    let first = play_office::fresh_office(xdr::word_at(list, 0));
     let mut members = first.members;
     let mut tally = first.tally;
     let mut accepted: u32 = 0;
     let mut at: usize = 8;
     let mut k: usize = 0;
     while k < count {
-        let e = events::read_event(&list[at..]);
-        at += events::event_size(&list[at..]);
-        let i = office_event::place(e);
+        let e = play_events::read_event(&list[at..]);
+        at += play_events::event_size(&list[at..]);
+        let i = play_office::event::place(e);
         let m = members[i];
-        let w = office_event::work(tally, m, e, messages, nodes);
+        let w = play_office::event::work(tally, m, e, messages, nodes);
         let state = w.state;
         members[i] = state;
         tally = w.tally;
@@ -55,13 +55,13 @@ fn run(list: &[u8], messages: &mut [u8], nodes: &mut [u64], answered: &mut [u8])
 pub fn play(list: &[u8], messages: &mut [u8], nodes: &mut [u64], answered: &mut [u8]) -> PlayAnswer
     ensures { λ a. ⌜ Given (now (list .entry)) (now (messages .entry)) (now (nodes .entry)) (now (answered .entry)) (answer-number a) (answer-counts a) (now (messages .exit)) (now (nodes .exit)) (now (answered .exit)) ⌝ }
 {
-    if !events::fits(list) {
+    if !play_events::fits(list) {
         return PlayAnswer::Refused(ListRefusal::NotExact);
     }
     if !member_record::is_allowed(xdr::word_at(list, 0)) {
         return PlayAnswer::Refused(ListRefusal::Members);
     }
-    if !store::has_store_length(messages) {
+    if !play_store::has_store_length(messages) {
         return PlayAnswer::Refused(ListRefusal::StoreOrAnswers);
     }
     if answered.len() < xdr::word_at(list, 4) as usize {
@@ -70,6 +70,6 @@ pub fn play(list: &[u8], messages: &mut [u8], nodes: &mut [u64], answered: &mut 
     if tree::fresh(nodes).number() != 0 {
         return PlayAnswer::Refused(ListRefusal::TableLength);
     }
-    store::clear(messages);
+    play_store::clear(messages);
     PlayAnswer::Played(run(list, messages, nodes, answered))
 }

@@ -36,16 +36,16 @@ fn write_answers(answered: &[u8]) {
 fn write_node(nodes: &[u64], i: usize)
     requires { ⌜ 4 * i + 4 ≤ length (now nodes) ⌝ }
 {
-    write_next(table::round_at(nodes, i), true);
-    write_next(table::parent_at(nodes, i), false);
-    write_next(table::value_at(nodes, i), false);
-    write_next(table::status_at(nodes, i), false);
+    write_next(tree_table::round_at(nodes, i), true);
+    write_next(tree_table::parent_at(nodes, i), false);
+    write_next(tree_table::value_at(nodes, i), false);
+    write_next(tree_table::status_at(nodes, i), false);
     end_line();
 }
 
 // A line for each node.
 fn write_nodes(nodes: &[u64]) {
-    let n = table::used_rows(nodes);
+    let n = tree_table::used_rows(nodes);
     let mut i = 0;
     while i < n {
         write_node(nodes, i);

@@ -9,13 +9,13 @@ use lib.Dec.{leb, ltb, eqb}
 use borrow.Author.Tests.{leb-true, ne-eqb}
 use Rattle.laws.specs.Tests.{by-test, and-right, tests}
 use Rattle.ids.specs.Ranges.{above-range}
-use Rattle.quorum_tree.specs.Machine.{present, path}
-use Rattle.quorum_tree.specs.Table.{rows, used, nodes, sized, Tree, is-tree, path-number, path-count, path-slice}
-use Rattle.quorum_tree.proofs.Words.{length-rows, used-rows}
-use Rattle.quorum_tree.proofs.Paths.{path-length}
-use Rattle.quorum_tree.proofs.Trees.{tree-held, is-tree-exact}
-use Rattle.tree_path.specs.Climbed.{PathOf, PathWritten}
-use Rattle.tree_path.proofs.Climbing.{some}
+use Rattle.tree_theory.specs.Machine.{present, path}
+use Rattle.tree_theory.specs.Table.{rows, used, nodes, sized, Tree, is-tree, path-number, path-count, path-slice}
+use Rattle.tree_theory.proofs.Words.{length-rows, used-rows}
+use Rattle.tree_theory.proofs.Paths.{path-length}
+use Rattle.tree_theory.proofs.Trees.{tree-held, is-tree-exact}
+use Rattle.tree_steps.specs.Climbed.{PathOf, PathWritten}
+use Rattle.tree_steps.proofs.Climbing.{some}
 use Rattle.tree.specs.Promises.{PathGiven}
 
 module _ (ws : List ℕ) (r : ℕ) (out : List ℕ) where

@@ -12,17 +12,17 @@ use borrow.Author.Tests.{eq-eqb, ne-eqb, ltb-true, leb-true, leb-false, not-true
 use Rattle.laws.specs.Tests.{by-test, clash, tests, and-left, and-right}
 use Rattle.laws.specs.Lists.{any-intro}
 use Rattle.laws.specs.First.{passed}
-use Rattle.quorum_tree.specs.Machine.{Call, add, commit, COMMITTED, has-round, present, causes, answer, struck, committed, new-node, change}
-use Rattle.quorum_tree.specs.Table.{row, rows, rows-of, used, nodes, words, sized, table, Tree, is-tree, call-number, call-table}
-use Rattle.quorum_tree.proofs.Words.{length-words, length-rows, used-rows, row-in}
-use Rattle.quorum_tree.proofs.Grown.{placed-cut}
-use Rattle.quorum_tree.proofs.Paths.{marked, struck-marked, accepted-parent}
-use Rattle.quorum_tree.proofs.History.{step-ok, step-refused}
-use Rattle.quorum_tree.proofs.Trees.{tree-held}
-use Rattle.quorum_tree.proofs.Steps.{step-tree, tree-number, tree-table}
-use Rattle.table.proofs.Rows.{rows-from, rows-split, Passed, pass-none, pass-on, pass-set, pass-end}
-use Rattle.crossing.specs.Crossed.{strike-crossed}
-use Rattle.tree_commit.specs.Committed.{Committed}
+use Rattle.tree_theory.specs.Machine.{Call, add, commit, COMMITTED, has-round, present, causes, answer, struck, committed, new-node, change}
+use Rattle.tree_theory.specs.Table.{row, rows, rows-of, used, nodes, words, sized, table, Tree, is-tree, call-number, call-table}
+use Rattle.tree_theory.proofs.Words.{length-words, length-rows, used-rows, row-in}
+use Rattle.tree_theory.proofs.Grown.{placed-cut}
+use Rattle.tree_theory.proofs.Paths.{marked, struck-marked, accepted-parent}
+use Rattle.tree_theory.proofs.History.{step-ok, step-refused}
+use Rattle.tree_theory.proofs.Trees.{tree-held}
+use Rattle.tree_theory.proofs.Steps.{step-tree, tree-number, tree-table}
+use Rattle.tree_table.proofs.Rows.{rows-from, rows-split, Passed, pass-none, pass-on, pass-set, pass-end}
+use Rattle.tree_crossing.specs.Crossed.{strike-crossed}
+use Rattle.tree_steps.specs.Committed.{Committed}
 use Rattle.tree.specs.Promises.{stepped-table, Called, Stepped}
 
 drop-zeros : (k n : ℕ) → drop {A = ℕ} k (replicate n 0) ≡ replicate (n - k) 0

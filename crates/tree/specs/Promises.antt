@@ -4,8 +4,8 @@ use mathlib.Core.Bool.{Bool}
 use mathlib.Core.List.{List}
 use Prim.Native.Nat.{ℕ}
 use lib.ListN.{length}
-use Rattle.quorum_tree.specs.Machine.{Call, answer, step}
-use Rattle.quorum_tree.specs.Table.{rows, nodes, table, Tree, call-number, call-table, path-number, path-count, path-slice}
+use Rattle.tree_theory.specs.Machine.{Call, answer, step}
+use Rattle.tree_theory.specs.Table.{rows, nodes, table, Tree, call-number, call-table, path-number, path-count, path-slice}
 
 -- add or commit of any table: 01's number, and the table left
 pub record Called (valued : Bool) (ws : List ℕ) (c : Call) (number : ℕ) (ws′ : List ℕ) : Type 0 where

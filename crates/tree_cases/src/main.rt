@@ -26,14 +26,14 @@ fn node(t: &[u64], i: usize)
     requires { ⌜ 4 * i + 4 ≤ length (now t) ⌝ }
 {
     io::write_all(STDOUT_FILENO, b" |");
-    number(table::round_at(t, i));
-    number(table::parent_at(t, i));
-    number(table::value_at(t, i));
-    number(table::status_at(t, i));
+    number(tree_table::round_at(t, i));
+    number(tree_table::parent_at(t, i));
+    number(tree_table::value_at(t, i));
+    number(tree_table::status_at(t, i));
 }
 
 fn nodes(t: &[u64]) {
-    let n = table::used_rows(t);
+    let n = tree_table::used_rows(t);
     let mut i = 0;
     while i < n {
         node(t, i);

@@ -1,7 +1,7 @@
 -- `message_writer::put_head` meets its contract: three words, one behind another. Assumes nothing.
 use native.Mathlib.Omega.{arith}
 use denote.Ref.{now}
-use Rattle.writer.proofs.Items.{at-front, put-behind}
+use Rattle.xdr_writer.proofs.Items.{at-front, put-behind}
 use borrow.Author.Needs.{needs}
 use Rattle.message_writer.proofs.put_head.Statement.{statement}
 use Rattle.message_writer.proofs.put_head.Tie as tie

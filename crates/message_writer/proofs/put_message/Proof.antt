@@ -1,7 +1,7 @@
 -- `message_writer::put_message` meets its contract, variant by variant: each number that an arm puts behind those before it makes the longer front, up to the whole message.
 -- Assumes nothing.
 use native.Mathlib.Omega.{arith}
-use Rattle.writer.proofs.Items.{put-behind}
+use Rattle.xdr_writer.proofs.Items.{put-behind}
 use Rattle.message.specs.Layout.{words}
 use borrow.Author.Needs.{needs}
 use Rattle.message_writer.proofs.put_message.Statement.{statement}

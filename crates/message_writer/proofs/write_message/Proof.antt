@@ -5,7 +5,7 @@ use Prim.Native.Nat.{ℕ}
 use lib.ListN.{length}
 use borrow.Author.Tests.{lt-ltb, le-ltb}
 use Rattle.xdr.proofs.Items.{length-encoded}
-use Rattle.writer.specs.Put.{Fronts}
+use Rattle.xdr_writer.specs.Put.{Fronts}
 use Rattle.message.specs.declared.Message.{Message}
 use Rattle.message.specs.Layout.{words, bytes}
 use Rattle.message.specs.Writing.{in-front, written, buffer-after}

@@ -6,10 +6,10 @@ use native.Mathlib.Omega.{arith}
 use lib.ListN.{length, replicate}
 use borrow.Author.Tests.{not-true, not-false}
 use denote.Ref.{now}
-use Rattle.quorum_tree.specs.Table.{sized, fresh-number, fresh-table}
+use Rattle.tree_theory.specs.Table.{sized, fresh-number, fresh-table}
 use Rattle.member_record.specs.Record.{allowed}
-use Rattle.events.specs.List.{members-of, count-of, list-fits}
-use Rattle.store.specs.Rows.{store-sized}
+use Rattle.play_events.specs.List.{members-of, count-of, list-fits}
+use Rattle.play_store.specs.Rows.{store-sized}
 use Rattle.play.specs.declared.answers.ListRefusal.the-variants.{TableLength}
 use Rattle.play.specs.Answers.{refusal-number, no-counts}
 use Rattle.play.specs.Promise.{Ready, Ran, Given}

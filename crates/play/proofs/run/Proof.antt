@@ -5,11 +5,11 @@ use native.Mathlib.Omega.{arith}
 use borrow.Author.Needs.{needs}
 use denote.Ref.{now}
 use Rattle.laws.specs.Parts.{to-end}
-use Rattle.events.specs.List.{event-size}
-use Rattle.events.specs.Value.{model-event}
+use Rattle.play_events.specs.List.{event-size}
+use Rattle.play_events.specs.Value.{model-event}
 use Rattle.model.specs.Model.{at-member}
-use Rattle.office.specs.Standing.{fresh-office}
-use Rattle.office.proofs.Memory.{place-below}
+use Rattle.play_office.specs.Standing.{fresh-office}
+use Rattle.play_office.proofs.Memory.{place-below}
 use Rattle.play.proofs.Running.{Running, list-parts, bytes-of, running-first, seated, due, at-next, counted-few, answer-room, running-next, counts-small, one-most, ran}
 use Rattle.play.proofs.run.Statement.{statement}
 use Rattle.play.proofs.run.Tie as tie

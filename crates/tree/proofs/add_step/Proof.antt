@@ -6,11 +6,11 @@ use native.Mathlib.Omega.{arith}
 use lib.ListN.{drop}
 use borrow.Author.Needs.{needs}
 use denote.Ref.{now}
-use Rattle.quorum_tree.specs.Machine.{add, answer, new-node}
-use Rattle.quorum_tree.specs.Table.{rows, rows-of, nodes, words}
-use Rattle.quorum_tree.proofs.Words.{used-rows}
-use Rattle.crossing.specs.Crossed.{strike-crossed}
-use Rattle.tree_answers.specs.Answers.{number-of-add}
+use Rattle.tree_theory.specs.Machine.{add, answer, new-node}
+use Rattle.tree_theory.specs.Table.{rows, rows-of, nodes, words}
+use Rattle.tree_theory.proofs.Words.{used-rows}
+use Rattle.tree_crossing.specs.Crossed.{strike-crossed}
+use Rattle.tree_steps.specs.Answers.{number-of-add}
 use Rattle.tree.proofs.Stepping.{refused, done, room, inserted}
 use Rattle.tree.proofs.add_step.Statement.{statement}
 use Rattle.tree.proofs.add_step.Tie as tie

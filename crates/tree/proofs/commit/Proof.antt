@@ -4,8 +4,8 @@ use mathlib.Core.Bool.{true}
 use borrow.Author.Needs.{needs}
 use borrow.Author.Tests.{not-false}
 use denote.Ref.{now}
-use Rattle.quorum_tree.specs.Table.{sized, Tree}
-use Rattle.quorum_tree.proofs.Trees.{is-tree-exact}
+use Rattle.tree_theory.specs.Table.{sized, Tree}
+use Rattle.tree_theory.proofs.Trees.{is-tree-exact}
 use Rattle.tree.proofs.Stepping.{wrong-length, not-tree, of-tree}
 use Rattle.tree.proofs.commit.Statement.{statement}
 use Rattle.tree.proofs.commit.Tie as tie

@@ -4,11 +4,11 @@ use mathlib.Core.Bool.{true}
 use native.Mathlib.Omega.{arith}
 use borrow.Author.Needs.{needs}
 use denote.Ref.{now}
-use Rattle.quorum_tree.specs.Machine.{commit, answer, causes}
-use Rattle.quorum_tree.specs.Table.{rows, rows-of, nodes}
-use Rattle.quorum_tree.proofs.Words.{used-rows}
-use Rattle.tree_answers.specs.Answers.{number-of-commit}
-use Rattle.tree_commit.specs.Committed.{Committed}
+use Rattle.tree_theory.specs.Machine.{commit, answer, causes}
+use Rattle.tree_theory.specs.Table.{rows, rows-of, nodes}
+use Rattle.tree_theory.proofs.Words.{used-rows}
+use Rattle.tree_steps.specs.Answers.{number-of-commit}
+use Rattle.tree_steps.specs.Committed.{Committed}
 use Rattle.tree.proofs.Stepping.{refused, done, there, committed-row}
 use Rattle.tree.proofs.commit_step.Statement.{statement}
 use Rattle.tree.proofs.commit_step.Tie as tie

@@ -4,8 +4,8 @@ use mathlib.Core.Bool.{true, false}
 use borrow.Author.Needs.{needs}
 use borrow.Author.Tests.{not-true, not-false}
 use denote.Ref.{now}
-use Rattle.quorum_tree.specs.Table.{sized, fresh-number, fresh-table}
-use Rattle.quorum_tree.proofs.Steps.{fresh-written}
+use Rattle.tree_theory.specs.Table.{sized, fresh-number, fresh-table}
+use Rattle.tree_theory.proofs.Steps.{fresh-written}
 use Rattle.tree.proofs.Stepping.{four}
 use Rattle.tree.proofs.fresh.Statement.{statement}
 use Rattle.tree.proofs.fresh.Tie as tie

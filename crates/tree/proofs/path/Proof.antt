@@ -6,9 +6,9 @@ use borrow.Author.Needs.{needs}
 use borrow.Author.Tests.{lt-ltb, le-ltb, not-true, not-false}
 use denote.Ref.{now}
 use Rattle.ids.specs.Ranges.{above-range}
-use Rattle.quorum_tree.specs.Machine.{present}
-use Rattle.quorum_tree.specs.Table.{rows-of, nodes, sized, is-tree}
-use Rattle.quorum_tree.proofs.Words.{used-rows}
+use Rattle.tree_theory.specs.Machine.{present}
+use Rattle.tree_theory.specs.Table.{rows-of, nodes, sized, is-tree}
+use Rattle.tree_theory.proofs.Words.{used-rows}
 use Rattle.tree.proofs.PathCalls.{path-wrong-length, path-not-tree, path-above, path-absent, path-of, path-short, path-done}
 use Rattle.tree.proofs.path.Statement.{statement}
 use Rattle.tree.proofs.path.Tie as tie

@@ -4,7 +4,7 @@ use native.Mathlib.Omega.{arith}
 use lib.ListN.{length}
 use borrow.Author.Needs.{needs}
 use denote.Ref.{now}
-use Rattle.quorum_tree.proofs.Words.{used-rows}
+use Rattle.tree_theory.proofs.Words.{used-rows}
 use Rattle.tree_cases.proofs.nodes.Statement.{statement}
 use Rattle.tree_cases.proofs.nodes.Tie as tie
 

@@ -1,7 +1,7 @@
 -- `member::rows::count_join` meets its contract: each return goes by the test that led there. Assumes nothing.
 use mathlib.Core.Path.{_∙_}
 use native.Mathlib.Omega.{arith}
-use Rattle.member_changes.specs.Changes.{counting}
+use Rattle.member_rules.specs.Changes.{counting}
 use Rattle.member.specs.Table.{proposes}
 use Rattle.member.proofs.Checks.{short, reached}
 use borrow.Author.Needs.{needs}

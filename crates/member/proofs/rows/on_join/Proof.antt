@@ -1,6 +1,6 @@
 -- `member::rows::on_join` meets its contract: the check of its refusals, and the row. Assumes nothing.
 use native.Mathlib.Omega.{arith}
-use Rattle.member_refusals.specs.Causes.{count-causes}
+use Rattle.member_rules.specs.Causes.{count-causes}
 use Rattle.member.specs.Table.{JOIN-row}
 use Rattle.member.proofs.Checks.{check-refused, check-passed, check-sender}
 use borrow.Author.Needs.{needs}

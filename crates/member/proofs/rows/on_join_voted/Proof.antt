@@ -1,7 +1,7 @@
 -- `member::rows::on_join_voted` meets its contract: the check of its refusals, and the row. Assumes nothing.
 use native.Mathlib.Omega.{arith}
-use Rattle.member_refusals.specs.Causes.{count-causes}
-use Rattle.member_changes.specs.Changes.{adopting}
+use Rattle.member_rules.specs.Causes.{count-causes}
+use Rattle.member_rules.specs.Changes.{adopting}
 use Rattle.member.specs.Table.{JOIN-row}
 use Rattle.member.proofs.Checks.{check-refused, check-passed, check-sender, adopting-size}
 use borrow.Author.Needs.{needs}

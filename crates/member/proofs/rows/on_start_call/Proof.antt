@@ -1,5 +1,5 @@
 -- `member::rows::on_start_call` meets its contract: the check of its refusals, and the row. Assumes nothing.
-use Rattle.member_refusals.specs.Causes.{start-causes}
+use Rattle.member_rules.specs.Causes.{start-causes}
 use Rattle.member.specs.Table.{start-row}
 use Rattle.member.proofs.Checks.{check-refused, check-passed}
 use borrow.Author.Needs.{needs}

@@ -1,0 +1,100 @@
+-- `crate::reply::tell` meets its contract, answer by answer. Assumes nothing.
+use mathlib.Core.Path.{refl}
+use mathlib.Core.List.{List·Memᴰ·head as here}
+use borrow.Author.Needs.{needs}
+use Rattle.member_calls.proofs.reply.tell.Statement.{statement}
+use Rattle.member_calls.proofs.reply.tell.Tie as tie
+
+enum-known-answer : tie.Need-enum-known-answer
+enum-known-answer c = search needs
+
+number-requires : tie.Need-number-requires
+number-requires c κs = search needs
+
+refuse-requires : tie.Need-refuse-requires
+refuse-requires c κs = search needs
+
+enum-known-answer-2 : tie.Need-enum-known-answer-2
+enum-known-answer-2 c = search needs
+
+send-requires : tie.Need-send-requires
+send-requires c κs =
+    let s = c .before .before .before .before .before .before in
+    (s .pre .0, (rw (c .before .before .answer2 .given .1) at (s .pre .1)) .sent-in-range _ (here refl))
+
+give-requires : tie.Need-give-requires
+give-requires c κs = search needs
+
+enum-told : tie.Need-enum-told
+enum-told c = search needs
+
+give-requires-2 : tie.Need-give-requires-2
+give-requires-2 c κs = search needs
+
+enum-known-answer-3 : tie.Need-enum-known-answer-3
+enum-known-answer-3 c = search needs
+
+send-requires-2 : tie.Need-send-requires-2
+send-requires-2 c κs =
+    let s = c .before .before .before .before .before .before in
+    (s .pre .0, (rw (c .before .before .answer3 .given .1) at (s .pre .1)) .sent-in-range _ (here refl))
+
+give-requires-3 : tie.Need-give-requires-3
+give-requires-3 c κs = search needs
+
+enum-known-answer-4 : tie.Need-enum-known-answer-4
+enum-known-answer-4 c = search needs
+
+give-requires-4 : tie.Need-give-requires-4
+give-requires-4 c κs = search needs
+
+returns : tie.Need-returns
+returns c =
+    rw (c .before .before .before .answer .given .1, ← c .before .number .ensures) (record { answers = c .refuse .ensures; reply = refl })
+
+same-length : tie.Need-same-length
+same-length c = search needs
+
+returns-2 : tie.Need-returns-2
+returns-2 c =
+    let send = c .before .before .before .send in
+    rw (c .before .before .before .before .before .before .answer2 .given .1, c .give .ensures) (record { answers = record { report = rw (send .ensures .0); state = refl }; reply = send .ensures .1 })
+
+returns-3 : tie.Need-returns-3
+returns-3 c = rw (c .before .enum-told .given .1, c .give2 .ensures) (record { answers = record { report = refl; state = refl }; reply = refl })
+
+same-length-2 : tie.Need-same-length-2
+same-length-2 c = search needs
+
+returns-4 : tie.Need-returns-4
+returns-4 c =
+    let send = c .before .before .before .send2 in
+    rw (c .before .before .before .before .before .before .answer3 .given .1, c .give3 .ensures) (record { answers = record { report = rw (send .ensures .0); state = refl }; reply = send .ensures .1 })
+
+returns-5 : tie.Need-returns-5
+returns-5 c = rw (c .before .before .answer4 .given .1, c .give4 .ensures) (record { answers = record { report = refl; state = refl }; reply = refl })
+
+pub tell-spec : {M : Type 1} → statement M
+tell-spec =
+    tie.close
+    (tie.spec
+    enum-known-answer
+    number-requires
+    refuse-requires
+    enum-known-answer-2
+    send-requires
+    give-requires
+    enum-told
+    give-requires-2
+    enum-known-answer-3
+    send-requires-2
+    give-requires-3
+    enum-known-answer-4
+    give-requires-4
+    returns
+    same-length
+    returns-2
+    returns-3
+    same-length-2
+    returns-4
+    returns-5)

@@ -1,0 +1,52 @@
+-- What a call's result says, and what it leaves of the record and of the reply (01, "Members").
+use mathlib.Core.Path.{_≡_}
+use mathlib.Core.List.{List, [], _∷_}
+use Prim.Native.Nat.{ℕ}
+use lib.ListN.{length}
+use Rattle.message.specs.declared.Message.{Message}
+use Rattle.message.specs.Layout.{bytes}
+use Rattle.message.specs.Writing.{in-front}
+use Rattle.member_record.specs.declared.MemberState.{MemberState}
+use Rattle.member_record.specs.Record.{round}
+use Rattle.member.specs.Table.{Named, nothing, proposal, decision, Outcome}
+use Rattle.member_calls.specs.declared.reply.Report.{Report}
+
+-- the sent length; 0 if nothing is sent
+abbrev pub sent-length : List Message → ℕ
+sent-length [] = 0
+sent-length (g ∷ gs) = length (bytes g)
+
+-- a sent message stands at the front of the reply; bytes behind it, or all if nothing is sent, stay
+abbrev pub reply-after : List Message → List ℕ → List ℕ
+reply-after [] old = old
+reply-after (g ∷ gs) old = in-front g old
+
+-- r, X and B as far as the answer names them; each that it doesn't name is 0
+abbrev pub named-round : Named → ℕ
+named-round nothing = 0
+named-round (proposal r x b) = r
+named-round (decision r x) = r
+
+abbrev pub named-value : Named → ℕ
+named-value nothing = 0
+named-value (proposal r x b) = x
+named-value (decision r x) = x
+
+abbrev pub named-parent : Named → ℕ
+named-parent nothing = 0
+named-parent (proposal r x b) = b
+named-parent (decision r x) = 0
+
+abbrev pub reported : Outcome → Report
+reported o =
+    record { number = o .number; sent = sent-length (o .sent); round = round (named-round (o .named)); value = named-value (o .named); parent = round (named-parent (o .named)) }
+
+-- the result, and the record after
+pub record Answers (o : Outcome) (after : MemberState) (r : Report) : Type 0 where
+  pub report : r ≡ reported o
+  pub state : after ≡ o .state
+
+-- and the reply after
+pub record Replies (o : Outcome) (old : List ℕ) (after : MemberState) (r : Report) (new : List ℕ) : Type 0 where
+  pub answers : Answers o after r
+  pub reply : new ≡ reply-after (o .sent) old

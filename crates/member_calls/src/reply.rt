@@ -1,0 +1,109 @@
+// The result of a member call, and what it puts in the reply buffer (01, "Members").
+use ids::Round;
+use member::Answer;
+use member::Step;
+use member_record::MemberState;
+use message::Message;
+use message::Written;
+ghost use mathlib.Core.Path.{_≡_};
+ghost use mathlib.Core.Bool.{true};
+ghost use mathlib.Core.List.{[], _∷_};
+ghost use Prim.Native.Nat.{_≤_};
+ghost use lib.ListN.{length};
+ghost use Rattle.message.specs.Fields.{in-range};
+ghost use Rattle.member.specs.Table.{refused};
+ghost use Rattle.member.specs.Answers.{outcome};
+ghost use Rattle.member.specs.Kept.{Kept};
+ghost use Rattle.member_calls.specs.Reports.{sent-length, reply-after, Answers, Replies};
+
+// The result of a call: numbers of 01. Each that the call does not give or name is 0.
+pub struct Report {
+    // Of the place table; 0 is OK.
+    pub number: u32,
+    // The length of the message at the front of the reply.
+    pub sent: usize,
+    // r of add(r, X, B), whose PROPOSE is sent, or of commit(r), where nothing is.
+    pub round: Round,
+    // X.
+    pub value: u64,
+    // B of add(r, X, B).
+    pub parent: Round,
+}
+
+// The record after a call, beside its result.
+pub struct Called {
+    pub state: MemberState,
+    pub report: Report,
+}
+
+// A refused call leaves the record as it was, and its number alone is not 0.
+pub fn refuse(m: MemberState, number: u32) -> Called
+    ensures { λ c. ⌜ Answers (refused number m) (c .state) (c .report) ⌝ }
+{
+    give(m, number, 0, Round(0), 0, Round(0))
+}
+
+// A record and a result.
+pub fn give(
+    m: MemberState,
+    number: u32,
+    sent: usize,
+    round: Round,
+    value: u64,
+    parent: Round,
+) -> Called
+    ensures { λ c. ⌜ c ≡ record { state = m; report = record { number = number; sent = sent; round = round; value = value; parent = parent } } ⌝ }
+{
+    let report = Report {
+        number: number,
+        sent: sent,
+        round: round,
+        value: value,
+        parent: parent,
+    };
+    Called {
+        state: m,
+        report: report,
+    }
+}
+
+// Puts a message at the front of the reply, and answers its length.
+fn send(g: Message, reply: &mut [u8]) -> usize
+    requires { ⌜ (28 ≤ length (now reply)) × (in-range g ≡ true) ⌝ }
+    ensures { λ n. ⌜ (n ≡ sent-length (g ∷ [])) × (now (reply .exit) ≡ reply-after (g ∷ []) (now (reply .entry))) ⌝ }
+{
+    let w = message_writer::write_message(g, reply);
+    match w {
+        Written::Sent(n) => n,
+        Written::ShortBuffer => 0,
+        Written::OutOfRange => 0,
+    }
+}
+
+// The result of a step, and what it sends.
+pub fn tell(s: Step, reply: &mut [u8]) -> Called
+    requires { ⌜ (28 ≤ length (now reply)) × Kept (outcome s) ⌝ }
+    ensures { λ c. ⌜ Replies (outcome s) (now (reply .entry)) (c .state) (c .report) (now (reply .exit)) ⌝ }
+{
+    let m = s.state;
+    let answer = s.answer;
+    let none = Round(0);
+    match answer {
+        Answer::Refused(k) => refuse(m, member::number(k)),
+        Answer::Sent(g) => {
+            let n = send(g, reply);
+            give(m, 0, n, none, 0, none)
+        }
+        Answer::Done => give(m, 0, 0, none, 0, none),
+        Answer::Proposed {
+            sent,
+            round,
+            value,
+            parent,
+        } => {
+            let n = send(sent, reply);
+            give(m, 0, n, round, value, parent)
+        }
+        Answer::Decided { round, value } => give(m, 0, 0, round, value, none),
+    }
+}

@@ -1,2 +1,0 @@
--- The meanings of the changes.
-pub mod Changes

@@ -1,0 +1,38 @@
+// The member calls of 01, "Members": the record is lent and altered where it sits, and what is sent stands in a lent reply buffer.
+// Each takes the record apart for a step by value, and puts back what the step left.
+use ids::Member;
+use ids::Round;
+use member_calls::deliver_into;
+use member_calls::fresh_into;
+use member_calls::start_into;
+use member_record::MemberState;
+use member_calls::reply::Report;
+ghost use Rattle.member_calls.specs.Reports.{Answers, Replies};
+ghost use Rattle.member_calls.specs.Calls.{fresh-call, start-call, deliver-call};
+
+// Makes the record fresh.
+pub fn fresh(m: &mut MemberState, me: Member, n: u32) -> Report
+    ensures { λ r. ⌜ Answers (fresh-call (now (m .entry)) me n) (now (m .exit)) r ⌝ }
+{
+    let c = fresh_into(*m, me, n);
+    *m = c.state;
+    c.report
+}
+
+// start(r, offer).
+pub fn start(m: &mut MemberState, r: Round, offer: u64, reply: &mut [u8]) -> Report
+    ensures { λ p. ⌜ Replies (start-call (now (m .entry)) r offer (now (reply .entry))) (now (reply .entry)) (now (m .exit)) p (now (reply .exit)) ⌝ }
+{
+    let c = start_into(*m, r, offer, reply);
+    *m = c.state;
+    c.report
+}
+
+// Delivers the message that bytes are.
+pub fn deliver(m: &mut MemberState, bytes: &[u8], reply: &mut [u8]) -> Report
+    ensures { λ p. ⌜ Replies (deliver-call (now (m .entry)) (now (bytes .entry)) (now (reply .entry))) (now (reply .entry)) (now (m .exit)) p (now (reply .exit)) ⌝ }
+{
+    let c = deliver_into(*m, bytes, reply);
+    *m = c.state;
+    c.report
+}

@@ -1,3 +1,0 @@
--- The meanings of the refusals.
-pub mod Causes
-pub mod Refusals

@@ -1,2 +1,0 @@
--- The meaning of a call's result.
-pub mod Reports

@@ -1,0 +1,25 @@
+-- `crate::refusals::check_start` meets its contract: each return goes by the tests that led there. Assumes nothing.
+use borrow.Author.Tests.{le-leb, lt-leb}
+use Rattle.member_rules.proofs.Refusals.{denied}
+use borrow.Author.Needs.{needs}
+use Rattle.member_rules.proofs.refusals.check_start.Statement.{statement}
+use Rattle.member_rules.proofs.refusals.check_start.Tie as tie
+
+is-leader-requires : tie.Need-is-leader-requires
+is-leader-requires c κs = search needs
+
+returns : tie.Need-returns
+returns c = rw (denied (c .before .is-leader .ensures) (c .if1 .taken))
+
+returns-2 : tie.Need-returns-2
+returns-2 c =
+    let b = c .before .before .before in
+    rw (denied (b .before .is-leader .ensures) (b .if1 .left), le-leb _ _ (c .if2 .taken))
+
+returns-3 : tie.Need-returns-3
+returns-3 c =
+    let b = c .before .before .before in
+    rw (denied (b .before .is-leader .ensures) (b .if1 .left), lt-leb _ _ (c .if2 .left))
+
+pub check-start-spec : {M : Type 1} → statement M
+check-start-spec = tie.close (tie.spec is-leader-requires returns returns-2 returns-3)

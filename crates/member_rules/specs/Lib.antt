@@ -1,0 +1,4 @@
+-- The meanings of the refusals.
+pub mod Causes
+pub mod Refusals
+pub mod Changes

@@ -1,0 +1,2 @@
+-- 01's numbers.
+pub mod Numbers

@@ -1,5 +1,0 @@
--- Laws for what becomes of a step.
-pub mod Settling
-pub mod Memory
-pub mod Arms
-pub mod Facing

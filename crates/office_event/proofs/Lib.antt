@@ -1,2 +1,0 @@
--- Laws for an event at its member.
-pub mod Working

@@ -1,2 +1,0 @@
--- Laws for what an add writes.
-pub mod Inserting

@@ -1,2 +1,0 @@
--- The answers of the tree's calls as 01's numbers.
-pub mod Answers

@@ -1,0 +1,89 @@
+// Whether a lent slice of 64-bit words is a node table that some list of calls leaves (01, "The tree"; numbers 1 and 2 of the place
+// table). `valued` says whether the tree's values are compared. The check takes time in the square of the used rows.
+mod rows;
+
+ghost use mathlib.Core.Path.{_≡_};
+ghost use mathlib.Core.Bool.{true};
+ghost use Prim.Native.Nat.{_*_, _≤_, _<_};
+ghost use lib.ListN.{length};
+ghost use Rattle.tree_theory.specs.Table.{row, sized, is-tree};
+ghost use Rattle.tree_theory.specs.Check.{is-root, fits-to, zeros-to};
+
+// A multiple of 4 from 4 to 1,024.
+pub fn has_table_length(t: &[u64]) -> bool
+    ensures { λ b. ⌜ b ≡ sized (now (t .entry)) ⌝ }
+{
+    let n = t.len();
+    if n % 4 != 0 {
+        return false;
+    }
+    if n < 4 {
+        return false;
+    }
+    n <= 1024
+}
+
+// Whether row 0 is the root's.
+fn root_fits(t: &[u64]) -> bool
+    requires { ⌜ 4 ≤ length (now t) ⌝ }
+    ensures { λ b. ⌜ b ≡ is-root (row (now (t .entry)) 0) ⌝ }
+{
+    if tree_table::round_at(t, 0) != 0 {
+        return false;
+    }
+    if tree_table::parent_at(t, 0) != 0 {
+        return false;
+    }
+    if tree_table::value_at(t, 0) != 0 {
+        return false;
+    }
+    tree_table::status_at(t, 0) == tree_table::COMMITTED
+}
+
+// Whether all n used rows fit: the root's, and each behind it.
+fn rows_fit(valued: bool, t: &[u64], n: usize) -> bool
+    requires { ⌜ (0 < n) × (4 * n ≤ length (now t)) ⌝ }
+    ensures { λ b. ⌜ b ≡ fits-to valued (now (t .entry)) n n ⌝ }
+{
+    if !root_fits(t) {
+        return false;
+    }
+    let mut i = 1;
+    while i < n {
+        if !crate::rows::row_fits(valued, t, n, i) {
+            return false;
+        }
+        i += 1;
+    }
+    true
+}
+
+// Whether every word from a place on is zero.
+fn zeros_from(t: &[u64], from: usize) -> bool
+    requires { ⌜ from ≤ length (now t) ⌝ }
+    ensures { λ b. ⌜ b ≡ zeros-to (now (t .entry)) from (length (now (t .entry))) ⌝ }
+{
+    let mut word = from;
+    while word < t.len() {
+        if t[word] != 0 {
+            return false;
+        }
+        word += 1;
+    }
+    true
+}
+
+// Whether some list of calls from fresh leaves the table.
+pub fn is_tree(valued: bool, t: &[u64]) -> bool
+    requires { ⌜ sized (now t) ≡ true ⌝ }
+    ensures { λ b. ⌜ b ≡ is-tree valued (now (t .entry)) ⌝ }
+{
+    let n = tree_table::used_rows(t);
+    if n == 0 {
+        return false;
+    }
+    if !rows_fit(valued, t, n) {
+        return false;
+    }
+    zeros_from(t, 4 * n)
+}

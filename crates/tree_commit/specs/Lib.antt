@@ -1,2 +1,0 @@
--- What a commit writes.
-pub mod Committed

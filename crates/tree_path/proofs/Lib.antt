@@ -1,2 +1,0 @@
--- Laws for the recursion that writes a path.
-pub mod Climbing

@@ -1,2 +1,0 @@
--- The recursion that writes a path.
-pub mod Climbed

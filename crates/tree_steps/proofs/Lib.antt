@@ -1,0 +1,3 @@
+-- Laws for what an add writes.
+pub mod Inserting
+pub mod Climbing

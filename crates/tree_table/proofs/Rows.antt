@@ -1,0 +1,174 @@
+-- Laws on the first rows of a table: what one row more adds, and what a pass that changes statuses leaves. Assumes nothing.
+use mathlib.Core.Path.{_≡_, refl, sym, ap, _∙_}
+use mathlib.Core.Bool.{Bool, true, false, not}
+use mathlib.Core.List.{List, [], _∷_, _++_, map, append-assoc, append-nil}
+use Prim.Native.Nat.{ℕ, zero, suc, _+_, _-_, _*_, _≤_, _<_}
+use native.Mathlib.Omega.{arith}
+use native.Mathlib.Numerals.{add-one}
+use native.Mathlib.Nat.{add-zero}
+use lib.ListN.{length, getD, set, drop, length-map}
+use lib.Seq.{drop-cons, getD-append-add, append-snoc, getD-drop}
+use lib.Dec.{leb}
+use borrow.Author.Tests.{eq-eqb, ne-eqb, leb-true, leb-false}
+use Rattle.laws.specs.Tests.{by-test, clash}
+use Rattle.laws.specs.Lists.{any, any-append, any-snoc, map-append}
+use Rattle.tree_theory.specs.Machine.{Node, has-round, present, find, with-status}
+use Rattle.tree_theory.specs.Table.{row, rows-of, used-from, words}
+use Rattle.tree_theory.proofs.Words.{length-words, words-append, length-rows}
+use Rattle.tree_table.specs.Rows.{Found}
+
+-- the d rows from row i on
+pub rows-from : List ℕ → ℕ → ℕ → List Node
+rows-from ws i zero = []
+rows-from ws i (suc d) = row ws i ∷ rows-from ws (suc i) d
+
+rows-more : (ws : List ℕ) (d i : ℕ) → rows-of ws (i + d) ≡ rows-of ws i ++ rows-from ws i d
+unfolding rows-from rows-of
+rows-more ws zero i = let e : i + 0 ≡ i = omega arith in rw e (sym (append-nil (rows-of ws i)))
+rows-more ws (suc d) i =
+    let e : i + suc d ≡ suc i + d = omega arith in
+    rw (e, rows-more ws d (suc i)) (append-snoc (rows-of ws i) (row ws i) (rows-from ws (suc i) d))
+
+-- the rows before row i, row i, and those behind it
+pub rows-split : (ws : List ℕ) (i n : ℕ) → i < n → rows-of ws n ≡ rows-of ws i ++ row ws i ∷ rows-from ws (suc i) (n - suc i)
+unfolding rows-from
+rows-split ws i n h =
+    let e : i + suc (n - suc i) ≡ n = omega arith in
+    rw e at (rows-more ws (suc (n - suc i)) i)
+
+-- A pass that looks for a row: it has come to row i of n and passed none.
+pub record Scanned (P : Node → Bool) (ws : List ℕ) (n i : ℕ) : Type 0 where
+  pub within : i ≤ n
+  pub none : any P (rows-of ws i) ≡ false
+
+pub scan-start : (P : Node → Bool) (ws : List ℕ) (n : ℕ) → Scanned P ws n 0
+unfolding rows-of
+scan-start P ws n = record { within = omega arith; none = refl }
+
+module _ {P : Node → Bool} {ws : List ℕ} {n i : ℕ} (S : Scanned P ws n i) where
+  pub scan-more : i < n → P (row ws i) ≡ false → Scanned P ws n (i + 1)
+  unfolding rows-of
+  scan-more h e = record { within = omega arith; none = rw (add-one, any-snoc P (rows-of ws i) (row ws i), S .none, e) refl }
+
+  pub scan-hit : i < n → P (row ws i) ≡ true → any P (rows-of ws n) ≡ true
+  scan-hit h e =
+      rw (rows-split ws i n h, any-append P (rows-of ws i) (row ws i ∷ rows-from ws (suc i) (n - suc i)), S .none, e) refl
+
+  pub scan-end : n ≤ i → any P (rows-of ws n) ≡ false
+  scan-end h = let e : i ≡ n = omega (arith, S .within) in rw e at (S .none)
+
+find-behind : (r : ℕ) (ns ms : List Node) (m : Node) → any (has-round r) ns ≡ false → has-round r m ≡ true → find r (ns ++ m ∷ ms) ≡ m
+unfolding find
+find-behind r [] ms m a e = rw e refl
+find-behind r (n ∷ ns) ms m a e =
+    by-test (has-round r n) (λ t. clash (rw t refl) a) (λ t. rw t (find-behind r ns ms m (rw t at a) e))
+
+-- the first row that has round r
+pub find-hit : {r : ℕ} {ws : List ℕ} {n i : ℕ} → Scanned (has-round r) ws n i → i < n → row ws i .round ≡ r → find r (rows-of ws n) ≡ row ws i
+find-hit {r = r} {ws = ws} {n = n} {i = i} S h e =
+    rw (rows-split ws i n h) (find-behind r (rows-of ws i) (rows-from ws (suc i) (n - suc i)) (row ws i) (S .none) (eq-eqb (row ws i .round) r e))
+
+-- what a search for a round says
+pub found-absent : {ws : List ℕ} {n r k : ℕ} → Found ws n r k → leb n k ≡ not (present r (rows-of ws n))
+found-absent {n = n} {k = k} F =
+    by-test (leb n k)
+    (λ y. rw (y, F .none (leb-true n k y)) refl)
+    (λ y. rw (y, F .there (leb-false n k y)) refl)
+
+-- counting used rows
+pub used-stop : (ws : List ℕ) (k i : ℕ) → row ws i .status ≡ 0 → used-from ws k i ≡ i
+unfolding used-from
+used-stop ws zero i e = refl
+used-stop ws (suc k) i e = rw (eq-eqb (row ws i .status) 0 e, used-from) refl
+
+pub used-go : (ws : List ℕ) (k i : ℕ) → i < k → (row ws i .status ≡ 0 → ⊥) → used-from ws (k - i) i ≡ used-from ws (k - (i + 1)) (i + 1)
+unfolding used-from
+used-go ws k i h e =
+    let d : k - i ≡ suc (k - (i + 1)) = omega arith in
+    rw (d, ne-eqb (row ws i .status) 0 e, used-from, add-one) refl
+
+pub used-end : (ws : List ℕ) (k i : ℕ) → k ≤ i → used-from ws (k - i) i ≡ i
+unfolding used-from
+used-end ws k i h = let e : k - i ≡ 0 = omega arith in rw e refl
+
+-- row i at the front of what is left from it on
+pub row-ahead : (ws : List ℕ) (i : ℕ) → 4 * i + 4 ≤ length ws → drop (4 * i) ws ≡ words (row ws i ∷ []) ++ drop (4 * suc i) ws
+unfolding words
+row-ahead ws i h =
+    let e : 4 * suc i ≡ suc (4 * i + 3) = omega arith in
+    let a : 4 * i + 1 ≡ suc (4 * i) = omega arith in
+    let b : 4 * i + 2 ≡ suc (4 * i + 1) = omega arith in
+    let c : 4 * i + 3 ≡ suc (4 * i + 2) = omega arith in
+    let w0 : drop (4 * i) ws ≡ getD ws (4 * i) 0 ∷ drop (suc (4 * i)) ws = drop-cons ws (4 * i) 0 (omega arith) in
+    let w1 : drop (4 * i + 1) ws ≡ getD ws (4 * i + 1) 0 ∷ drop (suc (4 * i + 1)) ws = drop-cons ws (4 * i + 1) 0 (omega arith) in
+    let w2 : drop (4 * i + 2) ws ≡ getD ws (4 * i + 2) 0 ∷ drop (suc (4 * i + 2)) ws = drop-cons ws (4 * i + 2) 0 (omega arith) in
+    let w3 : drop (4 * i + 3) ws ≡ getD ws (4 * i + 3) 0 ∷ drop (suc (4 * i + 3)) ws = drop-cons ws (4 * i + 3) 0 (omega arith) in
+    rw (w0, ← a, w1, ← b, w2, ← c, w3, e) refl
+
+set-fourth : (xs : List ℕ) (a b c d s : ℕ) (ds : List ℕ) → set (xs ++ a ∷ b ∷ c ∷ d ∷ ds) (length xs + 3) s ≡ xs ++ a ∷ b ∷ c ∷ s ∷ ds
+set-fourth [] a b c d s ds = refl
+set-fourth (x ∷ xs) a b c d s ds =
+    let e : suc (length xs) + 3 ≡ suc (length xs + 3) = omega arith in
+    rw (e, set-fourth xs a b c d s ds) refl
+
+-- A pass: `Passed f t₀ i t` says that f was applied to the first i rows of t₀, and that the rest is as it was.
+pub record Passed (f : Node → Node) (t₀ : List ℕ) (i : ℕ) (t : List ℕ) : Type 0 where
+  pub is : t ≡ words (map f (rows-of t₀ i)) ++ drop (4 * i) t₀
+
+module _ (f : Node → Node) (t₀ : List ℕ) where
+  pub pass-none : Passed f t₀ 0 t₀
+  unfolding rows-of words
+  pass-none = record { is = refl }
+
+  length-front : (i : ℕ) → length (words (map f (rows-of t₀ i))) ≡ 4 * i
+  length-front i = rw (length-words (map f (rows-of t₀ i)), length-map (rows-of t₀ i) f, length-rows t₀ i) refl
+
+  -- the next row is still the old one
+  pub pass-row : (i : ℕ) (t : List ℕ) → Passed f t₀ i t → row t i ≡ row t₀ i
+  pass-row i t P =
+      rw (P .is)
+      (λ j. record {
+        round = (rw (add-zero (4 * i)) at (at 0)) j;
+        parent = at 1 j;
+        value = at 2 j;
+        status = at 3 j;
+      })
+    where
+      at : (k : ℕ) → getD (words (map f (rows-of t₀ i)) ++ drop (4 * i) t₀) (4 * i + k) 0 ≡ getD t₀ (4 * i + k) 0
+      at k =
+          let e : 4 * i ≡ length (words (map f (rows-of t₀ i))) = sym (length-front i) in
+          ap (λ n. getD (words (map f (rows-of t₀ i)) ++ drop (4 * i) t₀) (n + k) 0) e ∙
+          getD-append-add (words (map f (rows-of t₀ i))) (drop (4 * i) t₀) k 0 ∙
+          getD-drop (4 * i) t₀ k 0
+
+  -- one row more: what t becomes when f of the next row stands in its place
+  pub pass-more : (i : ℕ) (t : List ℕ) → t ≡ words (map f (rows-of t₀ i)) ++ (words (f (row t₀ i) ∷ []) ++ drop (4 * suc i) t₀) → Passed f t₀ (i + 1) t
+  unfolding rows-of
+  pass-more i t e =
+      record {
+        is =
+            rw (add-one, e, map-append f (rows-of t₀ i) (row t₀ i ∷ []), words-append (map f (rows-of t₀ i)) (f (row t₀ i) ∷ []), append-assoc)
+            refl;
+      }
+
+  -- the row stays
+  pub pass-keep : (i : ℕ) (t : List ℕ) → Passed f t₀ i t → 4 * i + 4 ≤ length t₀ → f (row t₀ i) ≡ row t₀ i → Passed f t₀ (i + 1) t
+  pass-keep i t P h k = pass-more i t (P .is ∙ rw (row-ahead t₀ i h, k) refl)
+
+  -- its status is set
+  pub pass-set : (i : ℕ) (t : List ℕ) (s : ℕ) → Passed f t₀ i t → 4 * i + 4 ≤ length t₀ → f (row t₀ i) ≡ with-status (row t₀ i) s → Passed f t₀ (i + 1) (set t (4 * i + 3) s)
+  unfolding words
+  pass-set i t s P h k =
+      pass-more i (set t (4 * i + 3) s)
+      (ap (λ l. set l (4 * i + 3) s) (P .is ∙ ap (λ l. words (map f (rows-of t₀ i)) ++ l) (row-ahead t₀ i h)) ∙
+      rw k (rw (length-front i) at (set-fourth (words (map f (rows-of t₀ i))) (row t₀ i .round) (row t₀ i .parent) (row t₀ i .value) (row t₀ i .status) s (drop (4 * suc i) t₀))))
+
+  -- rows that f leaves as they are
+  pub pass-on : (t : List ℕ) (d i : ℕ) → Passed f t₀ i t → 4 * (i + d) ≤ length t₀ → ((j : ℕ) → i ≤ j → j < i + d → f (row t₀ j) ≡ row t₀ j) → Passed f t₀ (i + d) t
+  pass-on t zero i P h k = rw (add-zero i) P
+  pass-on t (suc d) i P h k =
+      let e : i + suc d ≡ i + 1 + d = omega arith in
+      rw e (pass-on t d (i + 1) (pass-keep i t P (omega arith) (k i (omega arith) (omega arith))) (omega arith) (λ j a b. k j (omega arith) (omega arith)))
+
+  pub pass-end : (i n : ℕ) (t : List ℕ) → i ≤ n → n ≤ i → Passed f t₀ i t → t ≡ words (map f (rows-of t₀ n)) ++ drop (4 * n) t₀
+  pass-end i n t a b P = let e : i ≡ n = omega arith in rw e at (P .is)

@@ -1,0 +1,63 @@
+-- `tree_table::find_row` meets its contract: no row passed has the round. Assumes nothing.
+use mathlib.Core.Path.{_≡_}
+use Prim.Native.Nat.{_-_}
+use native.Mathlib.Omega.{arith}
+use borrow.Author.Needs.{needs}
+use borrow.Author.Tests.{eq-eqb, ne-eqb}
+use denote.Ref.{now}
+use Rattle.tree_theory.specs.Machine.{has-round}
+use Rattle.tree_theory.specs.Table.{row}
+use Rattle.tree_table.proofs.Rows.{Scanned, scan-start, scan-more, scan-hit, scan-end, find-hit}
+use Rattle.tree_table.proofs.find_row.Statement.{statement}
+use Rattle.tree_table.proofs.find_row.Tie as tie
+
+abbrev Inv-loop : tie.InvT-loop
+Inv-loop t n r i₀ i = Scanned (has-round r) t n i
+
+abbrev μ-loop : tie.MeasureT-loop
+μ-loop t n r i₀ i = n - i
+
+loop-holds : tie.Need-loop-holds Inv-loop μ-loop
+loop-holds c = scan-start _ _ _
+
+round-at-requires : tie.Need-round-at-requires Inv-loop μ-loop
+round-at-requires c κs = omega arith
+
+returns : tie.Need-returns Inv-loop μ-loop
+returns c =
+    let a = c .before .before .before .before .before .args in
+    let l = c .before .before .before .loop in
+    let e : row (now (a .t)) (l .i) .round ≡ a .r = omega arith in
+    record {
+      within = omega arith;
+      at = λ h. find-hit (l .inv) h e;
+      there = λ h. scan-hit (l .inv) h (eq-eqb _ _ e);
+      none = λ h. absurd (omega arith);
+    }
+
+add-i : tie.Need-add-i Inv-loop μ-loop
+add-i c = search needs
+
+loop-less : tie.Need-loop-less Inv-loop μ-loop
+loop-less c = search needs
+
+loop-again : tie.Need-loop-again Inv-loop μ-loop
+loop-again c =
+    let a = c .before .before .before .before .before .args in
+    let l = c .before .before .before .loop in
+    let e : row (now (a .t)) (l .i) .round ≡ a .r → ⊥ = λ q. c .if1 .left (omega arith) in
+    scan-more (l .inv) (c .before .before .loop-test .taken) (ne-eqb _ _ e)
+
+returns-2 : tie.Need-returns-2 Inv-loop μ-loop
+returns-2 c =
+    let l = c .before .loop in
+    record {
+      within = omega arith;
+      at = λ h. absurd (omega arith);
+      there = λ h. absurd (omega arith);
+      none = λ h. scan-end (l .inv) h;
+    }
+
+pub find-row-spec : {M : Type 1} → statement M
+find-row-spec =
+    tie.close (tie.spec Inv-loop μ-loop loop-holds round-at-requires returns add-i loop-less loop-again returns-2)
