@@ -15,7 +15,7 @@ use Rattle.member_rules.specs.declared.refusals.Check.{Check}
 use Rattle.member_rules.specs.declared.refusals.Check.the-variants.{Pass, Refused}
 use Rattle.member_rules.specs.Causes.{count-causes}
 use Rattle.member_rules.specs.Refusals.{refusal-number, check-number}
-use Rattle.member_rules.proofs.Refusals.{numbered}
+use Rattle.member_rules.proofs.Checks.{numbered}
 use Rattle.member_rules.specs.Changes.{adopting}
 use Rattle.member.specs.Table.{Outcome, refused, silent, unless, complete, at-quorum}
 

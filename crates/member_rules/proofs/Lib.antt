@@ -1,2 +1,2 @@
 -- Laws of the refusals.
-pub mod Refusals
+pub mod Checks

@@ -4,7 +4,7 @@ use native.Mathlib.Omega.{arith}
 use denote.Ref.{now}
 use Rattle.laws.specs.Tests.{tests}
 use Rattle.member_rules.specs.Refusals.{refusal-number}
-use Rattle.member_rules.proofs.Refusals.{numbered}
+use Rattle.member_rules.proofs.Checks.{numbered}
 use Rattle.play_office.proofs.Arms.{refuses, goes-silent, sends-go, proposes-go, decides-go}
 use Rattle.play_office.proofs.Facing.{retook, refusal-small, few, sent-ranged, answers-sent, answers-proposed, faced-tree}
 use Rattle.play_office.proofs.Settling.{as-worked}

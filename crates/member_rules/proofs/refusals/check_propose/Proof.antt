@@ -4,7 +4,7 @@ use mathlib.Core.List.{[], _∷_}
 use borrow.Author.Tests.{lt-ltb, le-ltb}
 use Rattle.laws.specs.First.{_gives_, first}
 use Rattle.member_rules.specs.Causes.{other-vote, PROPOSE-causes}
-use Rattle.member_rules.proofs.Refusals.{denied}
+use Rattle.member_rules.proofs.Checks.{denied}
 use borrow.Author.Needs.{needs}
 use Rattle.member_rules.proofs.refusals.check_propose.Statement.{statement}
 use Rattle.member_rules.proofs.refusals.check_propose.Tie as tie

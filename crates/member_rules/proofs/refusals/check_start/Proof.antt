@@ -1,6 +1,6 @@
 -- `crate::refusals::check_start` meets its contract: each return goes by the tests that led there. Assumes nothing.
 use borrow.Author.Tests.{le-leb, lt-leb}
-use Rattle.member_rules.proofs.Refusals.{denied}
+use Rattle.member_rules.proofs.Checks.{denied}
 use borrow.Author.Needs.{needs}
 use Rattle.member_rules.proofs.refusals.check_start.Statement.{statement}
 use Rattle.member_rules.proofs.refusals.check_start.Tie as tie

@@ -6,7 +6,7 @@ use borrow.Author.Tests.{le-leb, lt-leb}
 use Rattle.laws.specs.First.{_gives_, first}
 use Rattle.ids.specs.Ranges.{out-of-range}
 use Rattle.member_rules.specs.Causes.{start-causes}
-use Rattle.member_rules.proofs.Refusals.{denied, held}
+use Rattle.member_rules.proofs.Checks.{denied, held}
 use borrow.Author.Needs.{needs}
 use Rattle.member_rules.proofs.refusals.check_start_call.Statement.{statement}
 use Rattle.member_rules.proofs.refusals.check_start_call.Tie as tie
