@@ -28,10 +28,10 @@ use Rattle.member_record.proofs.MemberState as T
 use Rattle.member_record.proofs.MemberState.Laws as T′
 use Rattle.member_calls.specs.declared.reply.Called.{Called}
 use Rattle.member_calls.specs.declared.reply.Report.{Report}
-use Rattle.member_calls.proofs.Called as K
-use Rattle.member_calls.proofs.Called.Laws as K′
-use Rattle.member_calls.proofs.Report as R
-use Rattle.member_calls.proofs.Report.Laws as R′
+use Rattle.member_calls.proofs.reply.Called as K
+use Rattle.member_calls.proofs.reply.Called.Laws as K′
+use Rattle.member_calls.proofs.reply.Report as R
+use Rattle.member_calls.proofs.reply.Report.Laws as R′
 
 abbrev pub vals : MemberState → List Val
 vals = LL.vals T.the-type T′.the-laws

@@ -47,9 +47,9 @@ use Rattle.member_record.specs.declared.MemberState.{MemberState}
 use Rattle.member_record.proofs.MemberState as T
 use Rattle.member_calls.specs.declared.reply.Called.{Called}
 use Rattle.member_calls.specs.Reports.{Replies}
-use Rattle.member_calls.proofs.Called as K
-use Rattle.member_calls.proofs.Called.Laws as K′
-use Rattle.member_calls.proofs.Report as R
+use Rattle.member_calls.proofs.reply.Called as K
+use Rattle.member_calls.proofs.reply.Called.Laws as K′
+use Rattle.member_calls.proofs.reply.Report as R
 use Rattle.member_calls.specs.Calls.{start-call}
 use Rattle.member_lent.proofs.Lent.{vals, report-val, owned-record, owned-report, typed-record, typed-called, typed-report, state-is, report-is, copies-out, copies-in}
 use Rattle.member_calls.proofs.start_into as into
