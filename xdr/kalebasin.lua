@@ -100,7 +100,7 @@ end
 -- A message that is read, in words.
 local function words(bytes)
   local kind = word(bytes, 0)
-  local said = kinds[kind] .. " of round " .. word(bytes, 4) .. " from member " .. word(bytes, 8)
+  local said = ("%s of round %d from member %d"):format(kinds[kind], word(bytes, 4), word(bytes, 8))
   if kind == PROPOSE then
     return said .. " with the value " .. tostring(bytes:range(12, 8):uint64())
   end
@@ -110,7 +110,7 @@ local function words(bytes)
   if word(bytes, 12) == 0 then
     return said .. ", which never voted"
   end
-  return said .. ", which voted for " .. tostring(bytes:range(20, 8):uint64()) .. " in round " .. word(bytes, 16)
+  return said .. (", which voted for %s in round %d"):format(tostring(bytes:range(20, 8):uint64()), word(bytes, 16))
 end
 
 -- The fields that are wholly there, then what is left over.
