@@ -5,10 +5,10 @@ use lib.ListN.{length}
 use borrow.Author.Tests.{ne-eqb}
 use borrow.Author.Needs.{needs}
 use denote.Ref.{now}
-use Rattle.message.specs.Layout.{kind}
-use Rattle.message.specs.declared.Fault.the-variants.{Length}
+use Rattle.message.specs.Layout.{JOIN-KIND, VOTE-KIND, head-length, kind-in}
+use Rattle.numbers.specs.Numbers.{MESSAGE-LENGTH}
 use Rattle.message.specs.declared.Read.the-variants.{Refused}
-use Rattle.message.specs.Reading.{size, ranged, read}
+use Rattle.message.specs.Reading.{size, ranged, reading}
 use Rattle.message.proofs.Checks.{Known, wrong-size, right-size, size-propose, size-other, decoded-start, decoded-propose, decoded-vote}
 use Rattle.message_reader.proofs.read_kind.Statement.{statement}
 use Rattle.message_reader.proofs.read_kind.Tie as tie
@@ -23,17 +23,17 @@ returns : tie.Need-returns
 returns c = search needs
 
 -- a kind that isn't JOIN
-no-join : (c : tie.Else1) → kind (now (c .before .before .before .args .s)) ≡ 2 → ⊥
+no-join : (c : tie.Else1) → kind-in (now (c .before .before .before .args .s)) ≡ JOIN-KIND → ⊥
 no-join c k = c .if1 .left (c .before .word-at .ensures ∙ k)
 
 known : (c : tie.Else1) → Known (now (c .before .before .before .args .s))
 known c =
     let s = c .before .before .before in
-    record { low = s .pre .1; high = s .pre .2; present = rw (ne-eqb (kind (now (s .args .s))) 2 (no-join c)) }
+    record { low = s .pre .1; high = s .pre .2; present = rw (ne-eqb (kind-in (now (s .args .s))) JOIN-KIND (no-join c)) }
 
 refused : (c : tie.Else1) →
     let s = now (c .before .before .before .args .s) in
-    (length s ≡ size s → ⊥) → Refused Length ≡ read s
+    (length s ≡ size s → ⊥) → Refused MESSAGE-LENGTH ≡ reading s
 refused c e = sym (wrong-size _ (known c) (c .before .before .before .pre .0) (λ k. absurd (no-join c k)) e)
 
 returns-2 : tie.Need-returns-2
@@ -56,7 +56,7 @@ returns-3 c =
     sym (right-size _ (known b) (c .before .before .if3 .left ∙ sym (size-propose _ three)))
 
 -- START or VOTE
-twelve : (c : tie.Else2) → size (now (c .before .before .before .before .args .s)) ≡ 12
+twelve : (c : tie.Else2) → size (now (c .before .before .before .before .args .s)) ≡ head-length
 twelve c = size-other _ (no-join (c .before)) (λ k. c .if2 .left (c .before .before .word-at .ensures ∙ k))
 
 returns-4 : tie.Need-returns-4
@@ -84,7 +84,7 @@ returns-6 : tie.Need-returns-6
 returns-6 c =
     let t = c .before .before .before .before in
     let s = now (t .before .before .before .before .args .s) in
-    let four : kind s ≡ 4 = omega (arith, t .before .before .word-at .ensures, t .before .before .before .before .pre) in
+    let four : kind-in s ≡ VOTE-KIND = omega (arith, t .before .before .word-at .ensures, t .before .before .before .before .pre) in
     c .ranged3 .ensures ∙ ap ranged (c .before .as-vote .ensures ∙ sym (decoded-vote _ four)) ∙
     sym (right-size _ (known (t .before)) (c .before .before .before .if4 .left ∙ sym (twelve t)))
 

@@ -2,7 +2,7 @@
 -- Assumes nothing.
 use native.Mathlib.Omega.{arith}
 use Rattle.xdr_writer.proofs.Items.{put-behind}
-use Rattle.message.specs.Layout.{words}
+use Rattle.message.specs.Layout.{layout}
 use borrow.Author.Needs.{needs}
 use Rattle.message_writer.proofs.put_message.Statement.{statement}
 use Rattle.message_writer.proofs.put_message.Tie as tie
@@ -56,7 +56,7 @@ same-length : tie.Need-same-length
 same-length c = search needs
 
 returns : tie.Need-returns
-unfolding words
+unfolding layout
 returns c =
     rw (c .before .before .before .before .before .m .given .1) (c .before .before .put-head .ensures)
 
@@ -64,7 +64,7 @@ same-length-2 : tie.Need-same-length-2
 same-length-2 c = search needs
 
 returns-2 : tie.Need-returns-2
-unfolding words
+unfolding layout
 returns-2 c =
     let head = c .before .before .before .before .before .before in
     let s = head .before .before .before .before .before .before in
@@ -75,7 +75,7 @@ same-length-3 : tie.Need-same-length-3
 same-length-3 c = search needs
 
 returns-3 : tie.Need-returns-3
-unfolding words
+unfolding layout
 returns-3 c =
     let vote = c .before .before .before .before .before .before in
     let presence = vote .before .before .before .before in
@@ -89,7 +89,7 @@ same-length-4 : tie.Need-same-length-4
 same-length-4 c = search needs
 
 returns-4 : tie.Need-returns-4
-unfolding words
+unfolding layout
 returns-4 c =
     let head = c .before .before .before .before .before .before in
     let s = head .before .before .before .before .before .before in
@@ -100,7 +100,7 @@ same-length-5 : tie.Need-same-length-5
 same-length-5 c = search needs
 
 returns-5 : tie.Need-returns-5
-unfolding words
+unfolding layout
 returns-5 c =
     rw (c .before .before .before .before .before .m5 .given .1) (c .before .before .put-head5 .ensures)
 
