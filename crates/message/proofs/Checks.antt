@@ -14,7 +14,8 @@ use Rattle.numbers.specs.Numbers.{MESSAGE-LENGTH, MESSAGE-FIELD}
 use Rattle.message.specs.declared.Read.the-variants.{Refused}
 use Rattle.message.specs.Fields.{in-range}
 use Rattle.message.specs.Reading.{is-join, untold, no-kind, wrong-length, wrong-presence, inexact, size, decoded, ranged, reading}
-use Rattle.message.specs.Layout.{START-KIND, JOIN-KIND, PROPOSE-KIND, VOTE-KIND, kind-at, presence-at, kind-end, head-length, join-length, join-voted-length}
+use Rattle.message.specs.Layout.{START-KIND, JOIN-KIND, PROPOSE-KIND, VOTE-KIND, kind-at, presence-at, kind-end, head-length, join-length}
+use Rattle.message.specs.Layout.{join-voted-length}
 use Rattle.message.specs.Layout.{propose-length, longest, byte-count, kind-in, round-of, sender-of, presence-in, voted-of, voted-value-in, proposed-in}
 use Rattle.message.specs.declared.Message.{Message}
 use Rattle.message.specs.declared.Message.the-variants.{Start, Join, JoinVoted, Propose, Vote}

@@ -31,7 +31,8 @@ use Rattle.message.specs.Layout.{voted-value-at, proposed-at, join-voted
 use Rattle.message.specs.Layout.{presence-in, voted-of, voted-value-in, proposed-in, ValueFits}
 use Rattle.message.specs.Reading.{is-join, size, decoded, message-row, read-answer, read-number, reading, ReaderGives}
 use Rattle.message.specs.Writing.{writer-row, writing, buffer-after, in-front}
-use Rattle.message.proofs.Checks.{Known, right-size, size-least, size-front, size-join-least, size-join, size-join-voted, size-propose, size-other, decoded-start, decoded-join, decoded-join-voted, decoded-propose, decoded-vote}
+use Rattle.message.proofs.Checks.{Known, right-size, size-least, size-front, size-join-least, size-join, size-join-voted, size-propose, size-other}
+use Rattle.message.proofs.Checks.{decoded-start, decoded-join, decoded-join-voted, decoded-propose, decoded-vote}
 
 -- an answer has the number of the first cause of its row
 read-numbered : (s : List ℕ) → read-number (reading s) ≡ first (message-row s)
@@ -67,10 +68,12 @@ module _ (k : ℕ) (r : Round) (s : Member) (small : k ≤ VOTE-KIND) (h : head-
   kind-found = integer-found [] (integer (r .0) ∷ integer (s .0) ∷ js) k kind-at (length-encoded []) (omega arith)
 
   round-found : round-of (encoded (head k r s ++ js)) ≡ r
-  round-found = ap (λ (x : ℕ). record { 0 = x }) (integer-found (integer k ∷ []) (integer (s .0) ∷ js) (r .0) round-at (length-encoded (integer k ∷ [])) (round-small r s h))
+  round-found = ap (λ (x : ℕ). record { 0 = x }) (integer-found (integer k ∷ []) (integer (s .0) ∷ js) (r .0) round-at (length-encoded (integer k ∷ []))
+      (round-small r s h))
 
   sender-found : sender-of (encoded (head k r s ++ js)) ≡ s
-  sender-found = ap (λ (x : ℕ). record { 0 = x }) (integer-found (integer k ∷ integer (r .0) ∷ []) js (s .0) sender-at (length-encoded (integer k ∷ integer (r .0) ∷ [])) (sender-small r s h))
+  sender-found = ap (λ (x : ℕ). record { 0 = x }) (integer-found (integer k ∷ integer (r .0) ∷ []) js (s .0) sender-at
+      (length-encoded (integer k ∷ integer (r .0) ∷ [])) (sender-small r s h))
 
 -- bytes of the length of their kind and presence
 record Whole (s : List ℕ) : Type 0 where
@@ -122,7 +125,8 @@ read-whole s m h =
     (whole, same, ranged)
 
 -- the five shapes
-by-kind {ℓ} : {C : Type ℓ} (s : List ℕ) → Whole s → (kind-in s ≡ START-KIND → C) → (kind-in s ≡ JOIN-KIND → presence-in s ≡ 0 → C) → (kind-in s ≡ JOIN-KIND → presence-in s ≡ 1 → C) →
+by-kind {ℓ} : {C : Type ℓ} (s : List ℕ) → Whole s → (kind-in s ≡ START-KIND → C) → (kind-in s ≡ JOIN-KIND → presence-in s ≡ 0 → C) →
+    (kind-in s ≡ JOIN-KIND → presence-in s ≡ 1 → C) →
     (kind-in s ≡ PROPOSE-KIND → C) → (kind-in s ≡ VOTE-KIND → C) → C
 by-kind s w start join join-voted propose vote =
     let low = w .known .low in
@@ -130,7 +134,8 @@ by-kind s w start join join-voted propose vote =
     by-test (eqb (kind-in s) START-KIND) (λ t. start (eqb-true (kind-in s) START-KIND t))
     (λ t. by-test (is-join s)
     (λ j. let few : ltb 1 (presence-in s) ≡ false = rw j at (w .known .present) in
-    by-test (eqb (presence-in s) 0) (λ p. join (eqb-true (kind-in s) JOIN-KIND j) (eqb-true (presence-in s) 0 p)) (λ p. join-voted (eqb-true (kind-in s) JOIN-KIND j) (omega tests)))
+    by-test (eqb (presence-in s) 0) (λ p. join (eqb-true (kind-in s) JOIN-KIND j) (eqb-true (presence-in s) 0 p))
+    (λ p. join-voted (eqb-true (kind-in s) JOIN-KIND j) (omega tests)))
     (λ j. by-test (eqb (kind-in s) PROPOSE-KIND) (λ p. propose (eqb-true (kind-in s) PROPOSE-KIND p)) (λ p. vote (omega tests))))
 
 module _ (s : List ℕ) (b : Bytes s) where
@@ -148,8 +153,10 @@ module _ (s : List ℕ) (b : Bytes s) where
       (λ k p. rw (← e, decoded-join s k p)
       (stood (Join (round-of s) (sender-of s)) (k, (refl, (refl, (p, tt)))) (w .exact ∙ size-join s k p), tt))
       (λ k p. let l : length s ≡ join-voted-length = w .exact ∙ size-join-voted s k p in
-      rw (← e, decoded-join-voted s k p)
-      (stood (JoinVoted (round-of s) (sender-of s) (voted-of s) (voted-value-in s)) (k, (refl, (refl, (p, (refl, (refl, tt)))))) l, hyper-at-small voted-value-at s b))
+      rw (← e, decoded-join-voted s k p) (
+        stood (JoinVoted (round-of s) (sender-of s) (voted-of s) (voted-value-in s)) (k, (refl, (refl, (p, (refl, (refl, tt)))))) l,
+        hyper-at-small voted-value-at s b,
+      ))
       (λ k. let l : length s ≡ propose-length = w .exact ∙ size-propose s k in
       rw (← e, decoded-propose s k)
       (stood (Propose (round-of s) (sender-of s) (proposed-in s)) (k, (refl, (refl, (refl, tt)))) l, hyper-at-small proposed-at s b))
@@ -199,12 +206,16 @@ spelt (JoinVoted r s q w) v h =
     let f : vote-in-range r q ≡ true = and-right (head-in-range r s) (vote-in-range r q) h in
     let below : ltb (q .0) (r .0) ≡ true = and-right (leb 1 (q .0)) (ltb (q .0) (r .0)) f in
     let k = kind-found JOIN-KIND r s (omega arith) g js in
-    let p : presence-in l ≡ 1 = integer-found (head JOIN-KIND r s) (integer (q .0) ∷ long w ∷ []) 1 presence-at (length-encoded (head JOIN-KIND r s)) (omega arith) in
+    let p : presence-in l ≡ 1 = integer-found (head JOIN-KIND r s) (integer (q .0) ∷ long w ∷ []) 1 presence-at (length-encoded (head JOIN-KIND r s))
+    (omega arith) in
     let y : word-at l voted-at ≡ q .0 =
-    integer-found (head JOIN-KIND r s ++ integer 1 ∷ []) (long w ∷ []) (q .0) voted-at (length-encoded (head JOIN-KIND r s ++ integer 1 ∷ [])) (omega (tests, round-small r s g)) in
-    let z : hyper-at l voted-value-at ≡ w = long-found (head JOIN-KIND r s ++ integer 1 ∷ integer (q .0) ∷ []) [] w voted-value-at (length-encoded (head JOIN-KIND r s ++ integer 1 ∷ integer (q .0) ∷ [])) v in (
+    integer-found (head JOIN-KIND r s ++ integer 1 ∷ []) (long w ∷ []) (q .0) voted-at (length-encoded (head JOIN-KIND r s ++ integer 1 ∷ []))
+    (omega (tests, round-small r s g)) in
+    let z : hyper-at l voted-value-at ≡ w = long-found (head JOIN-KIND r s ++ integer 1 ∷ integer (q .0) ∷ []) [] w voted-value-at
+    (length-encoded (head JOIN-KIND r s ++ integer 1 ∷ integer (q .0) ∷ [])) v in (
       whole-join l (JoinVoted r s q w) (length-bytes (JoinVoted r s q w)) k (rw p (omega arith)) (size-join-voted l k p),
-      decoded-join-voted l k p ∙ (λ i. JoinVoted (round-found JOIN-KIND r s (omega arith) g js i) (sender-found JOIN-KIND r s (omega arith) g js i) (record { 0 = y i }) (z i)),
+      decoded-join-voted l k p ∙ (λ i. JoinVoted (round-found JOIN-KIND r s (omega arith) g js i) (sender-found JOIN-KIND r s (omega arith) g js i)
+          (record { 0 = y i }) (z i)),
     )
 spelt (Propose r s w) v h =
     let l = bytes (Propose r s w) in
@@ -239,7 +250,8 @@ fitting : (m : Message) (old : List ℕ) → longest ≤ length old → in-range
 fitting m old l h = rw (le-ltb (length old) longest l, h)
 
 -- it is written, with its own length
-pub in-range-written : (m : Message) (old : List ℕ) → longest ≤ length old → in-range m ≡ true → writing m old ≡ record { number = 0; length = length (bytes m) }
+pub in-range-written : (m : Message) (old : List ℕ) → longest ≤ length old → in-range m ≡ true →
+    writing m old ≡ record { number = 0; length = length (bytes m) }
 unfolding writing
 in-range-written m old l h = rw (fitting m old l h)
 

@@ -64,16 +64,24 @@ put-between : (g : Message) (front row behind : List ℕ) (a : ℕ) → length f
     take a (front ++ (row ++ behind)) ++ in-front g (take row-length (drop a (front ++ (row ++ behind)))) ++ drop (a + row-length) (front ++ (row ++ behind)) ≡
     front ++ in-front g row ++ behind
 put-between g front row behind a p q =
-    rw (← drop-drop row-length a (front ++ (row ++ behind)), take-at front (row ++ behind) a p, drop-at front (row ++ behind) a p, take-at row behind row-length q, drop-at row behind row-length q)
+    rw (
+      ← drop-drop row-length a (front ++ (row ++ behind)),
+      take-at front (row ++ behind) a p,
+      drop-at front (row ++ behind) a p,
+      take-at row behind row-length q,
+      drop-at row behind row-length q,
+    )
 
 -- a message put at the first free row is stored behind the others
-pub put-stored : (s : List ℕ) (gs : List Message) (g : Message) (k : ℕ) → s ≡ stored (length s) gs → k ≡ length gs → row-start (length gs) + row-length ≤ length s →
+pub put-stored : (s : List ℕ) (gs : List Message) (g : Message) (k : ℕ) → s ≡ stored (length s) gs → k ≡ length gs →
+    row-start (length gs) + row-length ≤ length s →
     put-row s k g ≡ stored (length s) (gs ++ g ∷ [])
 unfolding stored row-with
 put-stored s gs g k e q h =
     let free = length s - row-start (length (gs ++ g ∷ [])) in
     let cut : length s - row-start (length gs) ≡ row-length + free = omega (arith, length-append gs (g ∷ [])) in
-    let shape : s ≡ rows-with gs ++ (zeros row-length ++ zeros free) = e ∙ ap (λ (z : List ℕ). rows-with gs ++ z) (zeros-cut (length s - row-start (length gs)) row-length free cut) in
+    let shape : s ≡ rows-with gs ++ (zeros row-length ++ zeros free) = e ∙
+    ap (λ (z : List ℕ). rows-with gs ++ z) (zeros-cut (length s - row-start (length gs)) row-length free cut) in
     let front : length (rows-with gs) ≡ row-start k = rw q (length-rows gs) in
     ap (λ (t : List ℕ). put-row t k g) shape
     ∙ put-between g (rows-with gs) (zeros row-length) (zeros free) (row-start k) front (length-zeros row-length)
@@ -84,10 +92,16 @@ put-stored s gs g k e q h =
 row-found : (gs : List Message) (behind : List ℕ) (k : ℕ) (d : Message) → k < length gs → row-at (rows-with gs ++ behind) k ≡ row-with (getD gs k d)
 unfolding rows-with
 row-found [] behind k d h = absurd (omega arith)
-row-found (g ∷ gs) behind zero d h = rw (append-assoc (row-with g) (rows-with gs) behind) (take-at (row-with g) (rows-with gs ++ behind) row-length (length-row g))
+row-found (g ∷ gs) behind zero d h = rw (append-assoc (row-with g) (rows-with gs) behind)
+    (take-at (row-with g) (rows-with gs ++ behind) row-length (length-row g))
 row-found (g ∷ gs) behind (suc k) d h =
     let e : row-start (suc k) ≡ row-length + row-start k = omega arith in
-    rw (e, ← drop-drop (row-start k) row-length (row-with g ++ rows-with gs ++ behind), append-assoc (row-with g) (rows-with gs) behind, drop-at (row-with g) (rows-with gs ++ behind) row-length (length-row g))
+    rw (
+      e,
+      ← drop-drop (row-start k) row-length (row-with g ++ rows-with gs ++ behind),
+      append-assoc (row-with g) (rows-with gs) behind,
+      drop-at (row-with g) (rows-with gs ++ behind) row-length (length-row g),
+    )
     (row-found gs behind k d (omega arith))
 
 -- the message of row k is message k

@@ -26,12 +26,17 @@ word-at-requires-2 c κs =
 as-join-voted-requires : tie.Need-as-join-voted-requires
 as-join-voted-requires c κs =
     let b = c .before .before .before .before in
-    omega (arith, size-join-voted (now (b .before .before .args .s)) (sym (b .word-at .ensures) ∙ c .before .before .if2 .taken) (sym (c .before .word-at2 .ensures) ∙ c .if3 .taken))
+    omega (
+      arith,
+      size-join-voted (now (b .before .before .args .s)) (sym (b .word-at .ensures) ∙ c .before .before .if2 .taken)
+          (sym (c .before .word-at2 .ensures) ∙ c .if3 .taken),
+    )
 
 returns-2 : tie.Need-returns-2
 returns-2 c =
     let t = c .before .before in
-    c .as-join-voted .ensures ∙ sym (decoded-join-voted _ (sym (t .before .before .before .word-at .ensures) ∙ t .before .if2 .taken) (sym (t .word-at2 .ensures) ∙ c .before .if3 .taken))
+    c .as-join-voted .ensures ∙ sym (decoded-join-voted _ (sym (t .before .before .before .word-at .ensures) ∙ t .before .if2 .taken)
+    (sym (t .word-at2 .ensures) ∙ c .before .if3 .taken))
 
 as-join-requires : tie.Need-as-join-requires
 as-join-requires c κs = omega (arith, size-least (now (c .before .before .before .before .before .before .args .s)))
@@ -40,7 +45,11 @@ returns-3 : tie.Need-returns-3
 unfolding decoded
 returns-3 c =
     let t = c .before .before in
-    simp (c .as-join .ensures, sym (t .before .before .before .word-at .ensures) ∙ t .before .if2 .taken, ne-eqb _ _ (λ e. c .before .if3 .left (t .word-at2 .ensures ∙ e)))
+    simp (
+      c .as-join .ensures,
+      sym (t .before .before .before .word-at .ensures) ∙ t .before .if2 .taken,
+      ne-eqb _ _ (λ e. c .before .if3 .left (t .word-at2 .ensures ∙ e)),
+    )
 
 as-propose-requires : tie.Need-as-propose-requires
 as-propose-requires c κs =

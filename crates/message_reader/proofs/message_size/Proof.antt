@@ -19,7 +19,10 @@ returns c = simp (sym (c .before .before .before .word-at .ensures) ∙ c .befor
 
 returns-2 : tie.Need-returns-2
 unfolding size decoded
-returns-2 c = simp (sym (c .before .before .before .word-at .ensures) ∙ c .before .before .if1 .taken, ne-eqb _ _ (λ e. c .if2 .left (c .before .word-at2 .ensures ∙ e)))
+returns-2 c = simp (
+  sym (c .before .before .before .word-at .ensures) ∙ c .before .before .if1 .taken,
+  ne-eqb _ _ (λ e. c .if2 .left (c .before .word-at2 .ensures ∙ e)),
+)
 
 returns-3 : tie.Need-returns-3
 unfolding size decoded

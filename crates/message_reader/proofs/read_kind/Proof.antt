@@ -71,7 +71,8 @@ ranged-requires-2 c κs = search needs
 returns-5 : tie.Need-returns-5
 returns-5 c =
     let t = c .before .before .before .before in
-    c .ranged2 .ensures ∙ ap ranged (c .before .as-start .ensures ∙ sym (decoded-start _ (sym (t .before .before .word-at .ensures) ∙ c .before .before .if5 .taken))) ∙
+    c .ranged2 .ensures ∙ ap ranged (c .before .as-start .ensures ∙ sym (decoded-start _
+    (sym (t .before .before .word-at .ensures) ∙ c .before .before .if5 .taken))) ∙
     sym (right-size _ (known (t .before)) (c .before .before .before .if4 .left ∙ sym (twelve t)))
 
 as-vote-requires : tie.Need-as-vote-requires

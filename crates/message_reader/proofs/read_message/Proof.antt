@@ -20,7 +20,12 @@ returns-2 c = reader-gives _ _ (simp (le-ltb _ _ (c .before .before .if1 .left),
 
 returns-3 : tie.Need-returns-3
 unfolding reading
-returns-3 c = reader-gives _ _ (simp (le-ltb _ _ (c .before .before .before .if1 .left), sym (c .before .before .word-at .ensures), ne-eqb _ _ (c .before .if2 .left), lt-ltb _ _ (c .if3 .taken)))
+returns-3 c = reader-gives _ _ (simp (
+  le-ltb _ _ (c .before .before .before .if1 .left),
+  sym (c .before .before .word-at .ensures),
+  ne-eqb _ _ (c .before .if2 .left),
+  lt-ltb _ _ (c .if3 .taken),
+))
 
 read-kind-requires : tie.Need-read-kind-requires
 read-kind-requires c κs = search needs

@@ -1,4 +1,5 @@
--- `message_writer::put_message` meets its contract, variant by variant: each number that an arm puts behind those before it makes the longer front, up to the whole message.
+-- `message_writer::put_message` meets its contract, variant by variant: each number that an arm puts behind those before it makes the longer front,
+-- up to the whole message.
 -- Assumes nothing.
 use native.Mathlib.Omega.{arith}
 use Rattle.xdr_writer.proofs.Items.{put-behind}
@@ -83,7 +84,8 @@ returns-3 c =
     let s = head .before .before .before .before .before .before in
     let room = s .pre in
     rw (head .before .before .before .m3 .given .1)
-    (put-behind (put-behind (put-behind (head .put-head3 .ensures) (presence .write-word2 .ensures) (omega arith)) (vote .write-word3 .ensures) (omega arith)) (c .before .before .write-hyper .ensures) (omega arith))
+    (put-behind (put-behind (put-behind (head .put-head3 .ensures) (presence .write-word2 .ensures) (omega arith)) (vote .write-word3 .ensures) (omega arith))
+    (c .before .before .write-hyper .ensures) (omega arith))
 
 same-length-4 : tie.Need-same-length-4
 same-length-4 c = search needs
