@@ -36,14 +36,15 @@ same-length c = search needs
 
 returns : tie.Need-returns
 returns c =
-    let a = c .before .before .before .before .before .args in
+    let entry = c .before .before .before .before .before in
+    let a = entry .args in
     let s = now (a .s) in
     let e : row-start (a .k) + row-length - row-start (a .k) ≡ row-length = omega arith in
     let row : take (row-start (a .k) + row-length - row-start (a .k)) (drop (row-start (a .k)) s) ≡ row-at s (a .k) = rw e in
     let room : row-length ≤ length (row-at s (a .k)) = rw (length-take-le row-length (drop (row-start (a .k)) s)
     (rw (length-drop (row-start (a .k)) s) (omega arith))) (omega arith) in
     let w = rw row at (c .before .before .write-message .ensures .buffer) in
-    let put = w ∙ left-in-front (a .g) (row-at s (a .k)) room (c .before .before .before .before .before .pre .1) in
+    let put = w ∙ left-in-front (a .g) (row-at s (a .k)) room (entry .pre .1) in
     rw (
       e,
       put,
