@@ -2,16 +2,19 @@
 // a pointer and a count of elements. A number is 0 for OK, else 01's refusal.
 use ids::Member;
 use ids::Round;
-use message::Fault;
+use message::JOIN_KIND;
 use message::Message;
+use message::PROPOSE_KIND;
 use message::Read;
+use message::START_KIND;
+use message::VOTE_KIND;
 use play::answers::PlayAnswer;
 ghost use mathlib.Core.Path.{_≡_};
 ghost use mathlib.Core.Bool.{true};
 ghost use Rattle.tree_theory.specs.Machine.{add, commit};
 ghost use Rattle.tree_theory.specs.Table.{fresh-number, fresh-table};
 ghost use Rattle.tree.specs.Promises.{Called, PathGiven};
-ghost use Rattle.message.specs.Reading.{read};
+ghost use Rattle.message.specs.Reading.{reading};
 ghost use Rattle.play.specs.Promise.{Given};
 ghost use Rattle.exports.specs.Results.{counts-of, voteless, message-result, refused-result, read-result};
 
@@ -88,8 +91,8 @@ fn message_result(m: Message) -> MessageResult
     ensures { λ r. ⌜ r ≡ message-result m ⌝ }
 {
     match m {
-        Message::Start { round, sender } => voteless(1, round, sender, 0),
-        Message::Join { round, sender } => voteless(2, round, sender, 0),
+        Message::Start { round, sender } => voteless(START_KIND, round, sender, 0),
+        Message::Join { round, sender } => voteless(JOIN_KIND, round, sender, 0),
         Message::JoinVoted {
             round,
             sender,
@@ -97,7 +100,7 @@ fn message_result(m: Message) -> MessageResult
             value,
         } => MessageResult {
             number: 0,
-            kind: 2,
+            kind: JOIN_KIND,
             round: round.0,
             sender: sender.0,
             present: 1,
@@ -108,17 +111,17 @@ fn message_result(m: Message) -> MessageResult
             round,
             sender,
             value,
-        } => voteless(3, round, sender, value),
-        Message::Vote { round, sender } => voteless(4, round, sender, 0),
+        } => voteless(PROPOSE_KIND, round, sender, value),
+        Message::Vote { round, sender } => voteless(VOTE_KIND, round, sender, 0),
     }
 }
 
 // A refusal's number alone.
-fn refused_result(f: Fault) -> MessageResult
-    ensures { λ r. ⌜ r ≡ refused-result f ⌝ }
+fn refused_result(number: u32) -> MessageResult
+    ensures { λ r. ⌜ r ≡ refused-result number ⌝ }
 {
     MessageResult {
-        number: message::number(f),
+        number,
         kind: 0,
         round: 0,
         sender: 0,
@@ -131,12 +134,12 @@ fn refused_result(f: Fault) -> MessageResult
 // Reads one message, neither more nor fewer bytes.
 #[no_mangle]
 pub extern "C" fn kalebasin_read_message(s: &[u8]) -> MessageResult
-    ensures { λ r. ⌜ r ≡ read-result (read (now (s .entry))) ⌝ }
+    ensures { λ r. ⌜ r ≡ read-result (reading (now (s .entry))) ⌝ }
 {
     let m = message_reader::read_message(s);
     match m {
         Read::Got(m) => message_result(m),
-        Read::Refused(f) => refused_result(f),
+        Read::Refused(number) => refused_result(number),
     }
 }
 

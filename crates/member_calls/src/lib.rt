@@ -1,27 +1,24 @@
 // The member calls of 01, "Members", by value: a record in and out, and a reply buffer that what is sent is put in.
 pub mod reply;
 
+use crate::reply::Called;
+use crate::reply::give;
+use crate::reply::refuse;
+use crate::reply::tell;
 use ids::Member;
 use ids::Round;
 use member_record::MemberState;
 use member_record::blank;
 use member_record::is_sound;
 use member_record::number_sound;
-use crate::reply::Called;
-use crate::reply::give;
-use crate::reply::refuse;
-use crate::reply::tell;
 use message::LONGEST;
 use message::Read;
+use numbers::NOT_SOUND;
+use numbers::REPLY_SHORT;
 ghost use mathlib.Core.Path.{_≡_};
 ghost use Rattle.laws.specs.First.{first};
 ghost use Rattle.member_calls.specs.Reports.{Answers, Replies};
 ghost use Rattle.member_calls.specs.Calls.{record-row, fresh-call, start-call, deliver-call};
-
-// The causes of the row "record, then buffer".
-const NOT_SOUND: u32 = 17;
-
-const SHORT_BUFFER: u32 = 18;
 
 // Fresh: where the number or N isn't allowed, the old record stays.
 pub fn fresh_into(m: MemberState, me: Member, n: u32) -> Called
@@ -44,7 +41,7 @@ fn record_number(m: MemberState, room: usize) -> u32
         return NOT_SOUND;
     }
     if short {
-        return SHORT_BUFFER;
+        return REPLY_SHORT;
     }
     0
 }
@@ -70,7 +67,7 @@ pub fn deliver_into(m: MemberState, bytes: &[u8], reply: &mut [u8]) -> Called
     }
     let read = message_reader::read_message(bytes);
     match read {
-        Read::Refused(f) => refuse(m, message::number(f)),
+        Read::Refused(number) => refuse(m, number),
         Read::Got(g) => tell(member::deliver_sound(m, g), reply),
     }
 }

@@ -54,7 +54,7 @@ pub fn left(m: MemberState, tally: Tally, number: u8) -> Worked
 fn store_full(tally: Tally, messages: &[u8]) -> bool
     ensures { λ b. ⌜ b ≡ store-full tally (now (messages .entry)) ⌝ }
 {
-    messages.len() / play_store::ROW <= tally.sent
+    messages.len() / play_store::ROW_LENGTH <= tally.sent
 }
 
 // Whether the root and the proposals fill the table.

@@ -20,7 +20,7 @@ use Rattle.tree_theory.proofs.Trees.{grown-fit, grown-stated, sized-rows}
 use Rattle.tree_theory.proofs.Steps.{written-tree}
 use Rattle.message.specs.declared.Message.{Message}
 use Rattle.message.specs.declared.Message.the-variants.{Start, Join, JoinVoted, Propose, Vote}
-use Rattle.message.specs.Layout.{Held}
+use Rattle.message.specs.Layout.{ValueFits}
 use Rattle.member_record.specs.declared.MemberState.{MemberState}
 use Rattle.member_record.specs.Record.{fresh as fresh-member}
 use Rattle.model.specs.Model.{Sizes, Event, start, deliver, first-office, answer, next, offered, offers-at, member-at, member-number, proposals}
@@ -84,7 +84,7 @@ module _ (z : Sizes) (o : ModelOffice) (k : Office) (store ws : List ℕ) (L : L
   added-small r x A =
       offered-small z (first-office (z .n)) (R .events) (R .offers) x (invariant .made-so .offered-so r x (A .parent) (A .is-made))
 
-  backed-small : (g : Message) → Backed (o .made) g → Held g
+  backed-small : (g : Message) → Backed (o .made) g → ValueFits g
   backed-small (Start r s) b = tt
   backed-small (Join r s) b = tt
   backed-small (JoinVoted r s q w) b = added-small (q .0) w b
@@ -92,7 +92,7 @@ module _ (z : Sizes) (o : ModelOffice) (k : Office) (store ws : List ℕ) (L : L
   backed-small (Vote r s) b = tt
 
   -- the values of the messages sent are 64-bit numbers
-  pub small : (g : Message) → g ∈ o .sent → Held g
+  pub small : (g : Message) → g ∈ o .sent → ValueFits g
   small g m = backed-small g (invariant .backed g m)
 
   -- the table holds the model's tree

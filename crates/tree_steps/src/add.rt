@@ -1,6 +1,6 @@
 // What `tree::add` answers on a tree, and what it writes (01, "The tree"; the rows round, add and last of the place table).
-use ids::Round;
 use crate::answers::AddAnswer;
+use ids::Round;
 ghost use mathlib.Core.Path.{_≡_};
 ghost use mathlib.Core.Bool.{cond};
 ghost use mathlib.Core.List.{_∷_, [], _++_, map};

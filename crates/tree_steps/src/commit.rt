@@ -1,6 +1,6 @@
 // What `tree::commit` answers on a tree, and what it writes (01, "The tree"; the rows round and commit of the place table).
-use ids::Round;
 use crate::answers::CommitAnswer;
+use ids::Round;
 ghost use mathlib.Core.Path.{_≡_};
 ghost use mathlib.Core.Bool.{true};
 ghost use Prim.Native.Nat.{_*_, _≤_};

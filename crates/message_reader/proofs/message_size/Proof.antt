@@ -1,11 +1,11 @@
--- `play_store::message_size` meets its contract: each return goes by the tests that led there. Assumes nothing.
+-- `message_reader::message_size` meets its contract: each return goes by the tests that led there. Assumes nothing.
 use mathlib.Core.Path.{sym, _∙_}
 use borrow.Author.Needs.{needs}
 use borrow.Author.Tests.{ne-eqb}
 use Rattle.message.specs.Reading.{size, decoded}
 use Rattle.message.proofs.Checks.{size-other}
-use Rattle.play_store.proofs.message_size.Statement.{statement}
-use Rattle.play_store.proofs.message_size.Tie as tie
+use Rattle.message_reader.proofs.message_size.Statement.{statement}
+use Rattle.message_reader.proofs.message_size.Tie as tie
 
 word-at-requires : tie.Need-word-at-requires
 word-at-requires c κs = search needs
@@ -19,7 +19,10 @@ returns c = simp (sym (c .before .before .before .word-at .ensures) ∙ c .befor
 
 returns-2 : tie.Need-returns-2
 unfolding size decoded
-returns-2 c = simp (sym (c .before .before .before .word-at .ensures) ∙ c .before .before .if1 .taken, ne-eqb _ _ (λ e. c .if2 .left (c .before .word-at2 .ensures ∙ e)))
+returns-2 c = simp (
+  sym (c .before .before .before .word-at .ensures) ∙ c .before .before .if1 .taken,
+  ne-eqb _ _ (λ e. c .if2 .left (c .before .word-at2 .ensures ∙ e)),
+)
 
 returns-3 : tie.Need-returns-3
 unfolding size decoded
