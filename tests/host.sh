@@ -1,5 +1,5 @@
 #!/usr/bin/env bash
-# The host package over the proved core: builds the archive and runs cargo's tests, among them the comparison of the core with the
+# The host packages over the proved core: builds the archive and runs cargo's tests, among them the comparison of the core with the
 # second implementation.
 cd "$(dirname "$0")/.." || exit 2
 . tests/archive.bash
