@@ -92,7 +92,7 @@ fn main() {
 fn rustc(folder: &Path, args: &[&str]) {
     let rustc = std::env::var("RUSTC").unwrap_or("rustc".into());
     let mut command = Command::new(rustc);
-    let output = command.current_dir(folder).args(["--edition=2021", "-Cdebuginfo=0"]).args(args).output().unwrap();
+    let output = command.current_dir(folder).args(["--edition=2021", "-Cdebuginfo=0", "-L."]).args(args).output().unwrap();
     assert!(output.status.success(), "{args:?}\n{}", String::from_utf8_lossy(&output.stderr));
 }
 
