@@ -1,18 +1,48 @@
 //! Event lists: what play takes.
 
+use crate::notation::{self, Mistake};
 use crate::{Member, MessageNumber, Refusal, Round};
 use std::fmt;
+use std::str::FromStr;
 
 /// One event of a list.
+///
+/// Later versions have more kinds, and more fields in each, so a match has a last arm for others, a pattern ends in `..`,
+/// and an event is made by the function of its kind.
 #[derive(Clone, Copy, Debug, PartialEq, Eq, Hash)]
+#[non_exhaustive]
 pub enum Event {
     /// A member starts a round that it leads and offers a value.
-    Start { member: Member, round: Round, offer: u64 },
+    #[non_exhaustive]
+    Start {
+        /// The member that starts.
+        member: Member,
+        /// The round that it starts.
+        round: Round,
+        /// The value that it offers.
+        offer: u64,
+    },
     /// A message sent earlier reaches a member.
-    Deliver { message: MessageNumber, member: Member },
+    #[non_exhaustive]
+    Deliver {
+        /// The message's place among those sent.
+        message: MessageNumber,
+        /// The member that it reaches.
+        member: Member,
+    },
 }
 
 impl Event {
+    /// A member starts a round and offers a value.
+    pub fn start(member: Member, round: Round, offer: u64) -> Event {
+        Event::Start { member, round, offer }
+    }
+
+    /// A message reaches a member.
+    pub fn deliver(message: MessageNumber, member: Member) -> Event {
+        Event::Deliver { message, member }
+    }
+
     /// The member that takes the event.
     pub fn member(&self) -> Member {
         match *self {
@@ -57,6 +87,7 @@ impl fmt::Display for Event {
 /// let mut list = EventList::new(3);
 /// list.start(Member(1), Round(1), 70).deliver(MessageNumber(0), Member(2));
 /// assert_eq!(list.to_string(), "n=3 s(1,1,70) d(0,2)");
+/// assert_eq!("s(1,1,70) d(0,2)".parse().as_ref(), Ok(&list));
 /// assert_eq!(EventList::from_bytes(&list.to_bytes()), Ok(list));
 /// ```
 ///
@@ -66,7 +97,11 @@ impl fmt::Display for Event {
 /// use kalebasin::{EventList, Member, Round};
 /// EventList::new(3).start(Round(1), Member(1), 70);
 /// ```
+///
+/// Later versions have more in front of the events, so a list is made by [`EventList::new`], from notation, from bytes, or by
+/// collecting events.
 #[derive(Clone, Debug, PartialEq, Eq, Hash)]
+#[non_exhaustive]
 pub struct EventList {
     /// The number of members. Play takes 3, 5 and 7 and refuses any other with 27.
     pub n: u32,
@@ -85,13 +120,13 @@ impl EventList {
 
     /// Puts a start behind the other events.
     pub fn start(&mut self, member: Member, round: Round, offer: u64) -> &mut EventList {
-        self.events.push(Event::Start { member, round, offer });
+        self.events.push(Event::start(member, round, offer));
         self
     }
 
     /// Puts a delivery behind the other events.
     pub fn deliver(&mut self, message: MessageNumber, member: Member) -> &mut EventList {
-        self.events.push(Event::Deliver { message, member });
+        self.events.push(Event::deliver(message, member));
         self
     }
 
@@ -126,6 +161,41 @@ impl fmt::Display for EventList {
     fn fmt(&self, f: &mut fmt::Formatter) -> fmt::Result {
         write!(f, "n={}", self.n)?;
         self.events.iter().try_for_each(|event| write!(f, " {event}"))
+    }
+}
+
+impl FromStr for EventList {
+    type Err = Mistake;
+
+    /// The list that the rig's [`notation`] says, for three members where it has no `n=`.
+    fn from_str(text: &str) -> Result<EventList, Mistake> {
+        notation::parse(text, None)
+    }
+}
+
+impl FromIterator<Event> for EventList {
+    /// A list of these events for three members, as notation without `n=` is. For another office, extend a new list.
+    ///
+    /// ```
+    /// use kalebasin::{Event, EventList, Member, Round};
+    ///
+    /// let starts = || (1..=2).map(|round| Event::start(Member(round), Round(round), 70));
+    /// assert_eq!(starts().collect::<EventList>().to_string(), "n=3 s(1,1,70) s(2,2,70)");
+    /// let mut five = EventList::new(5);
+    /// five.extend(starts());
+    /// assert_eq!(five.to_string(), "n=5 s(1,1,70) s(2,2,70)");
+    /// ```
+    fn from_iter<I: IntoIterator<Item = Event>>(events: I) -> EventList {
+        let mut list = EventList::new(notation::MEMBERS);
+        list.extend(events);
+        list
+    }
+}
+
+impl Extend<Event> for EventList {
+    /// Puts these behind the other events.
+    fn extend<I: IntoIterator<Item = Event>>(&mut self, events: I) {
+        self.events.extend(events);
     }
 }
 

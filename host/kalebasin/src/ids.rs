@@ -6,7 +6,10 @@ macro_rules! sort_of_number {
     ($name:ident, $about:literal) => {
         #[doc = $about]
         #[derive(Clone, Copy, Debug, Default, PartialEq, Eq, PartialOrd, Ord, Hash)]
-        pub struct $name(pub u32);
+        pub struct $name(
+            /// The number itself.
+            pub u32,
+        );
 
         impl fmt::Display for $name {
             fn fmt(&self, f: &mut fmt::Formatter) -> fmt::Result {
@@ -34,8 +37,8 @@ impl Round {
         Round::ROOT < self && self <= Round::HIGHEST
     }
 
-    /// The leader of this round among `n` members.
-    pub fn leader(self, n: u32) -> Member {
-        Member(self.0 % n)
+    /// The leader of this round among `n` members; none where there are none.
+    pub fn leader(self, n: u32) -> Option<Member> {
+        self.0.checked_rem(n).map(Member)
     }
 }

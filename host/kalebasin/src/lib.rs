@@ -19,6 +19,7 @@
 //!
 //! "Document 01" is the product's scope document; its numbers and terms are used throughout.
 
+#![deny(missing_docs)]
 #![cfg_attr(not(feature = "core"), allow(rustdoc::broken_intra_doc_links))]
 
 mod event;
@@ -41,5 +42,5 @@ pub use node::{nodes, Node, Status};
 pub use played::{Played, STORE_ROW, STORE_ROWS, TABLE_ROW, TABLE_ROWS};
 #[cfg(feature = "core")]
 pub use proved::{play, read_message, tree_add, tree_commit, tree_fresh, tree_path};
-pub use refusal::{number_of, Refusal};
+pub use refusal::{number_of, NoRefusal, Refusal};
 pub use store::sent;

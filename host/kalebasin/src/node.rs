@@ -6,8 +6,11 @@ use std::fmt;
 /// The status of a node.
 #[derive(Clone, Copy, Debug, PartialEq, Eq, Hash)]
 pub enum Status {
+    /// Added, and can still be committed.
     Added = 1,
+    /// Struck out: it can't be committed.
     Ghost = 2,
+    /// Committed; the root is.
     Committed = 3,
 }
 
@@ -29,11 +32,15 @@ impl fmt::Display for Status {
 }
 
 /// A row of a node table that isn't free.
-#[derive(Clone, Copy, Debug, PartialEq, Eq)]
+#[derive(Clone, Copy, Debug, PartialEq, Eq, Hash)]
 pub struct Node {
+    /// The round; 0 for the root.
     pub round: Round,
+    /// The round that it was added below; the root's is 0.
     pub parent: Round,
+    /// The value; 0 for the root.
     pub value: u64,
+    /// ADDED, GHOST or COMMITTED.
     pub status: Status,
 }
 

@@ -17,10 +17,13 @@ use std::fmt;
 use std::str::FromStr;
 
 /// Where notation goes wrong, and how. Lines and columns count from 1.
-#[derive(Clone, Debug, PartialEq, Eq)]
+#[derive(Clone, Debug, PartialEq, Eq, Hash)]
 pub struct Mistake {
+    /// The line.
     pub line: usize,
+    /// The column, in characters.
     pub column: usize,
+    /// What is wrong there.
     pub what: String,
 }
 

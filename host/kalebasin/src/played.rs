@@ -2,8 +2,9 @@
 
 use crate::Message;
 
-/// What an accepted play counted. Play is accepted even if each of its events is refused.
-#[derive(Clone, Copy, Debug, Default, PartialEq, Eq)]
+/// What an accepted play counted. Play is accepted even if each of its events is refused. Later versions count more.
+#[derive(Clone, Copy, Debug, Default, PartialEq, Eq, Hash)]
+#[non_exhaustive]
 pub struct Played {
     /// Events with the answer 0.
     pub accepted: u32,

@@ -57,7 +57,7 @@ pub fn play(list: &[u8], store: &mut [u8], table: &mut [u64], answers: &mut [u8]
 /// use kalebasin::{read_message, Member, Message, Refusal, Round};
 ///
 /// let bytes = [0, 0, 0, 4, 0, 0, 0, 9, 0, 0, 0, 2];
-/// assert_eq!(read_message(&bytes), Ok(Message::Vote { round: Round(9), sender: Member(2) }));
+/// assert_eq!(read_message(&bytes), Ok(Message::vote(Round(9), Member(2))));
 /// assert_eq!(read_message(&bytes[..8]), Err(Refusal::MessageLength));
 /// ```
 ///
@@ -69,13 +69,13 @@ pub fn read_message(bytes: &[u8]) -> Result<Message, Refusal> {
     accepted(result.number)?;
     let (round, sender) = (Round(result.round), Member(result.sender));
     Ok(match result.kind {
-        1 => Message::Start { round, sender },
+        1 => Message::start(round, sender),
         2 => {
             let vote = Vote { round: Round(result.voted), value: result.value };
-            Message::Join { round, sender, vote: (result.present == 1).then_some(vote) }
+            Message::join(round, sender, (result.present == 1).then_some(vote))
         }
-        3 => Message::Propose { round, sender, value: result.value },
-        4 => Message::Vote { round, sender },
+        3 => Message::propose(round, sender, result.value),
+        4 => Message::vote(round, sender),
         kind => unreachable!("the core read a message of kind {kind}"),
     })
 }

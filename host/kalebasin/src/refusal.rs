@@ -12,7 +12,10 @@ macro_rules! refusals {
         /// assert_eq!(Refusal::NotLeader.number(), 19);
         /// println!("{}", Refusal::NotLeader); // 19: the member isn't the leader of the round
         /// ```
+        ///
+        /// Later versions give out more numbers.
         #[derive(Clone, Copy, Debug, PartialEq, Eq, PartialOrd, Ord, Hash)]
+        #[non_exhaustive]
         #[repr(u8)]
         pub enum Refusal {
             $(#[doc = concat!(stringify!($number), ": ", $cause, ".")] $name = $number,)*
@@ -87,6 +90,33 @@ impl fmt::Display for Refusal {
 }
 
 impl std::error::Error for Refusal {}
+
+impl From<Refusal> for u32 {
+    fn from(refusal: Refusal) -> u32 {
+        refusal.number()
+    }
+}
+
+impl TryFrom<u32> for Refusal {
+    type Error = NoRefusal;
+
+    /// [`Refusal::from_number`], with an error for what isn't the number of a refusal.
+    fn try_from(number: u32) -> Result<Refusal, NoRefusal> {
+        Refusal::from_number(number).ok_or(NoRefusal(number))
+    }
+}
+
+/// A number that no refusal has: 0, which is OK, or one that isn't given out.
+#[derive(Clone, Copy, Debug, PartialEq, Eq, Hash)]
+pub struct NoRefusal(pub u32);
+
+impl fmt::Display for NoRefusal {
+    fn fmt(&self, f: &mut fmt::Formatter) -> fmt::Result {
+        write!(f, "{} isn't the number of a refusal", self.0)
+    }
+}
+
+impl std::error::Error for NoRefusal {}
 
 /// Document 01's number of a result: 0 for OK.
 pub fn number_of<T>(result: &Result<T, Refusal>) -> u32 {

@@ -6,7 +6,7 @@ use crate::Calls;
 use kalebasin::{Played, Refusal, STORE_ROW, TABLE_ROW};
 
 /// What is lent to play: the lengths of store, table and answers, and a seed for what they hold before.
-#[derive(Clone, Copy, Debug, PartialEq, Eq)]
+#[derive(Clone, Copy, Debug, PartialEq, Eq, Hash)]
 pub struct Lent {
     /// Bytes.
     pub store: usize,
@@ -31,6 +31,7 @@ const GUARD: usize = 8;
 /// What a play left: its result, and the memory with the guards on both sides.
 #[derive(Clone, Debug, PartialEq, Eq)]
 pub struct Left {
+    /// What play returned.
     pub result: Result<Played, Refusal>,
     store: Vec<u8>,
     table: Vec<u64>,
@@ -38,14 +39,17 @@ pub struct Left {
 }
 
 impl Left {
+    /// The store.
     pub fn store(&self) -> &[u8] {
         within(&self.store)
     }
 
+    /// The table.
     pub fn table(&self) -> &[u64] {
         within(&self.table)
     }
 
+    /// The answers, and bytes lent behind them.
     pub fn answers(&self) -> &[u8] {
         within(&self.answers)
     }

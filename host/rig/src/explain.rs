@@ -5,7 +5,7 @@ use crate::second::model::Model;
 use kalebasin::{Event, EventList, Member, Message, MessageNumber, Refusal};
 
 /// An event in words.
-#[derive(Clone, Debug, PartialEq, Eq)]
+#[derive(Clone, Debug, PartialEq, Eq, Hash)]
 pub struct Explained {
     /// The event in the rig's notation.
     pub event: String,
@@ -50,10 +50,10 @@ fn sent_as(before: &Model, step: &Step) -> String {
 fn accepted(before: &Model, after: &Model, event: &Event, step: &Step) -> String {
     let sent = sent_as(before, step);
     match event {
-        Event::Start { member, round, offer } => {
+        Event::Start { member, round, offer, .. } => {
             format!("member {member} starts round {round} with the offer {offer} and sends {sent}")
         }
-        Event::Deliver { message, member } => {
+        Event::Deliver { message, member, .. } => {
             let (was, is) = (&before.members[member.0 as usize], &after.members[member.0 as usize]);
             match &before.sent[message.0 as usize] {
                 Message::Start { round, .. } => match step.sent {
@@ -71,6 +71,7 @@ fn accepted(before: &Model, after: &Model, event: &Event, step: &Step) -> String
                 Message::Vote { sender, .. } => counted_vote(*sender, is, step),
             }
         }
+        other => other.to_string(),
     }
 }
 
@@ -107,10 +108,11 @@ fn counted_vote(sender: Member, is: &Record, step: &Step) -> String {
 fn refused(before: &Model, event: &Event, refusal: Refusal) -> String {
     let (member, what) = match event {
         Event::Start { member, round, .. } => (*member, format!("member {member} can't start round {round}")),
-        Event::Deliver { message, member } => match before.message(*message) {
+        Event::Deliver { message, member, .. } => match before.message(*message) {
             Some(sent) => (*member, format!("member {member} doesn't take message {message}, {sent}")),
             None => (*member, format!("member {member} is to get message {message}")),
         },
+        other => (other.member(), other.to_string()),
     };
     format!("{what}: {}", why(before, event, member, refusal))
 }
@@ -125,7 +127,7 @@ fn why(before: &Model, event: &Event, member: Member, refusal: Refusal) -> Strin
             1 => "only message 0 was sent yet".into(),
             sent => format!("only messages 0 to {} were sent yet", sent - 1),
         },
-        (Refusal::NotLeader, Event::Start { round, .. }) => format!("member {} leads it", round.leader(before.n())),
+        (Refusal::NotLeader, Event::Start { round, .. }) => format!("member {} leads it", before.leader(*round)),
         (Refusal::NotAboveLed, _) => format!("it led round {} already", record.l),
         (Refusal::RoundRange, _) => "rounds run from 1 to 1,000,000".into(),
         (Refusal::MovedPast, _) => format!("it has joined or voted in round {}", record.j),

@@ -8,9 +8,11 @@ use kalebasin::{
 };
 
 /// A list and the memory lent with it.
-#[derive(Clone, Debug, PartialEq, Eq)]
+#[derive(Clone, Debug, PartialEq, Eq, Hash)]
 pub struct Case {
+    /// The list.
     pub list: EventList,
+    /// The memory.
     pub lent: Lent,
 }
 
@@ -112,13 +114,13 @@ fn wild(random: &mut Random, model: &Model) -> Event {
             3 => random.number() as u32,
             _ => random.between(1, 30) as u32,
         };
-        return Event::Start { member, round: Round(round), offer: offer(random) };
+        return Event::start(member, Round(round), offer(random));
     }
     let message = match random.below(20) {
         0 => random.number() as u32,
         _ => random.below(model.sent.len() + 2) as u32,
     };
-    Event::Deliver { message: MessageNumber(message), member }
+    Event::deliver(MessageNumber(message), member)
 }
 
 /// A start by a leader, of a round that it hasn't led.
@@ -137,7 +139,7 @@ fn start(random: &mut Random, model: &Model, style: Style) -> Event {
         1..=30 => round += n * random.between(1, 3) as u32,
         _ => {}
     }
-    Event::Start { member: Member(member), round: Round(round), offer: offer(random) }
+    Event::start(Member(member), Round(round), offer(random))
 }
 
 fn offer(random: &mut Random) -> u64 {
@@ -161,10 +163,10 @@ fn delivery(random: &mut Random, model: &Model, style: Style) -> Event {
         }
     }
     let member = match model.sent[message] {
-        Message::Join { round, .. } | Message::Vote { round, .. } => round.leader(model.n()),
+        Message::Join { round, .. } | Message::Vote { round, .. } => model.leader(round),
         Message::Start { .. } | Message::Propose { .. } => Member(random.below(model.n() as usize) as u32),
     };
-    Event::Deliver { message: MessageNumber(message as u32), member }
+    Event::deliver(MessageNumber(message as u32), member)
 }
 
 fn sent_earlier(random: &mut Random, model: &Model, style: Style) -> usize {

@@ -11,6 +11,8 @@
 //! - [`suite`]: the whole comparison, part by part
 //! - [`search`]: random orders, for a property that fails
 
+#![deny(missing_docs)]
+
 mod calls;
 pub mod compare;
 pub mod draw;

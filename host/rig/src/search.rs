@@ -11,9 +11,13 @@ use kalebasin::{nodes, number_of, EventList, Refusal, Status, STORE_ROW, TABLE_R
 
 /// A run of a list: what the model keeps, the answers it gives, and what play left.
 pub struct Run {
+    /// The list and the memory.
     pub case: Case,
+    /// The model after the list.
     pub model: Model,
+    /// The model's answers.
     pub answers: Vec<u32>,
+    /// What play left.
     pub left: Left,
 }
 
@@ -28,6 +32,7 @@ impl Run {
 
 /// Something that can hold of a run or fail.
 pub struct Property {
+    /// What it is called on the command line.
     pub name: &'static str,
     /// What holds of a run.
     pub about: &'static str,
@@ -165,8 +170,11 @@ fn refused(run: &Run, refusal: Refusal) -> Option<String> {
 
 /// What is searched.
 pub struct Search<'a> {
+    /// The implementation to run.
     pub calls: &'a Calls,
+    /// What to look for.
     pub properties: Vec<&'static Property>,
+    /// Another seed gives other lists.
     pub seed: u64,
     /// How many lists to try.
     pub lists: u64,
@@ -177,9 +185,11 @@ pub struct Search<'a> {
 }
 
 /// How far a search has got.
-#[derive(Clone, Copy, Debug, Default, PartialEq, Eq)]
+#[derive(Clone, Copy, Debug, Default, PartialEq, Eq, Hash)]
 pub struct Progress {
+    /// Lists tried.
     pub lists: u64,
+    /// Their events.
     pub events: u64,
     /// Lists with a proposal.
     pub proposed: u64,
@@ -189,6 +199,7 @@ pub struct Progress {
 
 /// A property that failed.
 pub struct Found {
+    /// The property.
     pub property: &'static Property,
     /// The shortest list found that shows it.
     pub case: Case,

@@ -110,11 +110,11 @@ fn renumbered(case: &Case, at: usize, length: usize) -> EventList {
 /// The event with its message's new number; none if the message is gone.
 fn moved(event: &Event, new_numbers: &[Option<u32>]) -> Option<Event> {
     match *event {
-        Event::Deliver { message: MessageNumber(old), member } => match new_numbers.get(old as usize) {
-            Some(new) => new.map(|new| Event::Deliver { message: MessageNumber(new), member }),
+        Event::Deliver { message: MessageNumber(old), member, .. } => match new_numbers.get(old as usize) {
+            Some(new) => new.map(|new| Event::deliver(MessageNumber(new), member)),
             None => Some(*event),
         },
-        Event::Start { .. } => Some(*event),
+        _ => Some(*event),
     }
 }
 
@@ -124,13 +124,13 @@ fn smaller_numbers(mut case: Case, fails: &mut dyn FnMut(&Case) -> bool) -> Case
     let fewer = [3, 5].into_iter().filter(|fewer| *fewer < n);
     case = first_that_fails(case, fails, fewer, |case, fewer| case.list.n = fewer);
     for at in 0..case.list.events.len() {
-        if let Event::Start { member, round, offer } = case.list.events[at] {
-            let start = |round, offer| Event::Start { member, round, offer };
+        if let Event::Start { member, round, offer, .. } = case.list.events[at] {
+            let start = |round, offer| Event::start(member, round, offer);
             let lower = (0..9).map(|turn| Round(round.0 % n.max(1) + turn * n)).filter(|lower| *lower < round);
             case = first_that_fails(case, fails, lower, |case, lower| case.list.events[at] = start(lower, offer));
         }
-        if let Event::Start { member, round, offer } = case.list.events[at] {
-            let start = |offer| Event::Start { member, round, offer };
+        if let Event::Start { member, round, offer, .. } = case.list.events[at] {
+            let start = |offer| Event::start(member, round, offer);
             let lower = [0, 10, 20].into_iter().filter(|lower| *lower < offer);
             case = first_that_fails(case, fails, lower, |case, lower| case.list.events[at] = start(lower));
         }

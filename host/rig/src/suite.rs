@@ -24,13 +24,12 @@ fn rehearsal() -> EventList {
 }
 
 fn deliveries(messages: u32, members: u32) -> impl Iterator<Item = Event> {
-    (0..messages).flat_map(move |message| {
-        (0..members).map(move |member| Event::Deliver { message: MessageNumber(message), member: Member(member) })
-    })
+    (0..messages)
+        .flat_map(move |message| (0..members).map(move |member| Event::deliver(MessageNumber(message), Member(member))))
 }
 
 fn start(member: u32, round: u32, offer: u64) -> Event {
-    Event::Start { member: Member(member), round: Round(round), offer }
+    Event::start(Member(member), Round(round), offer)
 }
 
 /// Every list of up to 4 events for three members from 27: the starts of rounds 1 to 3 by anyone, starts out of range,
@@ -40,10 +39,8 @@ pub fn short_lists(calls: Pair) -> Compared {
         (0..3).flat_map(|member| (1..=3).map(move |round| start(member, round, 7))).collect();
     alphabet.extend([start(3, 1, 7), start(1, 0, 7), start(1, 1_000_001, 7), start(1, 4, 8)]);
     alphabet.extend(
-        deliveries(4, 3).chain(
-            [(0, 3), (4, 0)]
-                .map(|(message, member)| Event::Deliver { message: MessageNumber(message), member: Member(member) }),
-        ),
+        deliveries(4, 3)
+            .chain([(0, 3), (4, 0)].map(|(message, member)| Event::deliver(MessageNumber(message), Member(member)))),
     );
     let mut list = EventList::new(3);
     each_tail(calls, &alphabet, 4, &mut list, Lent { dirt: 77, ..Lent::rows(3, 2, 0) })
@@ -57,7 +54,7 @@ pub fn rehearsal_tails(calls: Pair) -> Compared {
     let whole = rehearsal();
     let mut compared = 0;
     for length in 0..=whole.events.len() {
-        let mut list = EventList { n: 3, events: whole.events[..length].to_vec() };
+        let mut list: EventList = whole.events[..length].iter().copied().collect();
         compared += each_tail(calls, &alphabet, 3, &mut list, Lent { dirt: 99, ..Lent::rows(11, 3, 0) })?;
     }
     Ok(compared)
@@ -170,13 +167,13 @@ pub fn valid_messages() -> Vec<Vec<u8>> {
     for round in [1, 2, 300, 1_000_000].map(Round) {
         for sender in [0, 3, 6].map(Member) {
             messages.extend([
-                Message::Start { round, sender },
-                Message::Vote { round, sender },
-                Message::Join { round, sender, vote: None },
-                Message::Propose { round, sender, value: 0x0102_0304_0506_0708 },
+                Message::start(round, sender),
+                Message::vote(round, sender),
+                Message::join(round, sender, None),
+                Message::propose(round, sender, 0x0102_0304_0506_0708),
             ]);
             for voted in [1, 299, 999_999].map(Round).into_iter().filter(|voted| *voted < round) {
-                messages.push(Message::Join { round, sender, vote: Some(Vote { round: voted, value: u64::MAX }) });
+                messages.push(Message::join(round, sender, Some(Vote { round: voted, value: u64::MAX })));
             }
         }
     }
@@ -257,12 +254,15 @@ fn each_damage(bytes: &[u8], look: &mut Look) -> Result<(), String> {
 }
 
 /// A call of the tree.
-#[derive(Clone, Copy, Debug, PartialEq, Eq)]
+#[derive(Clone, Copy, Debug, PartialEq, Eq, Hash)]
 pub enum TreeCall {
+    /// `tree_fresh`.
     Fresh,
+    /// `tree_add`: round, value, parent.
     Add(Round, u64, Round),
+    /// `tree_commit`.
     Commit(Round),
-    /// The round, and the words lent for the path.
+    /// `tree_path`: the round, and the words lent for the path.
     Path(Round, usize),
 }
 

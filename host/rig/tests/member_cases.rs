@@ -121,24 +121,24 @@ fn starts(round: u32, offer: u64) -> Call {
 }
 
 fn start_of(round: u32, sender: u32) -> Call {
-    Call::Deliver(bytes(Message::Start { round: Round(round), sender: Member(sender) }))
+    Call::Deliver(bytes(Message::start(Round(round), Member(sender))))
 }
 
 fn join(round: u32, sender: u32) -> Call {
-    Call::Deliver(bytes(Message::Join { round: Round(round), sender: Member(sender), vote: None }))
+    Call::Deliver(bytes(Message::join(Round(round), Member(sender), None)))
 }
 
 fn voted_join(round: u32, sender: u32, voted: u32, value: u64) -> Call {
     let vote = Some(Vote { round: Round(voted), value });
-    Call::Deliver(bytes(Message::Join { round: Round(round), sender: Member(sender), vote }))
+    Call::Deliver(bytes(Message::join(Round(round), Member(sender), vote)))
 }
 
 fn propose(round: u32, sender: u32, value: u64) -> Call {
-    Call::Deliver(bytes(Message::Propose { round: Round(round), sender: Member(sender), value }))
+    Call::Deliver(bytes(Message::propose(Round(round), Member(sender), value)))
 }
 
 fn vote(round: u32, sender: u32) -> Call {
-    Call::Deliver(bytes(Message::Vote { round: Round(round), sender: Member(sender) }))
+    Call::Deliver(bytes(Message::vote(Round(round), Member(sender))))
 }
 
 fn member(number: u32, n: u32) -> Record {
@@ -363,7 +363,7 @@ fn change(random: &mut Random, record: &mut Record) {
 fn some_message(random: &mut Random, record: &Record) -> Message {
     let n = record.n.max(1);
     let near = Round(record.j.0.saturating_add(random.below(4) as u32).saturating_sub(1));
-    let leader = if random.chance(85) { near.leader(n) } else { Member(random.below(8) as u32) };
+    let leader = if random.chance(85) { near.leader(n).unwrap() } else { Member(random.below(8) as u32) };
     let round = if random.chance(90) { record.l } else { near };
     let senders = if random.chance(90) { n.min(7) } else { 8 };
     let sender = Member(random.below(senders as usize) as u32);
@@ -374,16 +374,16 @@ fn some_message(random: &mut Random, record: &Record) -> Message {
     };
     let kind = if random.chance(50) { awaited } else { random.below(5) };
     match kind {
-        0 => Message::Join { round, sender, vote: None },
+        0 => Message::join(round, sender, None),
         1 => {
             let vote = Vote { round: Round(random.below(round.0 as usize + 1) as u32), value: some_value(random) };
-            Message::Join { round, sender, vote: Some(vote) }
+            Message::join(round, sender, Some(vote))
         }
-        2 => Message::Vote { round, sender },
-        3 => Message::Start { round: near, sender: leader },
+        2 => Message::vote(round, sender),
+        3 => Message::start(near, leader),
         _ => {
             let value = if random.chance(50) { record.w } else { some_value(random) };
-            Message::Propose { round: near, sender: leader, value }
+            Message::propose(near, leader, value)
         }
     }
 }

@@ -128,7 +128,7 @@ fn starts() {
         assert_eq!((record, reply), (before, [0xaa; 30]));
     }
     let (sent, step) = start(&mut record, &mut reply, Round(7), 80).unwrap();
-    assert_eq!(step.sent, Some(Message::Start { round: Round(7), sender: Member(1) }));
+    assert_eq!(step.sent, Some(Message::start(Round(7), Member(1))));
     assert_eq!(read(&reply[..sent]).ok(), step.sent);
     assert!(reply[sent..].iter().all(|byte| *byte == 0xaa));
     assert_eq!(record, Record { l: Round(7), phase: COLLECTING, x: 80, b: Round(0), flags: [false; 7], ..before });
@@ -136,27 +136,22 @@ fn starts() {
 
 #[test]
 fn start_messages() {
-    let start = |round, sender| Message::Start { round: Round(round), sender: Member(sender) };
+    let start = |round, sender| Message::start(Round(round), Member(sender));
     let mut record = member(2);
     assert_eq!(give(&mut record, start(4, 0)), Err(21));
-    assert_eq!(
-        give(&mut record, start(4, 1)),
-        Ok(Some(Message::Join { round: Round(4), sender: Member(2), vote: None }))
-    );
+    assert_eq!(give(&mut record, start(4, 1)), Ok(Some(Message::join(Round(4), Member(2), None))));
     assert_eq!(record, Record { j: Round(4), ..member(2) });
     assert_eq!(give(&mut record, start(4, 1)), Err(22));
     assert_eq!(give(&mut record, start(3, 0)), Err(22));
     let mut voted = Record { j: Round(4), v: Round(3), w: 0, ..member(2) };
     let vote = Some(Vote { round: Round(3), value: 0 });
-    assert_eq!(give(&mut voted, start(6, 0)), Ok(Some(Message::Join { round: Round(6), sender: Member(2), vote })));
+    assert_eq!(give(&mut voted, start(6, 0)), Ok(Some(Message::join(Round(6), Member(2), vote))));
 }
 
 #[test]
 fn join_messages() {
-    let join = |round, sender, vote: Option<(u32, u64)>| Message::Join {
-        round: Round(round),
-        sender: Member(sender),
-        vote: vote.map(|(round, value)| Vote { round: Round(round), value }),
+    let join = |round, sender, vote: Option<(u32, u64)>| {
+        Message::join(Round(round), Member(sender), vote.map(|(round, value)| Vote { round: Round(round), value }))
     };
     let mut record = collecting();
     assert_eq!(give(&mut record, join(4, 3, None)), Err(21));
@@ -165,10 +160,7 @@ fn join_messages() {
     assert_eq!((record.b, record.x, record.counted()), (Round(2), 66, 1));
     assert_eq!(give(&mut record, join(4, 0, Some((3, 67)))), Err(25));
     let mut same = record;
-    assert_eq!(
-        give(&mut same, join(4, 2, Some((2, 99)))),
-        Ok(Some(Message::Propose { round: Round(4), sender: Member(1), value: 66 }))
-    );
+    assert_eq!(give(&mut same, join(4, 2, Some((2, 99)))), Ok(Some(Message::propose(Round(4), Member(1), 66))));
     let mut reply = [0; 28];
     let (_, step) = deliver(&mut record, &mut reply, &put(join(4, 2, Some((3, 67))))).unwrap();
     assert_eq!(step.proposal, Some(Proposal { round: Round(4), value: 67, parent: Round(3) }));
@@ -178,8 +170,8 @@ fn join_messages() {
 
 #[test]
 fn propose_messages() {
-    let propose = |round, sender, value| Message::Propose { round: Round(round), sender: Member(sender), value };
-    let vote = |round| Ok(Some(Message::Vote { round: Round(round), sender: Member(2) }));
+    let propose = |round, sender, value| Message::propose(Round(round), Member(sender), value);
+    let vote = |round| Ok(Some(Message::vote(Round(round), Member(2))));
     let mut record = Record { j: Round(5), ..member(2) };
     assert_eq!(give(&mut record, propose(5, 1, 9)), Err(21));
     assert_eq!(give(&mut record, propose(4, 1, 9)), Err(22));
@@ -194,7 +186,7 @@ fn propose_messages() {
 
 #[test]
 fn vote_messages() {
-    let vote = |round, sender| Message::Vote { round: Round(round), sender: Member(sender) };
+    let vote = |round, sender| Message::vote(Round(round), Member(sender));
     let mut record = Record { phase: PROPOSED, ..collecting() };
     assert_eq!(give(&mut collecting(), vote(4, 0)), Err(24));
     assert_eq!(give(&mut record, vote(4, 3)), Err(21));
@@ -246,6 +238,7 @@ fn the_program_contest() {
         let answer = match event {
             Event::Start { round, offer, .. } => record.start(round, offer),
             Event::Deliver { message, .. } => record.deliver(&sent[message.0 as usize]),
+            other => panic!("the rehearsal has starts and deliveries, not {other}"),
         };
         sent.extend(answer.ok().and_then(|step| step.sent));
         lines += &(line(answer) + "\n");

@@ -14,7 +14,7 @@ fn number(bytes: &[u8]) -> u32 {
 #[test]
 fn case_p12() {
     assert_eq!(number(&bytes(&[2, 5, 0])), 14);
-    assert_eq!(read(&bytes(&[2, 5, 0, 0])), Ok(Message::Join { round: Round(5), sender: Member(0), vote: None }));
+    assert_eq!(read(&bytes(&[2, 5, 0, 0])), Ok(Message::join(Round(5), Member(0), None)));
 }
 
 #[test]
@@ -61,12 +61,12 @@ fn some_messages() -> Vec<Message> {
     let mut messages = Vec::new();
     for round in [0, 1, 2, 1_000_000, 1_000_001].map(Round) {
         for sender in [0, 6, 7].map(Member) {
-            messages.push(Message::Start { round, sender });
-            messages.push(Message::Vote { round, sender });
-            messages.push(Message::Propose { round, sender, value: 0x0102_0304_0506_0708 });
-            messages.push(Message::Join { round, sender, vote: None });
+            messages.push(Message::start(round, sender));
+            messages.push(Message::vote(round, sender));
+            messages.push(Message::propose(round, sender, 0x0102_0304_0506_0708));
+            messages.push(Message::join(round, sender, None));
             for voted in [0, 1, 2, 999_999, 1_000_000].map(Round) {
-                messages.push(Message::Join { round, sender, vote: Some(Vote { round: voted, value: u64::MAX }) });
+                messages.push(Message::join(round, sender, Some(Vote { round: voted, value: u64::MAX })));
             }
         }
     }

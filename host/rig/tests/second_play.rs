@@ -24,6 +24,11 @@ fn answers(notation: &str) -> Vec<u8> {
     run(notation, 100, 64).answers().to_vec()
 }
 
+/// Accepted events, messages, proposals, decisions.
+fn counts(played: Played) -> [u32; 4] {
+    [played.accepted, played.messages, played.proposals, played.decisions]
+}
+
 #[test]
 fn rehearsal_to_the_letter() {
     let expected = "0 0 0 0 25 0 0 0 0 0 0 0 0 0 0\n0 0 0 3\n1 0 70 3\n2 1 70 1\n";
@@ -31,9 +36,8 @@ fn rehearsal_to_the_letter() {
     assert_eq!(rehearsal::output(&second::CALLS, &list("n=3").to_bytes()), "\n0 0 0 3\n");
     assert_eq!(rehearsal::output(&second::CALLS, &list("n=4").to_bytes()), "27\n");
     assert_eq!(rehearsal::output(&second::CALLS, &[0; 7]), "26\n");
-    let played = run(REHEARSAL, 1000, 64).result;
-    assert_eq!(played, Ok(Played { accepted: 14, messages: 10, proposals: 2, decisions: 1 }));
     let left = run(REHEARSAL, 1000, 64);
+    assert_eq!(left.result.map(counts), Ok([14, 10, 2, 1]));
     let kinds = sent(left.store(), 10).map(|bytes| second::message::read(bytes).unwrap().kind());
     let order = ["START", "JOIN", "JOIN", "PROPOSE", "VOTE", "START", "JOIN", "JOIN", "PROPOSE", "VOTE"];
     assert_eq!(kinds.collect::<Vec<_>>(), order);
@@ -52,7 +56,7 @@ fn number(list: &[u8], lent: Lent) -> u32 {
 #[test]
 fn list_refusals_in_order() {
     let good = list("n=3 s(1,1,70) d(0,0)").to_bytes();
-    let with_n = |n| EventList { n, ..list("n=3 s(1,1,70) d(0,0)") }.to_bytes();
+    let with_n = |n| list(&format!("n={n} s(1,1,70) d(0,0)")).to_bytes();
     let lent = Lent::rows(2, 2, 2);
     assert_eq!(number(&good, lent), 0);
     for length in 0..good.len() {
@@ -97,7 +101,7 @@ fn full_store_and_full_table() {
     let to_proposal = "n=3 s(1,1,70) d(0,0) d(0,1) d(1,1) d(2,1) d(2,1)";
     let full_store = run(to_proposal, 3, 1);
     assert_eq!(full_store.answers(), [0, 0, 0, 0, 30, 30]);
-    assert_eq!(full_store.result, Ok(Played { accepted: 4, messages: 3, proposals: 0, decisions: 0 }));
+    assert_eq!(full_store.result.map(counts), Ok([4, 3, 0, 0]));
     let full_table = run(to_proposal, 4, 1);
     assert_eq!(full_table.answers(), [0, 0, 0, 0, 9, 9]);
     assert_eq!(run(to_proposal, 4, 2).answers(), [0, 0, 0, 0, 0, 24]);

@@ -52,7 +52,7 @@ const FAULTS: &[Fault] = &[
         "message.rs",
         "if bytes.len() < 16 {",
         "if bytes.len() == 12 {
-        return Ok(Message::Join { round: round(bytes), sender: sender(bytes), vote: None });
+        return Ok(Message::join(round(bytes), sender(bytes), None));
     }
     if bytes.len() < 16 {",
     ),
@@ -92,7 +92,8 @@ fn main() {
 fn rustc(folder: &Path, args: &[&str]) {
     let rustc = std::env::var("RUSTC").unwrap_or("rustc".into());
     let mut command = Command::new(rustc);
-    let output = command.current_dir(folder).args(["--edition=2021", "-Cdebuginfo=0", "-L."]).args(args).output().unwrap();
+    let output =
+        command.current_dir(folder).args(["--edition=2021", "-Cdebuginfo=0", "-L."]).args(args).output().unwrap();
     assert!(output.status.success(), "{args:?}\n{}", String::from_utf8_lossy(&output.stderr));
 }
 

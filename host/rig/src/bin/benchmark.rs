@@ -190,9 +190,8 @@ fn undisturbed(events: usize) -> EventList {
     let mut list = EventList::new(3);
     for turn in 0.. {
         let (round, first) = (turn + 1, turn * 6);
-        let leader = Round(round).leader(3);
-        let other = Member((leader.0 + 1) % 3);
-        let deliver = |message: u32, member| Event::Deliver { message: MessageNumber(first + message), member };
+        let (leader, other) = (Member(round % 3), Member((round + 1) % 3));
+        let deliver = |message: u32, member| Event::deliver(MessageNumber(first + message), member);
         list.start(leader, Round(round), 70);
         list.events.extend([deliver(0, leader), deliver(0, other), deliver(1, leader), deliver(2, leader)]);
         list.events.extend([deliver(3, leader), deliver(3, other), deliver(4, leader), deliver(5, leader)]);

@@ -3,14 +3,17 @@
 use super::message;
 use kalebasin::{Member, Message, Refusal, Round, Vote};
 
-/// What a member is doing as a leader.
+/// The phase of a member that has led no round.
 pub const IDLE: u32 = 0;
+/// The phase of a leader that counts JOINs.
 pub const COLLECTING: u32 = 1;
+/// The phase of a leader that counts VOTEs.
 pub const PROPOSED: u32 = 2;
+/// The phase of a leader whose round is decided.
 pub const DECIDED: u32 = 3;
 
 /// The member record. The fields have document 01's letters.
-#[derive(Clone, Copy, Debug, PartialEq, Eq)]
+#[derive(Clone, Copy, Debug, PartialEq, Eq, Hash)]
 pub struct Record {
     /// Own number.
     pub number: Member,
@@ -35,25 +38,33 @@ pub struct Record {
 }
 
 /// add(r, X, B).
-#[derive(Clone, Copy, Debug, PartialEq, Eq)]
+#[derive(Clone, Copy, Debug, PartialEq, Eq, Hash)]
 pub struct Proposal {
+    /// r.
     pub round: Round,
+    /// X.
     pub value: u64,
+    /// B.
     pub parent: Round,
 }
 
 /// commit(r), and the decided value X.
-#[derive(Clone, Copy, Debug, PartialEq, Eq)]
+#[derive(Clone, Copy, Debug, PartialEq, Eq, Hash)]
 pub struct Decision {
+    /// r.
     pub round: Round,
+    /// X.
     pub value: u64,
 }
 
 /// What a step sends and what its answer names.
-#[derive(Clone, Copy, Debug, Default, PartialEq, Eq)]
+#[derive(Clone, Copy, Debug, Default, PartialEq, Eq, Hash)]
 pub struct Step {
+    /// The message sent.
     pub sent: Option<Message>,
+    /// The add that the answer names.
     pub proposal: Option<Proposal>,
+    /// The commit that the answer names.
     pub decision: Option<Decision>,
 }
 
@@ -166,21 +177,21 @@ impl Record {
         self.x = offer;
         self.b = Round(0);
         self.flags = [false; 7];
-        Ok(sends(Message::Start { round, sender: self.number }))
+        Ok(sends(Message::start(round, self.number)))
     }
 
     /// Takes the step of a message, or changes nothing.
     pub fn deliver(&mut self, message: &Message) -> Result<Step, Refusal> {
         match *message {
-            Message::Start { round, sender } => self.on_start(round, sender),
-            Message::Join { round, sender, vote } => self.on_join(round, sender, vote),
-            Message::Propose { round, sender, value } => self.on_propose(round, sender, value),
-            Message::Vote { round, sender } => self.on_vote(round, sender),
+            Message::Start { round, sender, .. } => self.on_start(round, sender),
+            Message::Join { round, sender, vote, .. } => self.on_join(round, sender, vote),
+            Message::Propose { round, sender, value, .. } => self.on_propose(round, sender, value),
+            Message::Vote { round, sender, .. } => self.on_vote(round, sender),
         }
     }
 
     fn on_start(&mut self, round: Round, sender: Member) -> Result<Step, Refusal> {
-        if sender != round.leader(self.n) {
+        if Some(sender) != round.leader(self.n) {
             return Err(Refusal::Sender);
         }
         if self.j >= round {
@@ -188,7 +199,7 @@ impl Record {
         }
         self.j = round;
         let vote = if self.v > Round(0) { Some(Vote { round: self.v, value: self.w }) } else { None };
-        Ok(sends(Message::Join { round, sender: self.number, vote }))
+        Ok(sends(Message::join(round, self.number, vote)))
     }
 
     fn on_join(&mut self, round: Round, sender: Member, vote: Option<Vote>) -> Result<Step, Refusal> {
@@ -205,12 +216,12 @@ impl Record {
         self.phase = PROPOSED;
         self.flags = [false; 7];
         let proposal = Proposal { round, value: self.x, parent: self.b };
-        let message = Message::Propose { round, sender: self.number, value: self.x };
+        let message = Message::propose(round, self.number, self.x);
         Ok(Step { proposal: Some(proposal), ..sends(message) })
     }
 
     fn on_propose(&mut self, round: Round, sender: Member, value: u64) -> Result<Step, Refusal> {
-        if sender != round.leader(self.n) {
+        if Some(sender) != round.leader(self.n) {
             return Err(Refusal::Sender);
         }
         if self.j > round {
@@ -222,7 +233,7 @@ impl Record {
         self.j = round;
         self.v = round;
         self.w = value;
-        Ok(sends(Message::Vote { round, sender: self.number }))
+        Ok(sends(Message::vote(round, self.number)))
     }
 
     fn on_vote(&mut self, round: Round, sender: Member) -> Result<Step, Refusal> {
@@ -251,7 +262,7 @@ impl Record {
     }
 
     fn leads(&self, round: Round) -> bool {
-        round.leader(self.n) == self.number
+        round.leader(self.n) == Some(self.number)
     }
 
     /// How many members are flagged.

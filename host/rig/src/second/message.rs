@@ -12,16 +12,16 @@ pub fn read(bytes: &[u8]) -> Result<Message, Refusal> {
     let message = match word(bytes, 0) {
         1 => {
             exact_length(bytes, 12)?;
-            Message::Start { round: round(bytes), sender: sender(bytes) }
+            Message::start(round(bytes), sender(bytes))
         }
         2 => read_join(bytes)?,
         3 => {
             exact_length(bytes, 20)?;
-            Message::Propose { round: round(bytes), sender: sender(bytes), value: double(bytes, 12) }
+            Message::propose(round(bytes), sender(bytes), double(bytes, 12))
         }
         4 => {
             exact_length(bytes, 12)?;
-            Message::Vote { round: round(bytes), sender: sender(bytes) }
+            Message::vote(round(bytes), sender(bytes))
         }
         _ => return Err(Refusal::MessageKind),
     };
@@ -45,7 +45,7 @@ fn read_join(bytes: &[u8]) -> Result<Message, Refusal> {
         }
         _ => return Err(Refusal::MessageField),
     };
-    Ok(Message::Join { round: round(bytes), sender: sender(bytes), vote })
+    Ok(Message::join(round(bytes), sender(bytes), vote))
 }
 
 /// Writes a message to the front of the buffer, which has room for any; the number of bytes written. Fields out of

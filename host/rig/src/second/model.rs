@@ -6,23 +6,29 @@ use kalebasin::{Event, EventList, Member, Message, MessageNumber, Refusal, Round
 use std::fmt;
 
 /// A proposal or a decision.
-#[derive(Clone, Copy, Debug, PartialEq, Eq)]
+#[derive(Clone, Copy, Debug, PartialEq, Eq, Hash)]
 pub enum Made {
+    /// An add.
     Proposal(Proposal),
+    /// A commit.
     Decision(Decision),
 }
 
 /// A made proposal or decision with the event that made it, counted from 0.
-#[derive(Clone, Copy, Debug, PartialEq, Eq)]
+#[derive(Clone, Copy, Debug, PartialEq, Eq, Hash)]
 pub struct MadeAt {
+    /// The event's place.
     pub event: usize,
+    /// The proposal or decision.
     pub made: Made,
 }
 
 /// The offer of an accepted start, with the event that made it, counted from 0.
-#[derive(Clone, Copy, Debug, PartialEq, Eq)]
+#[derive(Clone, Copy, Debug, PartialEq, Eq, Hash)]
 pub struct OfferAt {
+    /// The event's place.
     pub event: usize,
+    /// The offer.
     pub value: u64,
 }
 
@@ -57,6 +63,11 @@ impl Model {
         (model, steps)
     }
 
+    /// The leader of a round.
+    pub fn leader(&self, round: Round) -> Member {
+        Member(round.0 % self.n())
+    }
+
     /// The number of members.
     pub fn n(&self) -> u32 {
         self.members.len() as u32
@@ -80,6 +91,7 @@ impl Model {
             Event::Deliver { message, .. } => {
                 record.deliver(self.message(*message).ok_or(Refusal::NoMemberOrMessage)?)?
             }
+            _ => return Err(Refusal::ListShape),
         };
         if step.sent.is_some() && self.sent.len() == self.store_rows {
             return Err(Refusal::StoreFull);
@@ -149,7 +161,7 @@ impl Model {
 }
 
 /// How a run breaks the third demand.
-#[derive(Clone, Copy, Debug, PartialEq, Eq)]
+#[derive(Clone, Copy, Debug, PartialEq, Eq, Hash)]
 pub enum Breach {
     /// The table's length isn't one of a tree.
     Table(Refusal),
