@@ -118,7 +118,7 @@ fn moved(event: &Event, new_numbers: &[Option<u32>]) -> Option<Event> {
     }
 }
 
-/// Fewer members, lower rounds and offers.
+/// Fewer members, lower rounds, and offers 10, 20, 30 and so on.
 fn smaller_numbers(mut case: Case, fails: &mut dyn FnMut(&Case) -> bool) -> Case {
     let n = case.list.n;
     let fewer = [3, 5].into_iter().filter(|fewer| *fewer < n);
@@ -129,11 +129,41 @@ fn smaller_numbers(mut case: Case, fails: &mut dyn FnMut(&Case) -> bool) -> Case
             let lower = (0..9).map(|turn| Round(round.0 % n.max(1) + turn * n)).filter(|lower| *lower < round);
             case = first_that_fails(case, fails, lower, |case, lower| case.list.events[at] = start(lower, offer));
         }
-        if let Event::Start { member, round, offer, .. } = case.list.events[at] {
-            let start = |offer| Event::start(member, round, offer);
-            let lower = [0, 10, 20].into_iter().filter(|lower| *lower < offer);
-            case = first_that_fails(case, fails, lower, |case, lower| case.list.events[at] = start(lower));
-        }
+    }
+    smaller_offers(case, fails)
+}
+
+/// The offer of the start at this place.
+fn offer_at(list: &EventList, at: usize) -> Option<u64> {
+    match list.events[at] {
+        Event::Start { offer, .. } => Some(offer),
+        _ => None,
+    }
+}
+
+fn set_offer(list: &mut EventList, at: usize, offer: u64) {
+    if let Event::Start { member, round, .. } = list.events[at] {
+        list.events[at] = Event::start(member, round, offer);
+    }
+}
+
+/// Offers 10, 20, 30 and so on, so that each value tells which start it comes from; where that doesn't fail, each offer by
+/// itself becomes the lowest of these that no other start has. Offers that differ are never made equal.
+fn smaller_offers(case: Case, fails: &mut dyn FnMut(&Case) -> bool) -> Case {
+    let starts: Vec<usize> = (0..case.list.events.len()).filter(|at| offer_at(&case.list, *at).is_some()).collect();
+    let in_order = |case: &mut Case, ()| {
+        starts.iter().zip(1..).for_each(|(at, place)| set_offer(&mut case.list, *at, 10 * place));
+    };
+    let mut case = first_that_fails(case, fails, std::iter::once(()), in_order);
+    for at in &starts {
+        let own = offer_at(&case.list, *at);
+        let others: Vec<u64> =
+            starts.iter().filter(|other| *other != at).filter_map(|other| offer_at(&case.list, *other)).collect();
+        let shared = own.is_some_and(|own| others.contains(&own));
+        let lower = (1..=starts.len() as u64)
+            .map(|place| 10 * place)
+            .filter(move |lower| !others.contains(lower) && (shared || Some(*lower) < own));
+        case = first_that_fails(case, fails, lower, |case, lower| set_offer(&mut case.list, *at, lower));
     }
     case
 }
