@@ -7,6 +7,7 @@
 //! - [`draw`]: a tree as text, DOT and SVG
 //! - [`random`], [`generate`]: random lists that reach something
 //! - [`compare`], [`shrink`]: two implementations side by side, and the shortest list that tells them apart
+//! - [`shape`]: where the bytes of a list go wrong
 //! - [`rehearsal`]: what the rehearsal program prints
 //! - [`suite`]: the whole comparison, part by part
 //! - [`search`]: random orders, for a property that fails
@@ -24,6 +25,7 @@ pub mod random;
 pub mod rehearsal;
 pub mod search;
 pub mod second;
+pub mod shape;
 pub mod shrink;
 pub mod suite;
 

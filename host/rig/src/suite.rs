@@ -240,7 +240,7 @@ fn each_word_string(words: &[u32], longest: usize, look: &mut Look) -> Result<()
 }
 
 /// The bytes, each one-byte damage of them, each shorter string, and each that is longer by a byte.
-fn each_damage(bytes: &[u8], look: &mut Look) -> Result<(), String> {
+pub fn each_damage(bytes: &[u8], look: &mut Look) -> Result<(), String> {
     look(bytes)?;
     for at in 0..bytes.len() {
         look(&bytes[..at])?;
