@@ -23,6 +23,11 @@ impl Lent {
     pub fn rows(store: usize, table: usize, answers: usize) -> Lent {
         Lent { store: store * STORE_ROW, table: table * TABLE_ROW, answers, dirt: 0 }
     }
+
+    /// The whole rows of store and table.
+    pub fn whole_rows(&self) -> (usize, usize) {
+        (self.store / STORE_ROW, self.table / TABLE_ROW)
+    }
 }
 
 /// How much is looked at on each side of what is lent.

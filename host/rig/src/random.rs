@@ -10,6 +10,12 @@ impl Random {
         Random(seed)
     }
 
+    /// The numbers of a seed's part: each seed and each part give others.
+    pub fn of(seed: u64, part: u64) -> Random {
+        let mixed = Random(seed).number();
+        Random(Random(mixed.wrapping_add(part)).number())
+    }
+
     /// Any 64-bit number.
     pub fn number(&mut self) -> u64 {
         self.0 = self.0.wrapping_add(0x9e37_79b9_7f4a_7c15);

@@ -1,4 +1,4 @@
-//! Searches random lists, or random orders of one list, for a property that fails.
+//! Searches random lists, random orders of one list, or all lists of a few events for a property that fails.
 
 use crate::compare::{self, Left, Lent};
 use crate::generate::{self, Case};
@@ -7,7 +7,14 @@ use crate::second::model::{Made, Model};
 use crate::second::{self, message};
 use crate::shrink::{shortest, shrink};
 use crate::Calls;
-use kalebasin::{nodes, number_of, EventList, Refusal, Status, STORE_ROW, TABLE_ROW};
+use kalebasin::{
+    nodes, number_of, Event, EventList, Member, MessageNumber, Refusal, Round, Status, STORE_ROW, TABLE_ROW,
+};
+use std::sync::atomic::{AtomicU64, Ordering};
+use std::sync::mpsc::{self, RecvTimeoutError};
+use std::sync::{Mutex, MutexGuard, PoisonError};
+use std::thread;
+use std::time::Duration;
 
 /// A run of a list: what the model keeps, the answers it gives, and what play left.
 pub struct Run {
@@ -24,7 +31,8 @@ pub struct Run {
 impl Run {
     /// Runs a case. N is 3, 5 or 7, store and table have whole rows, and there is an answer byte for each event.
     pub fn new(calls: &Calls, case: &Case) -> Run {
-        let (model, steps) = Model::run(&case.list, case.lent.store / STORE_ROW, case.lent.table / TABLE_ROW);
+        let (store_rows, table_rows) = case.lent.whole_rows();
+        let (model, steps) = Model::run(&case.list, store_rows, table_rows);
         let answers = steps.iter().map(number_of).collect();
         Run { case: case.clone(), model, answers, left: compare::play(calls, &case.list.to_bytes(), &case.lent) }
     }
@@ -150,7 +158,7 @@ fn same(calls: &Calls, run: &Run) -> Option<String> {
 }
 
 fn late_decision(_: &Calls, run: &Run) -> Option<String> {
-    let mut highest = kalebasin::Round::ROOT;
+    let mut highest = Round::ROOT;
     for at in &run.model.made {
         match at.made {
             Made::Proposal(proposal) => highest = highest.max(proposal.round),
@@ -168,20 +176,120 @@ fn refused(run: &Run, refusal: Refusal) -> Option<String> {
     Some(format!("event {at} is refused with {refusal}"))
 }
 
+/// The lists that a search tries.
+pub enum Source {
+    /// Random lists.
+    Random {
+        /// How many.
+        lists: u64,
+        /// Only lists for so many members; for any if none.
+        members: Option<u32>,
+    },
+    /// Random orders of a list.
+    Orders {
+        /// How many.
+        lists: u64,
+        /// The list, and the memory lent with each order.
+        of: Case,
+    },
+    /// All lists of up to so many events, shorter ones first.
+    All {
+        /// The events that they are made of, and the memory lent with each list.
+        of: Case,
+        /// The most events.
+        longest: usize,
+    },
+}
+
+impl Source {
+    /// How many lists there are; none if more than can be counted.
+    pub fn lists(&self) -> Option<u64> {
+        match self {
+            Source::Random { lists, .. } | Source::Orders { lists, .. } => Some(*lists),
+            Source::All { of, longest } => {
+                let mut of_length = (0..=*longest).map(|length| power(of.list.events.len() as u64, length));
+                of_length.try_fold(0u64, |sum, lists| sum.checked_add(lists?))
+            }
+        }
+    }
+
+    /// The list of this number. A seed and a number give the same list again, whichever lists were made before.
+    pub fn case(&self, seed: u64, number: u64) -> Case {
+        let mut random = Random::of(seed, number);
+        match self {
+            Source::Random { members, .. } => loop {
+                let case = generate::case(&mut random);
+                if members.is_none_or(|n| n == case.list.n) {
+                    return case;
+                }
+            },
+            Source::Orders { of, .. } => {
+                let mut case = of.clone();
+                random.shuffle(&mut case.list.events);
+                case
+            }
+            Source::All { of, .. } => {
+                let mut case = of.clone();
+                case.list.events = nth_list(&of.list.events, number);
+                case.lent.answers = case.list.events.len();
+                case
+            }
+        }
+    }
+
+    /// The case as it is or the shortest found from it that fails too. Of all lists, the first that fails is the shortest.
+    fn shortest(&self, case: Case, fails: &mut dyn FnMut(&Case) -> bool) -> Case {
+        match self {
+            Source::Random { members: None, .. } => shortest(case, fails),
+            Source::Random { .. } | Source::Orders { .. } => shrink(case, fails),
+            Source::All { .. } => case,
+        }
+    }
+}
+
+fn power(base: u64, exponent: usize) -> Option<u64> {
+    base.checked_pow(u32::try_from(exponent).ok()?)
+}
+
+/// The list of this number among all that some events make, by length and then by the events' order.
+fn nth_list(events: &[Event], number: u64) -> Vec<Event> {
+    let (mut rest, mut length) = (number, 0);
+    while let Some(lists) = power(events.len() as u64, length).filter(|lists| *lists <= rest) {
+        rest -= lists;
+        length += 1;
+    }
+    let mut list = Vec::with_capacity(length);
+    for _ in 0..length {
+        list.push(events[(rest % events.len() as u64) as usize]);
+        rest /= events.len() as u64;
+    }
+    list.reverse();
+    list
+}
+
+/// The events that [`Source::All`] makes lists of where none are given: rounds 1 and 2 started by their leaders, and
+/// messages 0 to 3 delivered to each member.
+pub fn few_events(n: u32) -> EventList {
+    let mut list = EventList::new(n);
+    for round in [1, 2].map(Round) {
+        round.leader(n).into_iter().for_each(|leader| _ = list.start(leader, round, 10 * u64::from(round.0)));
+    }
+    for message in (0..4).map(MessageNumber) {
+        (0..n).map(Member).for_each(|member| _ = list.deliver(message, member));
+    }
+    list
+}
+
 /// What is searched.
 pub struct Search<'a> {
     /// The implementation to run.
     pub calls: &'a Calls,
     /// What to look for.
     pub properties: Vec<&'static Property>,
-    /// Another seed gives other lists.
+    /// Another seed gives other random lists.
     pub seed: u64,
-    /// How many lists to try.
-    pub lists: u64,
-    /// Only lists for so many members; any if none.
-    pub members: Option<u32>,
-    /// A list to try in random orders, with this memory, instead of random lists.
-    pub orders_of: Option<Case>,
+    /// The lists to try.
+    pub source: Source,
 }
 
 /// How far a search has got.
@@ -207,45 +315,108 @@ pub struct Found {
     pub how: String,
 }
 
-impl Search<'_> {
-    /// Tries the lists one after another and tells how far it is after each.
-    pub fn run(&self, tell: &mut dyn FnMut(&Progress)) -> Option<Found> {
-        let mut random = Random::new(self.seed);
-        let mut progress = Progress::default();
-        while progress.lists < self.lists {
-            let run = Run::new(self.calls, &self.next(&mut random));
-            progress.lists += 1;
-            progress.events += run.case.list.events.len() as u64;
-            progress.proposed += u64::from(run.model.proposals().next().is_some());
-            progress.decided += u64::from(run.model.decisions().next().is_some());
-            tell(&progress);
-            if let Some(property) = self.properties.iter().find(|property| (property.fails)(self.calls, &run).is_some())
-            {
-                return Some(self.smallest(property, run.case));
-            }
-        }
-        None
+/// How many lists a thread takes at a time.
+const STRETCH: u64 = 32;
+/// How often it is told how far a search is.
+const TELLING: Duration = Duration::from_millis(100);
+
+/// What the threads of a search share.
+#[derive(Default)]
+struct Shared {
+    /// The first list that no thread has taken.
+    next: AtomicU64,
+    lists: AtomicU64,
+    events: AtomicU64,
+    proposed: AtomicU64,
+    decided: AtomicU64,
+    /// The first list found of which a property fails.
+    first: Mutex<Option<(u64, &'static Property)>>,
+}
+
+impl Shared {
+    fn progress(&self) -> Progress {
+        let [lists, events, proposed, decided] =
+            [&self.lists, &self.events, &self.proposed, &self.decided].map(|count| count.load(Ordering::Relaxed));
+        Progress { lists, events, proposed, decided }
     }
 
-    fn next(&self, random: &mut Random) -> Case {
-        if let Some(case) = &self.orders_of {
-            let mut case = case.clone();
-            random.shuffle(&mut case.list.events);
-            return case;
+    fn count(&self, run: &Run) {
+        let add = |count: &AtomicU64, more: u64| _ = count.fetch_add(more, Ordering::Relaxed);
+        add(&self.lists, 1);
+        add(&self.events, run.case.list.events.len() as u64);
+        add(&self.proposed, u64::from(run.model.proposals().next().is_some()));
+        add(&self.decided, u64::from(run.model.decisions().next().is_some()));
+    }
+
+    fn first(&self) -> MutexGuard<'_, Option<(u64, &'static Property)>> {
+        self.first.lock().unwrap_or_else(PoisonError::into_inner)
+    }
+
+    /// Whether a list before this one was found.
+    fn found_before(&self, number: u64) -> bool {
+        self.first().is_some_and(|(first, _)| first < number)
+    }
+
+    fn found(&self, number: u64, property: &'static Property) {
+        let mut first = self.first();
+        if first.is_none_or(|(before, _)| number < before) {
+            *first = Some((number, property));
         }
-        loop {
-            let case = generate::case(random);
-            if self.members.is_none_or(|n| n == case.list.n) {
-                return case;
+    }
+}
+
+impl Search<'_> {
+    /// Tries the lists on so many threads and tells now and then how far it is. The list found is the first of all that
+    /// fail, however many threads there are.
+    pub fn run(&self, threads: usize, tell: &mut dyn FnMut(&Progress)) -> Option<Found> {
+        let shared = Shared::default();
+        thread::scope(|scope| {
+            let (working, over) = mpsc::channel::<()>();
+            for _ in 0..threads.max(1) {
+                let (shared, working) = (&shared, working.clone());
+                scope.spawn(move || {
+                    let _until_over = working;
+                    self.work(shared);
+                });
             }
+            drop(working);
+            while over.recv_timeout(TELLING) == Err(RecvTimeoutError::Timeout) {
+                tell(&shared.progress());
+            }
+        });
+        tell(&shared.progress());
+        let (number, property) = (*shared.first())?;
+        Some(self.smallest(property, self.source.case(self.seed, number)))
+    }
+
+    /// Takes stretches of lists until there are none, or one before them was found.
+    fn work(&self, shared: &Shared) {
+        let lists = self.source.lists().unwrap_or(u64::MAX);
+        loop {
+            let from = shared.next.fetch_add(STRETCH, Ordering::Relaxed);
+            for number in from..lists.min(from.saturating_add(STRETCH)) {
+                if shared.found_before(number) {
+                    return;
+                }
+                self.try_list(number, shared);
+            }
+            if from >= lists {
+                return;
+            }
+        }
+    }
+
+    fn try_list(&self, number: u64, shared: &Shared) {
+        let run = Run::new(self.calls, &self.source.case(self.seed, number));
+        shared.count(&run);
+        if let Some(property) = self.properties.iter().find(|property| (property.fails)(self.calls, &run).is_some()) {
+            shared.found(number, property);
         }
     }
 
     fn smallest(&self, property: &'static Property, case: Case) -> Found {
         let how = |case: &Case| (property.fails)(self.calls, &Run::new(self.calls, case));
-        let mut fails = |case: &Case| runs(case) && how(case).is_some();
-        let any_list = self.members.is_none() && self.orders_of.is_none();
-        let case = if any_list { shortest(case, &mut fails) } else { shrink(case, &mut fails) };
+        let case = self.source.shortest(case, &mut |case| runs(case) && how(case).is_some());
         Found { property, how: how(&case).unwrap_or_default(), case }
     }
 }

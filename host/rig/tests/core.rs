@@ -68,7 +68,7 @@ fn random_trees() {
 fn rehearsal_to_the_letter() {
     let list = notation::parse(REHEARSAL, None).unwrap().to_bytes();
     let expected = "0 0 0 0 25 0 0 0 0 0 0 0 0 0 0\n0 0 0 3\n1 0 70 3\n2 1 70 1\n";
-    assert_eq!(rehearsal::output(&proved::CALLS, &list), expected);
+    assert_eq!(rehearsal::output(&proved::CALLS, &list), (expected.into(), Ok(())));
 }
 
 /// The fields of a C result: number, kind, round, sender, present, voted; value.

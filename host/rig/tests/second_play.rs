@@ -2,7 +2,7 @@
 //! faults seen on earlier builds, and the third demand on random lists.
 
 use kalebasin::notation::parse;
-use kalebasin::{nodes, number_of, sent, EventList, Played, Status};
+use kalebasin::{nodes, number_of, sent, EventList, Played, Refusal, Status};
 use kalebasin_rig::compare::{play, Left, Lent};
 use kalebasin_rig::random::Random;
 use kalebasin_rig::search::{Run, ALWAYS};
@@ -32,10 +32,11 @@ fn counts(played: Played) -> [u32; 4] {
 #[test]
 fn rehearsal_to_the_letter() {
     let expected = "0 0 0 0 25 0 0 0 0 0 0 0 0 0 0\n0 0 0 3\n1 0 70 3\n2 1 70 1\n";
-    assert_eq!(rehearsal::output(&second::CALLS, &list(REHEARSAL).to_bytes()), expected);
-    assert_eq!(rehearsal::output(&second::CALLS, &list("n=3").to_bytes()), "\n0 0 0 3\n");
-    assert_eq!(rehearsal::output(&second::CALLS, &list("n=4").to_bytes()), "27\n");
-    assert_eq!(rehearsal::output(&second::CALLS, &[0; 7]), "26\n");
+    let output = |list: &[u8]| rehearsal::output(&second::CALLS, list);
+    assert_eq!(output(&list(REHEARSAL).to_bytes()), (expected.into(), Ok(())));
+    assert_eq!(output(&list("n=3").to_bytes()), ("\n0 0 0 3\n".into(), Ok(())));
+    assert_eq!(output(&list("n=4").to_bytes()), ("27\n".into(), Err(Refusal::OfficeSize)));
+    assert_eq!(output(&[0; 7]), ("26\n".into(), Err(Refusal::ListShape)));
     let left = run(REHEARSAL, 1000, 64);
     assert_eq!(left.result.map(counts), Ok([14, 10, 2, 1]));
     let kinds = sent(left.store(), 10).map(|bytes| second::message::read(bytes).unwrap().kind());

@@ -1,10 +1,12 @@
 //! The rig's tool from the outside, its notation and its drawings. What plays a list is tried on each implementation.
 
 use kalebasin::notation::parse;
-use kalebasin::{EventList, Refusal};
+use kalebasin::{Event, EventList, Refusal};
 use kalebasin_rig::draw;
 use kalebasin_rig::suite::REHEARSAL;
+use std::ffi::OsStr;
 use std::io::{BufRead, BufReader, Write};
+use std::os::unix::ffi::OsStrExt;
 use std::process::{Command, Stdio};
 
 /// An implementation: the option that chooses it, if one is needed, and its name.
@@ -36,8 +38,22 @@ fn tool_on(on: &On, args: &[&str], input: &[u8]) -> (i32, String, String) {
 
 /// The same where the implementation doesn't matter.
 fn tool(args: &[&str], input: &[u8]) -> (i32, String, String) {
-    tool_on(&SECOND, args, input)
+    tool_on(&On(None, ""), args, input)
 }
+
+/// Every command, with arguments that it takes.
+const COMMANDS: &[&[&str]] = &[
+    &["run", "-e", REHEARSAL],
+    &["draw", "-e", REHEARSAL],
+    &["encode", "-e", REHEARSAL],
+    &["decode", "--hex", "-"],
+    &["rehearse", "--hex", "-"],
+    &["message", "000000040000000900000002"],
+    &["search", "--lists", "3"],
+    #[cfg(feature = "core")]
+    &["compare", "--random", "--lists", "5"],
+    &["causes"],
+];
 
 #[test]
 fn mistakes_have_line_and_column() {
@@ -81,7 +97,6 @@ fn notation_and_bytes_and_back() {
         (0, "00000003000000020000000100000001000000010000000000000046000000020000000000000000")
     );
     assert_eq!(tool(&["decode", "--hex"], hex.as_bytes()).1, "n=3 s(1,1,70) d(0,0)\n");
-    assert_eq!(tool(&["decode"], &[0; 9]).0, 1);
 }
 
 /// Where nothing says how many, an office has three members.
@@ -104,7 +119,6 @@ fn rehearsal_from_standard_input() {
     let expected = "0 0 0 0 25 0 0 0 0 0 0 0 0 0 0\n0 0 0 3\n1 0 70 3\n2 1 70 1\n";
     for on in IMPLEMENTATIONS {
         assert_eq!(tool_on(on, &["rehearse"], &bytes), (0, expected.into(), String::new()));
-        assert_eq!(tool_on(on, &["rehearse"], &bytes[1..]).1, "26\n");
     }
 }
 
@@ -144,11 +158,6 @@ fn runs_in_words() {
         }
         let (_, out, _) = tool_on(on, &["run", "--table-rows", "1", "-e", full_table], b"");
         assert!(out.contains("it would propose, and the 0 proposals fill the table"), "{out}");
-        let (status, out, _) = tool_on(on, &["run", "-e", "n=4"], b"");
-        assert_eq!(
-            (status, out.as_str()),
-            (1, "The list is refused with 27: the number of members isn't 3, 5 or 7.\n")
-        );
     }
 }
 
@@ -243,19 +252,103 @@ fn a_drawn_tree_with_branches() {
     assert_eq!([count("rect"), count("line"), count("text")], [4, 3, 10]);
 }
 
+/// The list that a search found: the line in notation, and what stands behind the line with the rows.
+fn found(out: &str) -> (EventList, &str) {
+    let line = out.lines().find(|line| line.starts_with("n=")).unwrap();
+    let (_, explained) = out.split_once(" table rows\n\n").unwrap();
+    (parse(line, None).unwrap(), explained)
+}
+
+/// The offers of a list's starts.
+fn offers(list: &EventList) -> Vec<u64> {
+    let offer = |event: &Event| if let Event::Start { offer, .. } = event { Some(*offer) } else { None };
+    list.events.iter().filter_map(offer).collect()
+}
+
 #[test]
 fn searches() {
     let orders = "s(1,1,70) d(0,0) d(0,1) d(1,1) d(2,1)";
     for on in IMPLEMENTATIONS {
         let (status, out, error) = tool_on(on, &["search", "--lists", "300", "--seed", "9"], b"");
         assert_eq!((status, out.as_str()), (0, "No property fails on 300 lists with seed 9.\n"));
-        assert!(error.starts_with("300 of 300 lists, "), "{error}");
+        assert!(error.starts_with("300 of 300 lists, ") && error.lines().count() == 1, "{error}");
         let (status, out, _) = tool_on(on, &["search", "--property", "no-decision"], b"");
-        assert_eq!(status, 1);
-        let list = out.lines().find(|line| line.starts_with("n=3 ")).unwrap();
-        assert_eq!(parse(list, None).unwrap().events.len(), 9, "{out}");
+        assert_eq!((status, found(&out).0.events.len()), (1, 9), "{out}");
         let (status, out, _) = tool_on(on, &["search", "--property", "no-proposal", "-e", orders], b"");
         assert!(status == 1 && out.contains("round 1 proposes"), "{out}");
+    }
+}
+
+/// The list found is explained as a run of it is, and its offers tell the starts apart.
+#[test]
+fn found_lists() {
+    for on in IMPLEMENTATIONS {
+        for property in ["no-takeover", "no-late-decision", "one-decision", "no-ghost"] {
+            let (status, out, _) = tool_on(on, &["search", "--property", property], b"");
+            let (list, explained) = found(&out);
+            let (_, run, _) = tool_on(on, &["run", "-e", &list.to_string()], b"");
+            assert_eq!((status, explained), (1, run.split_once("\n\n").unwrap().1), "{out}");
+            let offers = offers(&list);
+            assert!(offers.len() > 1 && offers.iter().zip(1..).all(|(offer, place)| *offer == 10 * place), "{list}");
+        }
+    }
+}
+
+/// All lists up to a length: of events that are given, or of few.
+#[test]
+fn searches_of_all_lists() {
+    for on in IMPLEMENTATIONS {
+        let all = |args: &[&str]| tool_on(on, &[&["search", "--all"], args].concat(), b"");
+        let (status, out, error) = all(&["3", "--members", "5"]);
+        let lists = 1 + 22 + 22 * 22 + 22 * 22 * 22;
+        let words = format!("No property fails on {lists} lists of up to 3 events, each one of 22.\n");
+        assert_eq!((status, out), (0, words));
+        assert!(error.starts_with(&format!("{lists} of {lists} lists, ")), "{error}");
+        let events = "d(2,1) d(1,1) d(0,1) d(0,0) s(1,1,70)";
+        let (status, out, _) = all(&["6", "--property", "no-proposal", "-e", events]);
+        assert_eq!((status, found(&out).0.events.len()), (1, 5), "{out}");
+        let (status, out, _) = all(&["4", "--property", "no-proposal", "-e", events]);
+        assert_eq!((status, out.as_str()), (0, "No property fails on 781 lists of up to 4 events, each one of 5.\n"));
+        let (_, out, _) = all(&["5", "--property", "no-full-store", "--store-rows", "2", "-e", events]);
+        assert!(found(&out).1.contains("fill the store"), "{out}");
+    }
+}
+
+/// A search keeps as many threads busy as there are cores.
+#[test]
+fn searches_on_all_cores() {
+    let cores = std::thread::available_parallelism().unwrap().get();
+    let mut child = command(&IMPLEMENTATIONS[0], &["search", "--lists", &u64::MAX.to_string()]).spawn().unwrap();
+    BufReader::new(child.stderr.take().unwrap()).lines().next().unwrap().unwrap();
+    let threads = std::fs::read_dir(format!("/proc/{}/task", child.id())).unwrap().count();
+    child.kill().unwrap();
+    child.wait().unwrap();
+    assert_eq!(threads, 1 + cores);
+}
+
+/// On a terminal a search shows a bar with the time left, again and again on one line, and then what it shows elsewhere.
+#[test]
+fn a_bar_on_a_terminal() {
+    let lists = 10_000 * std::thread::available_parallelism().unwrap().get();
+    let search = format!("{} search --lists {lists}", env!("CARGO_BIN_EXE_kalebasin"));
+    let mut terminal = Command::new("script");
+    terminal.args(["--quiet", "--return", "--command", &search, "/dev/null"]);
+    let output = terminal.stdin(Stdio::null()).output().unwrap();
+    assert_eq!(output.status.code(), Some(0));
+    let shown = String::from_utf8(output.stdout).unwrap();
+    let (bars, last) = shown.rsplit_once("\r\x1b[K").unwrap();
+    assert!(last.starts_with(&format!("{lists} of {lists} lists, ")), "{shown:?}");
+    assert!(last.ends_with(&format!("\nNo property fails on {lists} lists with seed 1.\r\n")), "{shown:?}");
+    let mut before = 0;
+    for bar in bars.strip_prefix("\r\x1b[K").unwrap().split("\r\x1b[K") {
+        let (bar, words) = bar.strip_prefix("[").unwrap().split_once("] ").unwrap();
+        let (percent, words) = words.split_once(&format!("% of {lists} lists, ")).unwrap();
+        let percent: usize = percent.parse().unwrap();
+        assert!(before <= percent && percent <= 100 && words.ends_with(" left"), "{shown:?}");
+        let filled = bar.trim_end_matches('.');
+        assert!(bar.len() == 30 && filled.chars().all(|part| part == '#'), "{shown:?}");
+        assert!((filled.len() * 100).abs_diff(percent * 30) < 100, "{shown:?}");
+        before = percent;
     }
 }
 
@@ -286,27 +379,245 @@ fn comparisons() {
 }
 
 #[test]
-fn help_and_mistakes_on_the_command_line() {
-    let (status, out, _) = tool(&["--help"], b"");
-    let commands = ["run", "draw", "encode", "decode", "rehearse", "message", "search", "compare", "causes"];
-    assert!(status == 0 && commands.iter().all(|name| out.contains(&format!("\n  {name} "))));
-    for args in [
-        &[][..],
-        &["fly"],
-        &["run", "a", "b"],
-        &["run", "--store-rows", "0"],
-        &["run", "--seed"],
-        &["run", "--fly", "1"],
-    ] {
-        assert_eq!(tool(args, b"").0, 2, "{args:?}");
+fn help() {
+    let (status, out, error) = tool(&["--help"], b"");
+    assert_eq!((status, error.as_str()), (0, ""));
+    assert_eq!(tool(&["help"], b"").1, out);
+    for command in COMMANDS.iter().map(|args| args[0]) {
+        assert!(out.contains(&format!("\n  {command} ")), "{out}");
+        let (status, own, error) = tool(&[command, "--help"], b"");
+        assert_eq!((status, error.as_str()), (0, ""));
+        assert!(own.starts_with(&format!("usage: kalebasin {command} ")), "{own}");
+        assert_eq!([&["help", command][..], &["-h", command]].map(|args| tool(args, b"").1), [&*own, &*own]);
     }
-    assert_eq!(tool(&["causes"], b"").1.lines().count(), 30);
+    let (status, out, _) = tool(&["--version"], b"");
+    assert!(status == 0 && out.starts_with(&format!("kalebasin {}, ", env!("CARGO_PKG_VERSION"))), "{out}");
+}
+
+/// Status 2, and one line that has these words.
+fn is_mistake(args: &[&str], input: &[u8], words: &str) {
+    let (status, out, error) = tool(args, input);
+    assert_eq!((status, out.as_str(), error.lines().count()), (2, "", 1), "{args:?}: {error}");
+    assert!(error.starts_with("kalebasin: ") && error.contains(words), "{args:?}: {error}");
+}
+
+#[test]
+fn mistakes_on_the_command_line() {
+    for (args, words) in [
+        (&[][..], "a command is missing"),
+        (&["fly"], "there is no command fly; see kalebasin --help"),
+        (&["serach"], "there is no command serach (did you mean search?)"),
+        (&["mesage", "-"], "(did you mean message?)"),
+        (&["reh"], "(did you mean rehearse?)"),
+        (&["search", "--property", "no-decison"], "(did you mean no-decision?)"),
+        (&["run", "--store-rows", "0"], "--store-rows takes a number from 1 to 2000, not 0"),
+        (&["run", "--table-rows=257"], "--table-rows takes a number from 1 to 256, not 257"),
+        (&["search", "--seed"], "--seed needs a value"),
+        (&["run", "--bytes=yes"], "--bytes takes no value"),
+        (&["draw", "--format", "gif", "-e", ""], "--format takes text, dot or svg, not gif"),
+        (&["run", "-e", "", "file"], "give one of them"),
+        (&["run", "-e", "", "--bytes"], "--bytes and --hex are for FILE"),
+        (&["run", "--members", "3", "--bytes"], "the bytes say how many members there are"),
+        (&["search", "--bytes"], "--bytes and --hex are for FILE"),
+        (&["search", "--members", "4"], "--members takes 3, 5 or 7"),
+        (&["search", "--all", "40"], "more such lists than can be counted"),
+        (&["run", "no such file"], "no such file: "),
+    ] {
+        is_mistake(args, b"", words);
+    }
+}
+
+/// What a command doesn't take is refused with its own help, whether another command takes it or none does.
+#[test]
+fn options_that_a_command_does_not_take() {
+    let options = ["-e", "--members", "--bytes", "--hex", "--store-rows", "--table-rows", "--format", "--dot", "--svg"];
+    let options = options.iter().chain(&["--seed", "--lists", "--all", "--property", "--random", "--second", "--fly"]);
+    let mut refused = 0;
+    for option in options {
+        for command in COMMANDS.iter().map(|args| args[0]) {
+            let help = tool(&[command, "--help"], b"").1;
+            if help.contains(&format!("\n  {option} ")) {
+                continue;
+            }
+            let (status, out, error) = tool(&[command, option, "1"], b"");
+            assert_eq!((status, out.as_str()), (2, ""), "{command} {option}");
+            assert_eq!(error, format!("kalebasin: {command} doesn't take {option}\n\n{help}"));
+            refused += 1;
+        }
+    }
+    assert!(refused > 80, "{refused}");
+    let error = tool(&["search", "--sed=4"], b"").2;
+    assert!(error.starts_with("kalebasin: search doesn't take --sed (did you mean --seed?)\n\nusage: "), "{error}");
+    let error = tool(&["causes", "now"], b"").2;
+    assert!(error.starts_with("kalebasin: now is one argument too many for causes\n\nusage: "), "{error}");
+}
+
+#[test]
+fn values_and_operands() {
+    let drawn = tool(&["draw", "--format", "dot", "--members", "5", "-e", "s(1,1,70)"], b"");
+    assert_eq!(drawn.0, 0);
+    assert_eq!(tool(&["--format=dot", "draw", "--members=5", "-e", "s(1,1,70)"], b""), drawn);
+    let folder = env!("CARGO_TARGET_TMPDIR");
+    std::fs::write(format!("{folder}/--seed=1"), "s(1,1,70)").unwrap();
+    let mut encode = command(&On(None, ""), &["encode", "--hex", "--", "--seed=1"]);
+    let output = encode.current_dir(folder).output().unwrap();
+    assert_eq!(String::from_utf8(output.stdout).unwrap(), tool(&["encode", "--hex", "-e", "s(1,1,70)"], b"").1);
+}
+
+/// The digits of a message, as an argument and on standard input.
+#[test]
+fn messages_in_digits() {
+    let words = "JOIN of round 5 from member 0, which never voted\n";
     for on in IMPLEMENTATIONS {
-        let message = |digits| tool_on(on, &["message", digits], b"");
-        let words = "JOIN of round 5 from member 0, which never voted\n";
-        assert_eq!(message("00000002 00000005 00000000 00000000"), (0, words.into(), String::new()));
-        let (status, out, _) = message("000000020000000500000000");
-        assert!(status == 1 && out.contains("refused with 14"), "{out}");
+        for digits in [
+            "00000002 00000005 00000000 00000000",
+            "00000002000000050000000000000000",
+            "00:00:00:02:00:00:00:05:00:00:00:00:00:00:00:00",
+            "0x00000002 0x00000005 0x00000000 0x00000000",
+            "0X0000000200000005:0000000000000000\n",
+        ] {
+            assert_eq!(tool_on(on, &["message", digits], b""), (0, words.into(), String::new()), "{digits}");
+            assert_eq!(tool_on(on, &["message", "-"], digits.as_bytes()), (0, words.into(), String::new()), "{digits}");
+        }
+        let refused = "kalebasin: the message is refused with 14: the message's length isn't that of its kind\n";
+        for digits in ["000000020000000500000000", ""] {
+            assert_eq!(tool_on(on, &["message", digits], b""), (1, String::new(), refused.into()));
+            assert_eq!(tool_on(on, &["message", "-"], digits.as_bytes()), (1, String::new(), refused.into()));
+        }
+    }
+    is_mistake(&["message"], b"", "message needs hexadecimal digits");
+    is_mistake(&["message", "0000000g"], b"", "'g' is no hexadecimal digit");
+    is_mistake(&["message", "-"], b"0:0:0:2", "0 has an odd number of hexadecimal digits");
+    is_mistake(&["message", "0x"], b"", "0x has an odd number of hexadecimal digits");
+}
+
+/// Bytes and digits given where notation is due get the option to use.
+#[test]
+fn bytes_where_notation_is_due() {
+    let bytes = parse(REHEARSAL, None).unwrap().to_bytes();
+    let digits = tool(&["encode", "--hex", "-e", REHEARSAL], b"").1;
+    for command in ["run", "draw", "search"] {
+        is_mistake(&[command, "-"], &bytes, "these are bytes, not notation; --bytes is for the bytes of a list");
+        is_mistake(&[command, "-"], &[0xff, 0xfe], "--bytes is for the bytes of a list");
+        is_mistake(&[command, "-"], digits.as_bytes(), "--hex is for the bytes of a list");
+    }
+    is_mistake(&["encode"], &bytes, "decode takes the bytes of a list");
+    let run = tool(&["run", "-e", REHEARSAL], b"");
+    assert_eq!(tool(&["run", "--bytes"], &bytes), run);
+    assert_eq!(tool(&["run", "--hex"], digits.as_bytes()), run);
+}
+
+/// A refused list has the same status and the same line on standard error in every command.
+#[test]
+fn refused_lists() {
+    let whole = parse("s(1,1,70) d(0,2)", None).unwrap().to_bytes();
+    let changed = |at: usize, to: u8| [&whole[..at], &[to], &whole[at + 1..]].concat();
+    let shape = "the list is refused with 26: the count is above 1,000, or bytes, count and kinds don't match exactly";
+    let many = parse(&"d(0,0)".repeat(1_001), None).unwrap().to_bytes();
+    let size = "the list is refused with 27: the number of members isn't 3, 5 or 7".to_string();
+    let at = |place: &str| format!("{shape} ({place})");
+    for (bytes, words) in [
+        (changed(3, 4), size),
+        (many, at("byte 4: the count is 1001, above 1,000")),
+        (whole[..7].to_vec(), at("byte 7: the list ends within its first 8 bytes")),
+        (Vec::new(), at("byte 0: the list ends within its first 8 bytes")),
+        (changed(11, 3), at("byte 8, event 0: the kind is 3, not 1 or 2")),
+        (changed(28, 1), at("byte 28, event 1: the kind is 16777218, not 1 or 2")),
+        (changed(7, 3), at("byte 40, event 2: the list ends here, and the count is 3")),
+        (changed(7, 1), at("byte 28, event 0: the list should end here, not at byte 40")),
+        (changed(7, 0), at("byte 8: the list should end here, not at byte 40")),
+        (whole[..39].to_vec(), at("byte 39, event 1: the list ends within a delivery of 12 bytes")),
+        (whole[..27].to_vec(), at("byte 27, event 0: the list ends within a start of 20 bytes")),
+        (whole[..30].to_vec(), at("byte 30, event 1: the list ends within the kind")),
+    ] {
+        let line = format!("kalebasin: {words}\n");
+        for on in IMPLEMENTATIONS {
+            for args in [&["run", "--bytes"][..], &["draw", "--bytes"], &["search", "--bytes", "-"]] {
+                assert_eq!(tool_on(on, args, &bytes), (1, String::new(), line.clone()), "{args:?}");
+            }
+            let number = format!("{}\n", &words["the list is refused with ".len()..][..2]);
+            assert_eq!(tool_on(on, &["rehearse"], &bytes), (1, number, line.clone()));
+        }
+        let (status, _, error) = tool(&["decode"], &bytes);
+        assert_eq!((status, error), (1, line));
+    }
+    for (text, words) in [("n=4 s(1,1,70)".into(), "refused with 27"), ("d(0,0)".repeat(1_001), "(byte 4: the count")] {
+        let (status, out, line) = tool(&["run", "-e", &text], b"");
+        assert!(status == 1 && out.is_empty() && line.contains(words), "{line}");
+        for command in ["draw", "search"] {
+            assert_eq!(tool(&[command, "-e", &text], b""), (1, String::new(), line.clone()));
+        }
+        let (status, out, error) = tool(&["encode", "--hex", "-e", &text], b"");
+        assert_eq!((status, &error), (1, &line));
+        assert_eq!(tool(&["run", "--hex"], out.as_bytes()), (1, String::new(), line));
+    }
+}
+
+/// Where standard output can't be written, each command ends with one line and status 2.
+#[test]
+fn output_that_can_not_be_written() {
+    let full = || Stdio::from(std::fs::File::options().write(true).open("/dev/full").unwrap());
+    let closed = || {
+        let mut reader = Command::new("true").stdin(Stdio::piped()).spawn().unwrap();
+        let pipe = reader.stdin.take().unwrap();
+        reader.wait().unwrap();
+        Stdio::from(pipe)
+    };
+    let digits = tool(&["encode", "--hex", "-e", REHEARSAL], b"").1;
+    let run = |args: &[&str], out: Stdio, error: Stdio| {
+        let mut child = command(&On(None, ""), args).stdout(out).stderr(error).spawn().unwrap();
+        let _ = child.stdin.take().unwrap().write_all(digits.as_bytes());
+        let output = child.wait_with_output().unwrap();
+        (output.status.code(), String::from_utf8(output.stderr).unwrap())
+    };
+    for args in COMMANDS.iter().copied().chain([&["--help"][..], &["run", "--help"], &["--version"]]) {
+        for (out, words) in [(full(), "No space left on device"), (closed(), "Broken pipe")] {
+            let (status, error) = run(args, out, Stdio::piped());
+            let last = error.lines().last().unwrap_or_default();
+            assert!(last.starts_with(&format!("kalebasin: standard output: {words}")), "{args:?}: {error}");
+            let progress = usize::from(args[0] == "search");
+            assert_eq!((status, error.lines().count()), (Some(2), 1 + progress), "{args:?}: {error}");
+        }
+        assert_eq!(run(args, full(), full()).0, Some(2), "{args:?}");
+        assert_eq!(run(args, closed(), closed()).0, Some(2), "{args:?}");
+    }
+    for option in ["--svg", "--dot"] {
+        let (status, error) = run(&["run", option, "/dev/full", "-e", REHEARSAL], Stdio::null(), Stdio::piped());
+        assert_eq!(
+            (status, error.as_str()),
+            (Some(2), "kalebasin: /dev/full: No space left on device (os error 28)\n")
+        );
+    }
+}
+
+/// Arguments that aren't UTF-8 name files, and are mistakes elsewhere.
+#[test]
+fn arguments_that_are_not_text() {
+    let odd = OsStr::from_bytes(b"list-\xff");
+    let folder = std::path::Path::new(env!("CARGO_TARGET_TMPDIR"));
+    std::fs::write(folder.join(odd), REHEARSAL).unwrap();
+    let run = |args: &[&OsStr]| {
+        let mut command = Command::new(env!("CARGO_BIN_EXE_kalebasin"));
+        let output = command.args(args).current_dir(folder).stdin(Stdio::null()).output().unwrap();
+        (output.status.code().unwrap(), output.stdout, String::from_utf8(output.stderr).unwrap())
+    };
+    let text = OsStr::new;
+    assert_eq!(run(&[text("draw"), odd]), run(&[text("draw"), text("-e"), text(REHEARSAL)]));
+    assert_eq!(run(&[text("run"), text("--svg"), odd, text("-e"), text(REHEARSAL)]).0, 0);
+    assert!(std::fs::read_to_string(folder.join(odd)).unwrap().starts_with("<svg"));
+    for args in [
+        &[odd][..],
+        &[text("run"), text("-e"), odd],
+        &[text("run"), text("--members"), odd],
+        &[text("message"), odd],
+        &[text("search"), text("--property"), odd],
+        &[text("run"), OsStr::from_bytes(b"--svg=\xff")],
+        &[text("run"), OsStr::from_bytes(b"--\xff")],
+        &[OsStr::from_bytes(b"-\xff")],
+    ] {
+        let (status, out, error) = run(args);
+        assert_eq!((status, out.len(), error.lines().count()), (2, 0, 1), "{args:?}: {error}");
+        assert!(error.starts_with("kalebasin: "), "{error}");
     }
 }
 

@@ -1,36 +1,42 @@
 //! What each command does.
 
+use crate::input::{judge, list, list_bytes, list_in_notation, list_of, list_refused, message_bytes};
 use crate::options::Options;
-use kalebasin::{notation, EventList, Refusal};
+use crate::search;
+use crate::stop::{Stop, REFUSED};
+use kalebasin::{EventList, Refusal};
 use kalebasin_rig::compare::{self, Left};
-use kalebasin_rig::search::{clean_case, Found, Progress, Property, Search, ALWAYS, SOMETIMES};
-use kalebasin_rig::second::member::size_allowed;
+use kalebasin_rig::generate::Case;
+use kalebasin_rig::rehearsal::{REHEARSAL_STORE_ROWS, REHEARSAL_TABLE_ROWS};
+use kalebasin_rig::search::clean_case;
 use kalebasin_rig::{draw, explain, rehearsal};
 use kalebasin_rig::{second, Calls};
+use std::ffi::OsStr;
 use std::fs;
-use std::io::{self, Read, Write};
+use std::io::Write;
+use std::path::Path;
 use std::process::ExitCode;
-use std::time::{Duration, Instant};
 
-type Outcome = Result<ExitCode, String>;
+/// The status of a command that came to its end, or why it didn't.
+pub type Outcome = Result<ExitCode, Stop>;
 
-pub fn run(options: &Options) -> Outcome {
-    match options.command.as_str() {
-        "run" => run_list(options),
-        "draw" => draw_list(options),
-        "encode" => encode(options),
-        "decode" => decode(options),
-        "rehearse" => rehearse(options),
-        "message" => message(options),
-        "search" => search(options),
-        "compare" => compare_all(options),
-        "causes" => causes(),
-        other => Err(format!("there is no command {other}; see --help")),
+/// Does what is asked for and writes to `out`.
+pub fn run(options: &Options, out: &mut dyn Write) -> Outcome {
+    match options.command.name {
+        "run" => run_list(options, out),
+        "draw" => draw_list(options, out),
+        "encode" => encode(options, out),
+        "decode" => decode(options, out),
+        "rehearse" => rehearse(options, out),
+        "message" => message(options, out),
+        "search" => search::search(options, out),
+        "compare" => search::compare(options, out),
+        _ => causes(out),
     }
 }
 
 /// The implementation to work on.
-fn calls(options: &Options) -> Calls {
+pub fn calls(options: &Options) -> Calls {
     #[cfg(feature = "core")]
     if !options.second {
         return kalebasin_rig::proved::CALLS;
@@ -39,338 +45,141 @@ fn calls(options: &Options) -> Calls {
     second::CALLS
 }
 
-fn done() -> Outcome {
-    Ok(ExitCode::SUCCESS)
+/// Success, or the status of a refusal.
+pub fn status(good: bool) -> Outcome {
+    Ok(if good { ExitCode::SUCCESS } else { ExitCode::from(REFUSED) })
 }
 
-fn failed() -> Outcome {
-    Ok(ExitCode::FAILURE)
+fn print(text: impl AsRef<[u8]>, out: &mut dyn Write) -> Outcome {
+    out.write_all(text.as_ref())?;
+    status(true)
 }
 
-fn print(bytes: &[u8]) -> Outcome {
-    io::stdout().write_all(bytes).map_err(|error| format!("standard output: {error}"))?;
-    done()
+/// A list with the memory that is asked for.
+fn case(options: &Options, list: EventList) -> Case {
+    let store_rows = options.store_rows.unwrap_or(REHEARSAL_STORE_ROWS);
+    clean_case(list, store_rows, options.table_rows.unwrap_or(REHEARSAL_TABLE_ROWS))
 }
 
-/// The bytes of FILE or of standard input.
-fn input(options: &Options) -> Result<Vec<u8>, String> {
-    match options.file.as_deref() {
-        None | Some("-") => {
-            let mut bytes = Vec::new();
-            io::stdin().read_to_end(&mut bytes).map_err(|error| format!("standard input: {error}"))?;
-            Ok(bytes)
-        }
-        Some(file) => fs::read(file).map_err(|error| format!("{file}: {error}")),
+/// What play leaves of a case that it takes.
+pub fn play(options: &Options, case: &Case) -> Result<Left, Stop> {
+    let bytes = case.list.to_bytes();
+    let left = compare::play(&calls(options), &bytes, &case.lent);
+    match left.result {
+        Ok(_) => Ok(left),
+        Err(refusal) => Err(list_refused(refusal, &bytes)),
     }
 }
 
-/// The bytes of a list, from bytes or hexadecimal digits.
-fn list_bytes(options: &Options) -> Result<Vec<u8>, String> {
-    let bytes = input(options)?;
-    if options.hex {
-        from_hex(&String::from_utf8_lossy(&bytes))
-    } else {
-        Ok(bytes)
-    }
-}
-
-fn from_hex(text: &str) -> Result<Vec<u8>, String> {
-    let digits: Vec<char> = text.chars().filter(|digit| !digit.is_whitespace()).collect();
-    if digits.len() % 2 == 1 {
-        return Err("there is an odd number of hexadecimal digits".into());
-    }
-    let byte = |pair: &[char]| Some((pair[0].to_digit(16)? * 16 + pair[1].to_digit(16)?) as u8);
-    digits.chunks(2).map(|pair| byte(pair).ok_or(format!("{}{} are no hexadecimal digits", pair[0], pair[1]))).collect()
-}
-
-/// The list of -e, or of FILE in notation or bytes.
-fn list(options: &Options) -> Result<EventList, String> {
-    if let Some(text) = &options.text {
-        return parse("-e", text, options.members);
-    }
-    let bytes = input(options)?;
-    if options.bytes {
-        return EventList::from_bytes(&bytes).map_err(|refusal| format!("the list is refused with {refusal}"));
-    }
-    let name = options.file.as_deref().filter(|file| *file != "-").unwrap_or("standard input");
-    let text = String::from_utf8(bytes)
-        .map_err(|_| format!("{name}: this isn't notation; --bytes is for the bytes of a list"))?;
-    parse(name, &text, options.members)
-}
-
-fn parse(name: &str, text: &str, members: Option<u32>) -> Result<EventList, String> {
-    notation::parse(text, members).map_err(|mistake| format!("{name}: {mistake}"))
-}
-
-/// Plays a list on clean memory.
-fn play(options: &Options, list: &EventList) -> Result<Left, Refusal> {
-    let case = clean_case(list.clone(), options.store_rows, options.table_rows);
-    let left = compare::play(&calls(options), &case.list.to_bytes(), &case.lent);
-    left.result.map(|_| left)
-}
-
-fn refused(refusal: Refusal) -> Outcome {
-    println!("The list is refused with {refusal}.");
-    failed()
-}
-
-fn run_list(options: &Options) -> Outcome {
-    let list = list(options)?;
-    let left = match play(options, &list) {
-        Ok(left) => left,
-        Err(refusal) => return refused(refusal),
-    };
-    println!(
-        "{} members, {} store rows, {} table rows, on {}",
-        list.n,
-        options.store_rows,
-        options.table_rows,
-        calls(options).name
-    );
-    println!();
-    let as_the_model = print_events(options, &list, left.answers());
-    print_counts(&list, &left);
-    print!("\n{}", draw::text(left.table()));
+fn run_list(options: &Options, out: &mut dyn Write) -> Outcome {
+    let case = case(options, list(options)?);
+    let left = play(options, &case)?;
+    let (store_rows, table_rows) = case.lent.whole_rows();
+    let (n, name) = (case.list.n, calls(options).name);
+    writeln!(out, "{n} members, {store_rows} store rows, {table_rows} table rows, on {name}\n")?;
+    let as_the_model = explain_run(&case, &left, out)?;
     write_file(options.dot.as_deref(), &draw::dot(left.table()))?;
     write_file(options.svg.as_deref(), &draw::svg(left.table()))?;
-    if as_the_model {
-        done()
-    } else {
-        failed()
-    }
+    status(as_the_model)
+}
+
+/// Each event in words, the counts and the tree; whether all answers are those of the model.
+pub fn explain_run(case: &Case, left: &Left, out: &mut dyn Write) -> Result<bool, Stop> {
+    let as_the_model = print_events(case, left.answers(), out)?;
+    print_counts(&case.list, left, out)?;
+    write!(out, "\n{}", draw::text(left.table()))?;
+    Ok(as_the_model)
 }
 
 /// One line for each event; whether all answers are those of the model.
-fn print_events(options: &Options, list: &EventList, answers: &[u8]) -> bool {
-    let explained = explain::explain(list, options.store_rows, options.table_rows);
+fn print_events(case: &Case, answers: &[u8], out: &mut dyn Write) -> Result<bool, Stop> {
+    let (store_rows, table_rows) = case.lent.whole_rows();
+    let explained = explain::explain(&case.list, store_rows, table_rows);
     let width = explained.iter().map(|one| one.event.len()).max().unwrap_or(0);
     let mut same = true;
     for (at, (one, answer)) in explained.iter().zip(answers).enumerate() {
         let number = u32::from(*answer);
-        println!("{at:>4}  {:<width$}  {number:>2}  {}", one.event, one.words);
+        writeln!(out, "{at:>4}  {:<width$}  {number:>2}  {}", one.event, one.words)?;
         if number != one.answer {
             same = false;
-            println!("      THE MODEL ANSWERS {}", one.answer);
+            writeln!(out, "      THE MODEL ANSWERS {}", one.answer)?;
         }
     }
-    same
+    Ok(same)
 }
 
-fn print_counts(list: &EventList, left: &Left) {
-    let Ok(played) = left.result else { return };
+fn print_counts(list: &EventList, left: &Left, out: &mut dyn Write) -> Result<(), Stop> {
+    let Ok(played) = left.result else { return Ok(()) };
     let count = |number: u32, what: &str| format!("{number} {what}{}", if number == 1 { "" } else { "s" });
-    println!();
-    println!(
-        "{} of {} accepted, {}, {}, {}",
+    writeln!(
+        out,
+        "\n{} of {} accepted, {}, {}, {}",
         played.accepted,
         count(list.events.len() as u32, "event"),
         count(played.messages, "message"),
         count(played.proposals, "proposal"),
         count(played.decisions, "decision")
-    );
+    )?;
+    Ok(())
 }
 
-fn write_file(file: Option<&str>, text: &str) -> Result<(), String> {
+fn write_file(file: Option<&OsStr>, text: &str) -> Result<(), Stop> {
     match file {
-        Some(file) => fs::write(file, text).map_err(|error| format!("{file}: {error}")),
+        Some(file) => fs::write(file, text).map_err(|error| Stop::file(Path::new(file).display(), &error)),
         None => Ok(()),
     }
 }
 
-fn draw_list(options: &Options) -> Outcome {
+fn draw_list(options: &Options, out: &mut dyn Write) -> Outcome {
     let draw = match options.format.as_str() {
         "text" => draw::text,
         "dot" => draw::dot,
         "svg" => draw::svg,
-        other => return Err(format!("--format takes text, dot or svg, not {other}")),
+        other => return Err(format!("--format takes text, dot or svg, not {other}").into()),
     };
-    match play(options, &list(options)?) {
-        Ok(left) => print(draw(left.table()).as_bytes()),
-        Err(refusal) => refused(refusal),
+    let left = play(options, &case(options, list(options)?))?;
+    print(draw(left.table()), out)
+}
+
+/// Writes the bytes of any list, and then tells of one that play refuses.
+fn encode(options: &Options, out: &mut dyn Write) -> Outcome {
+    let list = list_in_notation(options)?;
+    let bytes = list.to_bytes();
+    match options.hex {
+        true => writeln!(out, "{}", bytes.iter().map(|byte| format!("{byte:02x}")).collect::<String>())?,
+        false => out.write_all(&bytes)?,
+    }
+    judge(&list)?;
+    status(true)
+}
+
+/// Writes any list that has the right shape, and then tells of one that play refuses.
+fn decode(options: &Options, out: &mut dyn Write) -> Outcome {
+    let list = list_of(&list_bytes(options)?)?;
+    writeln!(out, "{list}")?;
+    judge(&list)?;
+    status(true)
+}
+
+/// What the rehearsal program prints: of a refused list the number, which is then told as every command tells it.
+fn rehearse(options: &Options, out: &mut dyn Write) -> Outcome {
+    let bytes = list_bytes(options)?;
+    let (printed, result) = rehearsal::output(&calls(options), &bytes);
+    print(printed, out)?;
+    result.map_err(|refusal| list_refused(refusal, &bytes))?;
+    status(true)
+}
+
+fn message(options: &Options, out: &mut dyn Write) -> Outcome {
+    match (calls(options).read_message)(&message_bytes(options)?) {
+        Ok(message) => print(format!("{message}\n"), out),
+        Err(refusal) => Err(Stop::refused("message", refusal, None::<&str>)),
     }
 }
 
-fn encode(options: &Options) -> Outcome {
-    let bytes = list(options)?.to_bytes();
-    if options.hex {
-        let digits: String = bytes.iter().map(|byte| format!("{byte:02x}")).collect();
-        return print(format!("{digits}\n").as_bytes());
-    }
-    print(&bytes)
-}
-
-fn decode(options: &Options) -> Outcome {
-    match EventList::from_bytes(&list_bytes(options)?) {
-        Ok(list) => print(format!("{list}\n").as_bytes()),
-        Err(refusal) => refused(refusal),
-    }
-}
-
-fn rehearse(options: &Options) -> Outcome {
-    print(rehearsal::output(&calls(options), &list_bytes(options)?).as_bytes())
-}
-
-fn message(options: &Options) -> Outcome {
-    let digits = options.file.as_deref().ok_or("message needs hexadecimal digits")?;
-    match (calls(options).read_message)(&from_hex(digits)?) {
-        Ok(message) => print(format!("{message}\n").as_bytes()),
-        Err(refusal) => {
-            println!("The message is refused with {refusal}.");
-            failed()
-        }
-    }
-}
-
-fn causes() -> Outcome {
+fn causes(out: &mut dyn Write) -> Outcome {
     for refusal in Refusal::ALL {
-        println!("{:>2}  {}", refusal.number(), refusal.cause());
+        writeln!(out, "{:>2}  {}", refusal.number(), refusal.cause())?;
     }
-    done()
-}
-
-fn search(options: &Options) -> Outcome {
-    if options.properties.iter().any(|name| name == "list") {
-        return list_properties();
-    }
-    let calls = calls(options);
-    let search = Search {
-        calls: &calls,
-        properties: properties(&options.properties)?,
-        seed: options.seed,
-        lists: options.lists,
-        members: options.members,
-        orders_of: orders_of(options)?,
-    };
-    if search.orders_of.is_none() && options.members.is_some_and(|n| !size_allowed(n)) {
-        return Err("--members takes 3, 5 or 7".into());
-    }
-    let mut reporter = Reporter::new(options.lists);
-    let found = search.run(&mut |progress| reporter.tell(progress));
-    reporter.end();
-    match found {
-        Some(found) => show(options, &found),
-        None => {
-            println!("No property fails on {} lists with seed {}.", options.lists, options.seed);
-            done()
-        }
-    }
-}
-
-/// The list whose orders are tried, if one is given.
-fn orders_of(options: &Options) -> Result<Option<kalebasin_rig::generate::Case>, String> {
-    if options.file.is_none() && options.text.is_none() {
-        return Ok(None);
-    }
-    let list = list(options)?;
-    play(options, &list).map_err(|refusal| format!("the list is refused with {refusal}"))?;
-    Ok(Some(clean_case(list, options.store_rows, options.table_rows)))
-}
-
-fn properties(names: &[String]) -> Result<Vec<&'static Property>, String> {
-    if names.is_empty() {
-        return Ok(ALWAYS.iter().collect());
-    }
-    let all = || ALWAYS.iter().chain(SOMETIMES);
-    let find = |name: &String| all().find(|property| property.name == name);
-    names.iter().map(|name| find(name).ok_or(format!("there is no property {name}; see --property list"))).collect()
-}
-
-fn list_properties() -> Outcome {
-    println!("Of every run; these are tried if none is named:");
-    ALWAYS.iter().for_each(|property| println!("  {:<17} {}", property.name, property.about));
-    println!("Of some runs; a search finds a short list where it fails:");
-    SOMETIMES.iter().for_each(|property| println!("  {:<17} {}", property.name, property.about));
-    done()
-}
-
-fn show(options: &Options, found: &Found) -> Outcome {
-    println!("The property {} fails: {}.", found.property.name, found.how);
-    println!("The shortest list found, with seed {}:", options.seed);
-    println!("{}", found.case.list);
-    println!(
-        "with {} store rows and {} table rows",
-        found.case.lent.store / kalebasin::STORE_ROW,
-        found.case.lent.table / kalebasin::TABLE_ROW
-    );
-    failed()
-}
-
-#[cfg(not(feature = "core"))]
-fn compare_all(_: &Options) -> Outcome {
-    Err("compare needs the proved core, and this program was built without it".into())
-}
-
-/// The comparison of the core with the second implementation: whole or its random parts, with as many random lists as
-/// asked for.
-#[cfg(feature = "core")]
-fn compare_all(options: &Options) -> Outcome {
-    use kalebasin_rig::suite::{self, Compared, Pair};
-    type Part = fn(Pair) -> Compared;
-    let pair: Pair = [&kalebasin_rig::proved::CALLS, &second::CALLS];
-    let every: [(&str, Part); 6] = [
-        ("every list of up to four events", suite::short_lists),
-        ("every three events after each part of the rehearsal", suite::rehearsal_tails),
-        ("every damaged byte of some lists", suite::damaged_lists),
-        ("every small byte string as a list", suite::small_list_bytes),
-        ("every small message and every damaged byte", suite::messages),
-        ("every small table", suite::small_tables),
-    ];
-    let lists = options.lists as usize;
-    let random_lists = || {
-        let mut reporter = Reporter::new(options.lists);
-        let mut tell = |lists: usize| reporter.tell(&Progress { lists: lists as u64, ..Progress::default() });
-        let compared = suite::random_lists(pair, options.seed, lists, &mut tell);
-        reporter.end();
-        compared
-    };
-    let all_same = (options.random || every.iter().all(|(what, part)| same(what, part(pair))))
-        && same("random trees", suite::random_trees(pair, options.seed, lists / 5))
-        && same("random lists", random_lists());
-    if all_same {
-        done()
-    } else {
-        failed()
-    }
-}
-
-/// Says how a part of the comparison went; whether there was no difference.
-#[cfg(feature = "core")]
-fn same(what: &str, compared: kalebasin_rig::suite::Compared) -> bool {
-    match &compared {
-        Ok(calls) => println!("{what}: {calls} calls, no difference"),
-        Err(report) => println!("{what}: {report}"),
-    }
-    compared.is_ok()
-}
-
-/// Says once a second on standard error how far a search is.
-struct Reporter {
-    lists: u64,
-    began: Instant,
-    told: Instant,
-    last: Progress,
-}
-
-impl Reporter {
-    fn new(lists: u64) -> Reporter {
-        let now = Instant::now();
-        Reporter { lists, began: now, told: now, last: Progress::default() }
-    }
-
-    fn tell(&mut self, progress: &Progress) {
-        self.last = *progress;
-        if self.told.elapsed() >= Duration::from_secs(1) {
-            self.told = Instant::now();
-            self.end();
-        }
-    }
-
-    fn end(&self) {
-        let Progress { lists, events, proposed, decided } = self.last;
-        let reached = match events {
-            0 => String::new(),
-            _ => format!(", {events} events, {proposed} lists with a proposal, {decided} with a decision"),
-        };
-        eprintln!("{lists} of {} lists{reached}, {:.1} s", self.lists, self.began.elapsed().as_secs_f32());
-    }
+    status(true)
 }
