@@ -69,9 +69,9 @@ impl Case {
         };
         let Record { number: own, n, j, v, w, l, phase, x, b, flags } = record;
         let flags = flags.map(|flag| u32::from(flag).to_string()).join(" ");
-        let reply: String = reply.iter().map(|byte| format!("{byte:02x}")).collect();
+        let reply: Vec<String> = reply.iter().map(|byte| format!("{byte:02x}")).collect();
         let report = format!("{number} {sent} {round} {value} {parent}");
-        (number, format!("{report} | {own} {n} {j} {v} {w} {l} {phase} {x} {b} {flags} | {reply}\n"))
+        (number, format!("{report} | {own} {n} {j} {v} {w} {l} {phase} {x} {b} {flags} | {}\n", reply.concat()))
     }
 
     /// The call, or the kind of the message.

@@ -70,7 +70,7 @@ pub struct Step {
 
 /// f + 1 of N = 2f + 1.
 pub fn quorum(n: u32) -> u32 {
-    (n - 1) / 2 + 1
+    n / 2 + 1
 }
 
 /// A fresh member.

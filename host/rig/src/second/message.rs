@@ -106,7 +106,7 @@ pub fn word(bytes: &[u8], at: usize) -> u32 {
 
 /// The value that starts at a byte.
 pub fn double(bytes: &[u8], at: usize) -> u64 {
-    u64::from(word(bytes, at)) << 32 | u64::from(word(bytes, at + 4))
+    (u64::from(word(bytes, at)) << 32) | u64::from(word(bytes, at + 4))
 }
 
 /// The buffer lent for the reply, and how far it has got.

@@ -145,9 +145,11 @@ fn draw_list(options: &Options, out: &mut dyn Write) -> Outcome {
 fn encode(options: &Options, out: &mut dyn Write) -> Outcome {
     let list = list_in_notation(options)?;
     let bytes = list.to_bytes();
-    match options.hex {
-        true => writeln!(out, "{}", bytes.iter().map(|byte| format!("{byte:02x}")).collect::<String>())?,
-        false => out.write_all(&bytes)?,
+    if options.hex {
+        bytes.iter().try_for_each(|byte| write!(out, "{byte:02x}"))?;
+        writeln!(out)?;
+    } else {
+        out.write_all(&bytes)?;
     }
     judge(&list)?;
     status(true)
