@@ -422,6 +422,7 @@ fn mistakes_on_the_command_line() {
         (&["search", "--members", "4"], "--members takes 3, 5 or 7"),
         (&["search", "--all", "40"], "more such lists than can be counted"),
         (&["run", "no such file"], "no such file: "),
+        (&["run", "no\nsuch\x1b[7mfile"], "no\\nsuch\\u{1b}[7mfile: "),
     ] {
         is_mistake(args, b"", words);
     }
@@ -580,6 +581,11 @@ fn output_that_can_not_be_written() {
         }
         assert_eq!(run(args, full(), full()).0, Some(2), "{args:?}");
         assert_eq!(run(args, closed(), closed()).0, Some(2), "{args:?}");
+    }
+    // A refusal is told only where all that goes before it was written.
+    for args in [&["encode", "-e", "n=4"][..], &["rehearse"]] {
+        let (status, error) = run(args, full(), Stdio::piped());
+        assert!(status == Some(2) && error.starts_with("kalebasin: standard output: "), "{args:?}: {error}");
     }
     for option in ["--svg", "--dot"] {
         let (status, error) = run(&["run", option, "/dev/full", "-e", REHEARSAL], Stdio::null(), Stdio::piped());

@@ -51,20 +51,21 @@ fn with_hint(stop: Stop, text: &str, options: &Options) -> Stop {
 }
 
 fn hint(option: &str, options: &Options) -> String {
-    match options.command.takes("--bytes") {
-        true => format!("{option} is for the bytes of a list"),
-        false => "decode takes the bytes of a list".into(),
+    if options.command.takes("--bytes") {
+        format!("{option} is for the bytes of a list")
+    } else {
+        "decode takes the bytes of a list".into()
     }
 }
 
 /// The bytes of a list, from bytes or hexadecimal digits.
 pub fn list_bytes(options: &Options) -> Result<Vec<u8>, Stop> {
     let bytes = file_or_input(options.file.as_deref())?;
-    match options.hex {
-        true => from_hex(&String::from_utf8_lossy(&bytes))
-            .map_err(|what| format!("{}: {what}", name(options.file.as_deref())).into()),
-        false => Ok(bytes),
+    if !options.hex {
+        return Ok(bytes);
     }
+    from_hex(&String::from_utf8_lossy(&bytes))
+        .map_err(|what| format!("{}: {what}", name(options.file.as_deref())).into())
 }
 
 /// The list that these bytes say.
@@ -89,11 +90,8 @@ pub fn list_refused(refusal: Refusal, bytes: &[u8]) -> Stop {
 /// The bytes of a message in hexadecimal digits, or of standard input where they are `-`.
 pub fn message_bytes(options: &Options) -> Result<Vec<u8>, Stop> {
     let digits = options.file.as_deref().ok_or("message needs hexadecimal digits, or - to read them")?;
-    let text = match digits == "-" {
-        true => String::from_utf8_lossy(&file_or_input(None)?).into_owned(),
-        false => digits.to_string_lossy().into_owned(),
-    };
-    from_hex(&text).map_err(Stop::from)
+    let bytes = if digits == "-" { file_or_input(None)? } else { digits.as_encoded_bytes().to_vec() };
+    from_hex(&String::from_utf8_lossy(&bytes)).map_err(Stop::from)
 }
 
 /// What FILE is called in a mistake.

@@ -455,10 +455,8 @@ where
 
 /// ` (did you mean NAME?)` for the name that a mistyped one begins, or is nearest to if it is near.
 pub fn meant<'a>(typed: &str, names: impl Iterator<Item = &'a str>) -> String {
-    let far = |name: &str| match typed.len() > 2 && name.starts_with(typed) {
-        true => 0,
-        false => distance(typed, name),
-    };
+    let begins = |name: &str| typed.len() > 2 && name.starts_with(typed);
+    let far = |name: &str| if begins(name) { 0 } else { distance(typed, name) };
     let nearest = names.map(|name| (far(name), name)).min();
     let near = nearest.filter(|(far, name)| *far <= 2 && far + 1 < name.trim_start_matches('-').len());
     near.map_or(String::new(), |(_, name)| format!(" (did you mean {name}?)"))

@@ -28,10 +28,7 @@ impl Reporter {
         let pause = Duration::from_millis(if self.terminal { 100 } else { 1_000 });
         if self.told.elapsed() >= pause {
             self.told = Instant::now();
-            match self.terminal {
-                true => say(&self.bar()),
-                false => say(&self.line()),
-            }
+            say(&if self.terminal { self.bar() } else { self.line() });
         }
     }
 

@@ -23,9 +23,9 @@ impl Stop {
         Stop { words, help: Some(command), status: MISTAKE }
     }
 
-    /// Something is refused, as each command tells it.
-    pub fn refused(what: &str, refusal: Refusal, where_: Option<impl Display>) -> Stop {
-        let place = where_.map_or(String::new(), |place| format!(" ({place})"));
+    /// Something is refused, as each command tells it, with the place where it goes wrong.
+    pub fn refused(what: &str, refusal: Refusal, place: Option<impl Display>) -> Stop {
+        let place = place.map_or(String::new(), |place| format!(" ({place})"));
         Stop { words: format!("the {what} is refused with {refusal}{place}"), help: None, status: REFUSED }
     }
 
