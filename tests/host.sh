@@ -1,7 +1,7 @@
 #!/usr/bin/env bash
 # The host packages over the proved core. Where there is no archive they check, clippy has nothing to say, and all of their pages can be made.
-# With it: cargo's tests, among them the comparison of the core with the second implementation. It needs cargo and clippy, which .ci/run installs
-# where they are missing.
+# With it: a package that depends on the library alone, and cargo's tests, among them the comparison of the core with the second implementation.
+# It needs cargo and clippy, which .ci/run installs where they are missing.
 cd "$(dirname "$0")/.." || exit 2
 . tests/archive.bash
 work=$(mktemp -d)
@@ -30,6 +30,21 @@ if ! built; then
     echo "$passed passed, $((failed + 1)) failed"
     exit 1
 fi
+
+# A package elsewhere that depends on the library alone, as a vault does.
+vault() {
+    mkdir -p "$work/vault/src" && cp host/kalebasin/examples/office.rs "$work/vault/src/main.rs" &&
+        printf '%s\n' '[package]' 'name = "vault"' 'edition = "2021"' '[dependencies]' "kalebasin.path = \"$PWD/host/kalebasin\"" >"$work/vault/Cargo.toml" &&
+        (cd "$work/vault" && cargo run --offline --quiet) >"$work/said" 2>&1 && [ "$(tail -n 1 "$work/said")" = "2 proposals, 0 decisions" ]
+}
+if vault; then
+    passed=$((passed + 1))
+else
+    cat "$work/said"
+    echo "host: a package that depends on the library alone fails"
+    failed=$((failed + 1))
+fi
+
 (cd host && cargo test --release --offline --no-fail-fast) 2>&1 | tee "$work/out"
 status=${PIPESTATUS[0]}
 read -r ran wrong < <(awk '/^test result: / { p += $4; f += $6 } END { print p + 0, f + 0 }' "$work/out")
