@@ -9,41 +9,45 @@ trap 'rm -rf "$work"' EXIT
 passed=0
 failed=0
 
-# Counts a command of cargo that needs no archive, with an empty folder for it.
-without_archive() {
-    if (cd host && KALEBASIN_LIB=$work RUSTDOCFLAGS="-D warnings" cargo "$@") >"$work/said" 2>&1; then
+# Counts a command; where it fails, shows what it said.
+check() {
+    local what=$1
+    shift
+    if "$@" >"$work/said" 2>&1; then
         passed=$((passed + 1))
     else
         cat "$work/said"
-        echo "host: cargo $* failed"
+        echo "host: $what"
         failed=$((failed + 1))
     fi
 }
 
-without_archive check --offline
-without_archive clippy --offline --all-targets -- -D warnings
-without_archive clippy --offline --all-targets --no-default-features -- -D warnings
-without_archive doc --offline
+# A command of cargo with an empty folder for the archive.
+without_archive() {
+    (cd host && KALEBASIN_LIB=$work cargo "$@")
+}
 
-if ! built; then
-    echo "host: the archive of the exports wasn't built"
-    echo "$passed passed, $((failed + 1)) failed"
-    exit 1
-fi
+pages() {
+    RUSTDOCFLAGS="-D warnings" without_archive doc --offline
+}
 
 # A package elsewhere that depends on the library alone, as a vault does.
 vault() {
     mkdir -p "$work/vault/src" && cp host/kalebasin/examples/office.rs "$work/vault/src/main.rs" &&
         printf '%s\n' '[package]' 'name = "vault"' 'edition = "2021"' '[dependencies]' "kalebasin.path = \"$PWD/host/kalebasin\"" >"$work/vault/Cargo.toml" &&
-        (cd "$work/vault" && cargo run --offline --quiet) >"$work/said" 2>&1 && [ "$(tail -n 1 "$work/said")" = "2 proposals, 0 decisions" ]
+        (cd "$work/vault" && cargo run --offline --quiet | tee "$work/told") && [ "$(tail -n 1 "$work/told")" = "2 proposals, 0 decisions" ]
 }
-if vault; then
-    passed=$((passed + 1))
-else
-    cat "$work/said"
-    echo "host: a package that depends on the library alone fails"
-    failed=$((failed + 1))
+
+check "cargo check fails without the archive" without_archive check --offline
+check "clippy warns" without_archive clippy --offline --all-targets -- -D warnings
+check "clippy warns of the packages without the core" without_archive clippy --offline --all-targets --no-default-features -- -D warnings
+check "the pages can't be made without the archive" pages
+if ! built; then
+    echo "host: the archive of the exports wasn't built"
+    echo "$passed passed, $((failed + 1)) failed"
+    exit 1
 fi
+check "a package that depends on the library alone fails" vault
 
 (cd host && cargo test --release --offline --no-fail-fast) 2>&1 | tee "$work/out"
 status=${PIPESTATUS[0]}
