@@ -5,6 +5,7 @@
 //! - [`Calls`]: the calls of one implementation as a set; `proved::CALLS` are those of the core
 //! - [`explain`]: a run in words, event by event
 //! - [`draw`]: a tree as text, DOT and SVG
+//! - [`trace`], [`json`]: a run as values and as JSON, event by event
 //! - [`random`], [`generate`]: random lists that reach something
 //! - [`compare`], [`shrink`]: two implementations side by side, and the shortest list that tells them apart
 //! - [`shape`]: where the bytes of a list go wrong
@@ -19,6 +20,7 @@ pub mod compare;
 pub mod draw;
 pub mod explain;
 pub mod generate;
+pub mod json;
 #[cfg(feature = "core")]
 pub mod proved;
 pub mod random;
@@ -28,5 +30,6 @@ pub mod second;
 pub mod shape;
 pub mod shrink;
 pub mod suite;
+pub mod trace;
 
 pub use calls::Calls;
