@@ -6,6 +6,7 @@
 //! - [`explain`]: a run in words, event by event
 //! - [`draw`]: a tree as text, DOT and SVG
 //! - [`trace`], [`json`]: a run as values and as JSON, event by event
+//! - [`timeline`]: a run as a picture
 //! - [`random`], [`generate`]: random lists that reach something
 //! - [`compare`], [`shrink`]: two implementations side by side, and the shortest list that tells them apart
 //! - [`shape`]: where the bytes of a list go wrong
@@ -30,6 +31,7 @@ pub mod second;
 pub mod shape;
 pub mod shrink;
 pub mod suite;
+pub mod timeline;
 pub mod trace;
 
 pub use calls::Calls;
