@@ -6,7 +6,7 @@
 //! - [`explain`]: a run in words, event by event
 //! - [`draw`]: a tree as text, DOT and SVG
 //! - [`trace`], [`json`]: a run as values and as JSON, event by event
-//! - [`timeline`]: a run as a picture
+//! - [`timeline`], [`page`]: a run as a picture, and as a page with its records and trees
 //! - [`random`], [`generate`]: random lists that reach something
 //! - [`compare`], [`shrink`]: two implementations side by side, and the shortest list that tells them apart
 //! - [`shape`]: where the bytes of a list go wrong
@@ -22,6 +22,7 @@ pub mod draw;
 pub mod explain;
 pub mod generate;
 pub mod json;
+pub mod page;
 #[cfg(feature = "core")]
 pub mod proved;
 pub mod random;
