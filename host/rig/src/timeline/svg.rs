@@ -136,7 +136,8 @@ impl Picture<'_> {
         let table = self.layout.table;
         text(out, "end", table.number, 4, &at.to_string());
         text(out, "", table.notation, 4, &one.explained.event);
-        text(out, if one.answer == 0 { "end" } else { "end strong" }, table.answer, 4, &answer(one));
+        let class = if one.answer == 0 { "answer end" } else { "answer end strong" };
+        text(out, class, table.answer, 4, &answer(one));
         if let Some((_, message)) = one.sent {
             coloured(out, "", table.sent, 4, &self.colours.of(message.round()), &sent(one));
         }
@@ -145,7 +146,7 @@ impl Picture<'_> {
     /// The label above the row's line and the items below it.
     fn labels(&self, out: &mut String, row: &Row, colour: &str) {
         let end = self.layout.columns[row.column].x - LABEL_GAP;
-        coloured(out, "end", end - width_of(&row.refused), -6, colour, &row.label);
+        coloured(out, "label end", end - width_of(&row.refused), -6, colour, &row.label);
         if !row.refused.is_empty() {
             text(out, "end strong", end, -6, &row.refused);
         }

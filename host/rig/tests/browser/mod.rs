@@ -1,0 +1,141 @@
+//! Chromium without a window, driven over the pipe of its DevTools protocol: a message is a line of JSON that ends in a
+//! zero byte. Replies are read as text, since scripts return theirs without letters that JSON escapes.
+
+use std::io::{BufRead, BufReader, Write};
+use std::path::{Path, PathBuf};
+use std::process::{Child, ChildStdin, ChildStdout, Command, Stdio};
+use std::thread::sleep;
+use std::time::Duration;
+
+/// Chromium reads messages from descriptor 3 and writes to 4. `timeout` ends one that hangs. The sandbox is of no use to a
+/// page of our own, and root has none.
+const LAUNCH: &str = "exec 3<&0 4>&1 </dev/null >/dev/null 2>&1; exec timeout 120 chromium --headless --no-sandbox \
+     --disable-gpu --disable-dev-shm-usage --no-first-run --window-size=1400,900 --user-data-dir=\"$0\" \
+     --remote-debugging-pipe about:blank";
+
+/// What the tests ask of a page.
+const PROBES: &str = include_str!("probes.js");
+
+pub struct Browser {
+    child: Child,
+    to: Option<ChildStdin>,
+    from: BufReader<ChildStdout>,
+    session: String,
+    calls: u32,
+    profile: PathBuf,
+}
+
+impl Browser {
+    /// A browser with an empty page. `name` is that of its profile.
+    pub fn new(name: &str) -> Browser {
+        let profile = Path::new(env!("CARGO_TARGET_TMPDIR")).join(format!("chromium-{name}"));
+        let _ = std::fs::remove_dir_all(&profile);
+        let mut command = Command::new("sh");
+        command.arg("-c").arg(LAUNCH).arg(&profile).stdin(Stdio::piped()).stdout(Stdio::piped());
+        let mut child = command.spawn().unwrap();
+        let (to, from) = (child.stdin.take(), BufReader::new(child.stdout.take().unwrap()));
+        let mut browser = Browser { child, to, from, session: String::new(), calls: 0, profile };
+        let target = browser.call("Target.createTarget", r#"{"url":"about:blank"}"#);
+        let attach = format!(r#"{{"targetId":"{}","flatten":true}}"#, field(&target, "targetId"));
+        let attached = browser.call("Target.attachToTarget", &attach);
+        browser.session = format!(r#","sessionId":"{}""#, field(&attached, "sessionId"));
+        browser.call("Page.enable", "{}");
+        browser.call("Page.addScriptToEvaluateOnNewDocument", &format!(r#"{{"source":{}}}"#, quoted(PROBES)));
+        browser
+    }
+
+    /// Opens a file and waits until it is drawn; the milliseconds that this took.
+    pub fn open(&mut self, file: &Path) -> f64 {
+        self.call("Page.navigate", &format!(r#"{{"url":{}}}"#, quoted(&format!("file://{}", file.display()))));
+        loop {
+            let drawn = self.value("String(window.drawn || '')");
+            if let Ok(milliseconds) = drawn.parse() {
+                return milliseconds;
+            }
+            sleep(Duration::from_millis(5));
+        }
+    }
+
+    /// The text that a script gives.
+    pub fn value(&mut self, script: &str) -> String {
+        let source = format!("encodeURIComponent({script})");
+        let reply = self.call("Runtime.evaluate", &format!(r#"{{"expression":{}}}"#, quoted(&source)));
+        assert!(!reply.contains("exceptionDetails"), "{script}\n{reply}");
+        decoded(field(&reply, "value"))
+    }
+
+    /// Presses and releases a key of this name and number.
+    pub fn press(&mut self, key: &str, number: u32) {
+        for kind in ["rawKeyDown", "keyUp"] {
+            let params =
+                format!(r#"{{"type":"{kind}","key":"{key}","code":"{key}","windowsVirtualKeyCode":{number}}}"#);
+            self.call("Input.dispatchKeyEvent", &params);
+        }
+    }
+
+    /// Moves the mouse; with a button, clicks there too.
+    pub fn mouse(&mut self, x: f64, y: f64, click: bool) {
+        let kinds: &[&str] = if click { &["mouseMoved", "mousePressed", "mouseReleased"] } else { &["mouseMoved"] };
+        for kind in kinds {
+            let button = if *kind == "mouseMoved" { "" } else { r#","button":"left","clickCount":1"# };
+            self.call("Input.dispatchMouseEvent", &format!(r#"{{"type":"{kind}","x":{x},"y":{y}{button}}}"#));
+        }
+    }
+
+    /// The reply to a call, as JSON.
+    fn call(&mut self, method: &str, params: &str) -> String {
+        self.calls += 1;
+        let to = self.to.as_mut().expect("the browser is open");
+        let sent =
+            write!(to, r#"{{"id":{},"method":"{method}","params":{params}{}}}{}"#, self.calls, self.session, '\0');
+        sent.and_then(|()| to.flush()).expect("chromium is there: apt-get install chromium");
+        let start = format!(r#"{{"id":{},"#, self.calls);
+        loop {
+            let mut message = Vec::new();
+            self.from.read_until(0, &mut message).unwrap();
+            let message = String::from_utf8(message).unwrap();
+            assert!(message.ends_with('\0'), "chromium ended at {method}; it is installed by apt-get install chromium");
+            if message.starts_with(&start) {
+                assert!(!message.contains(r#""error":{"#), "{method}: {message}");
+                return message;
+            }
+        }
+    }
+}
+
+impl Drop for Browser {
+    /// Chromium ends when the pipe does.
+    fn drop(&mut self) {
+        self.to = None;
+        let _ = self.child.wait();
+        let _ = std::fs::remove_dir_all(&self.profile);
+    }
+}
+
+/// The text of a field of this name; it has no escapes.
+fn field<'a>(json: &'a str, name: &str) -> &'a str {
+    let start = format!(r#""{name}":""#);
+    let (_, behind) = json.split_once(&start).unwrap_or_else(|| panic!("no {name} in {json}"));
+    behind.split_once('"').unwrap().0
+}
+
+/// A text as JSON has it.
+fn quoted(text: &str) -> String {
+    kalebasin_rig::json::Json::Text(text.into()).to_string()
+}
+
+/// What `encodeURIComponent` was given.
+fn decoded(text: &str) -> String {
+    let mut bytes = Vec::new();
+    let mut rest = text.as_bytes();
+    while let Some((first, behind)) = rest.split_first() {
+        if *first == b'%' {
+            bytes.push(u8::from_str_radix(std::str::from_utf8(&behind[..2]).unwrap(), 16).unwrap());
+            rest = &behind[2..];
+        } else {
+            bytes.push(*first);
+            rest = behind;
+        }
+    }
+    String::from_utf8(bytes).unwrap()
+}
