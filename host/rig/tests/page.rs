@@ -3,7 +3,7 @@
 mod browser;
 mod runs;
 
-use browser::Browser;
+use browser::{browser, Browser};
 use kalebasin::notation::parse;
 use kalebasin::{EventList, Refusal};
 use kalebasin_rig::draw;
@@ -113,7 +113,7 @@ impl Office {
 #[test]
 #[ignore = "needs chromium"]
 fn the_slider_shows_records_and_tree() {
-    let mut browser = Browser::new("slider");
+    let mut browser = browser();
     let lists = [parse(REHEARSAL, None).unwrap(), parse(REFUSALS, None).unwrap(), random_list(5, 5, 150)];
     for (at, list) in lists.iter().enumerate() {
         browser.open(&page(&format!("slider-{at}"), list));
@@ -141,7 +141,7 @@ fn answer_place(browser: &mut Browser, at: usize) -> (f64, f64) {
 #[test]
 #[ignore = "needs chromium"]
 fn answers_have_words() {
-    let mut browser = Browser::new("answers");
+    let mut browser = browser();
     let list = parse(REFUSALS, None).unwrap();
     browser.open(&page("answers", &list));
     let tip = "probes.tip()";
@@ -168,7 +168,7 @@ fn rows(trace: &[Happened], passes: impl Fn(&Happened) -> bool) -> String {
 #[test]
 #[ignore = "needs chromium"]
 fn filters_by_round_member_and_refusals() {
-    let mut browser = Browser::new("filters");
+    let mut browser = browser();
     let list = parse(REFUSALS, None).unwrap();
     let trace = happened(&list);
     browser.open(&page("filters", &list));
@@ -204,7 +204,7 @@ fn filters_by_round_member_and_refusals() {
 #[test]
 #[ignore = "needs chromium"]
 fn labels_stay_off_lines() {
-    let mut browser = Browser::new("labels");
+    let mut browser = browser();
     let mut lists = vec![parse(REHEARSAL, None).unwrap(), parse(REFUSALS, None).unwrap()];
     lists.extend([3, 5, 7, 7].into_iter().zip(1..).map(|(n, seed)| random_list(seed, n, 120)));
     for list in &lists {
@@ -222,7 +222,7 @@ fn labels_stay_off_lines() {
 #[test]
 #[ignore = "needs chromium"]
 fn a_thousand_events_within_a_second() {
-    let mut browser = Browser::new("thousand");
+    let mut browser = browser();
     for (seed, n) in [(5, 5), (2, 7)] {
         let list = random_list(seed, n, EventList::MOST);
         let mut times = (0..3).map(|_| times(&mut browser, &list));
@@ -252,7 +252,7 @@ fn times(browser: &mut Browser, list: &EventList) -> [Duration; 3] {
 #[test]
 #[ignore = "needs chromium"]
 fn no_outside_files() {
-    let mut browser = Browser::new("outside");
+    let mut browser = browser();
     let file = page("outside", &parse(REHEARSAL, None).unwrap());
     browser.open(&file);
     assert_eq!(browser.value("String(performance.getEntriesByType('resource').length)"), "0");
@@ -266,7 +266,7 @@ fn no_outside_files() {
 #[test]
 #[ignore = "needs chromium"]
 fn json_is_read_by_another() {
-    let mut browser = Browser::new("json");
+    let mut browser = browser();
     for list in [parse(REHEARSAL, None).unwrap(), parse(REFUSALS, None).unwrap(), random_list(6, 7, 300)] {
         let printed = tool(&["run", "--json"], &list);
         assert_eq!(printed.lines().count(), list.events.len());

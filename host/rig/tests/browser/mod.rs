@@ -2,8 +2,9 @@
 //! zero byte. Replies are read as text, since scripts return theirs without letters that JSON escapes.
 
 use std::io::{BufRead, BufReader, Write};
-use std::path::{Path, PathBuf};
-use std::process::{Child, ChildStdin, ChildStdout, Command, Stdio};
+use std::path::Path;
+use std::process::{ChildStdin, ChildStdout, Command, Stdio};
+use std::sync::{LazyLock, Mutex, MutexGuard, PoisonError};
 use std::thread::sleep;
 use std::time::Duration;
 
@@ -16,25 +17,31 @@ const LAUNCH: &str = "exec 3<&0 4>&1 </dev/null >/dev/null 2>&1; exec timeout 12
 /// What the tests ask of a page.
 const PROBES: &str = include_str!("probes.js");
 
+/// The browser of all tests, for one of them at a time. It ends when the pipe does, with this program.
+static BROWSER: LazyLock<Mutex<Browser>> = LazyLock::new(|| Mutex::new(Browser::new()));
+
+/// The browser, for as long as a test holds it.
+pub fn browser() -> MutexGuard<'static, Browser> {
+    BROWSER.lock().unwrap_or_else(PoisonError::into_inner)
+}
+
 pub struct Browser {
-    child: Child,
-    to: Option<ChildStdin>,
+    to: ChildStdin,
     from: BufReader<ChildStdout>,
     session: String,
     calls: u32,
-    profile: PathBuf,
 }
 
 impl Browser {
-    /// A browser with an empty page. `name` is that of its profile.
-    pub fn new(name: &str) -> Browser {
-        let profile = Path::new(env!("CARGO_TARGET_TMPDIR")).join(format!("chromium-{name}"));
+    /// A browser with an empty page and a profile of its own.
+    fn new() -> Browser {
+        let profile = Path::new(env!("CARGO_TARGET_TMPDIR")).join("chromium");
         let _ = std::fs::remove_dir_all(&profile);
         let mut command = Command::new("sh");
         command.arg("-c").arg(LAUNCH).arg(&profile).stdin(Stdio::piped()).stdout(Stdio::piped());
         let mut child = command.spawn().unwrap();
-        let (to, from) = (child.stdin.take(), BufReader::new(child.stdout.take().unwrap()));
-        let mut browser = Browser { child, to, from, session: String::new(), calls: 0, profile };
+        let (to, from) = (child.stdin.take().unwrap(), BufReader::new(child.stdout.take().unwrap()));
+        let mut browser = Browser { to, from, session: String::new(), calls: 0 };
         let target = browser.call("Target.createTarget", r#"{"url":"about:blank"}"#);
         let attach = format!(r#"{{"targetId":"{}","flatten":true}}"#, field(&target, "targetId"));
         let attached = browser.call("Target.attachToTarget", &attach);
@@ -85,7 +92,7 @@ impl Browser {
     /// The reply to a call, as JSON.
     fn call(&mut self, method: &str, params: &str) -> String {
         self.calls += 1;
-        let to = self.to.as_mut().expect("the browser is open");
+        let to = &mut self.to;
         let sent =
             write!(to, r#"{{"id":{},"method":"{method}","params":{params}{}}}{}"#, self.calls, self.session, '\0');
         sent.and_then(|()| to.flush()).expect("chromium is there: apt-get install chromium");
@@ -100,15 +107,6 @@ impl Browser {
                 return message;
             }
         }
-    }
-}
-
-impl Drop for Browser {
-    /// Chromium ends when the pipe does.
-    fn drop(&mut self) {
-        self.to = None;
-        let _ = self.child.wait();
-        let _ = std::fs::remove_dir_all(&self.profile);
     }
 }
 
