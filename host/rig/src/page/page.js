@@ -183,7 +183,7 @@ function placeTrunks(on, lines) {
     });
 }
 
-// The words of the row under the mouse. The picture's own titles, which say the same, would show beside them.
+// The words of the row under the mouse.
 function hover(mouse) {
     const row = mouse.target.closest(".row");
     const tip = byId("tip");
@@ -194,7 +194,6 @@ function hover(mouse) {
     tip.style.top = Math.min(mouse.clientY + 14, innerHeight - tip.offsetHeight - 8) + "px";
 }
 
-body.querySelectorAll("title").forEach((title) => title.remove());
 makeFilters();
 show();
 slider.addEventListener("input", show);

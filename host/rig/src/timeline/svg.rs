@@ -58,7 +58,7 @@ impl Picture<'_> {
     /// The whole picture, for a file of its own.
     pub fn svg(&self) -> String {
         let (width, height) = (self.layout.width, HEAD + self.layout.height);
-        let (head, body) = (self.head(), self.body());
+        let (head, body) = (self.head(), self.body(true));
         format!(
             "{}<style>\n{STYLE}</style>\n<rect width=\"{width}\" height=\"{height}\" fill=\"#fff\"/>\n{head}\
              <g transform=\"translate(0,{HEAD})\">\n{body}</g>\n</svg>\n",
@@ -71,11 +71,11 @@ impl Picture<'_> {
         format!("{}{}</svg>\n", root(self.layout.width, HEAD, " id=\"head\""), self.head())
     }
 
-    /// All below the head as an element for a page. It says how far from the lines of its two rows a trunk begins and ends,
-    /// so that a script can move rows.
+    /// All below the head as an element for a page, without titles, which would show beside the page's own words. It says how
+    /// far from the lines of its two rows a trunk begins and ends, so that a script can move rows.
     pub fn body_element(&self) -> String {
         let more = format!(" id=\"body\" data-begin=\"{}\" data-end=\"{CORNER}\"", LEAVE + CORNER);
-        format!("{}{}</svg>\n", root(self.layout.width, self.layout.height, &more), self.body())
+        format!("{}{}</svg>\n", root(self.layout.width, self.layout.height, &more), self.body(false))
     }
 
     /// The key and the names of the columns.
@@ -90,36 +90,37 @@ impl Picture<'_> {
         out
     }
 
-    /// The lifelines, the rows, and the parts of arrows that go down through rows.
-    fn body(&self) -> String {
+    /// The lifelines, the rows, and the parts of arrows that go down through rows. Only a row ends its line, since a browser
+    /// makes a node of each line feed.
+    fn body(&self, titled: bool) -> String {
         let mut out = String::new();
         for column in self.layout.columns.iter().filter(|column| column.lives) {
             let (x, height) = (column.x, self.layout.height);
-            let _ = writeln!(out, "<line class=\"life\" x1=\"{x}\" y1=\"0\" x2=\"{x}\" y2=\"{height}\"/>");
+            let _ = write!(out, "<line class=\"life\" x1=\"{x}\" y1=\"0\" x2=\"{x}\" y2=\"{height}\"/>");
         }
         let mut arriving = vec![None; self.trace.len()];
         self.layout.arrows.iter().for_each(|arrow| arriving[arrow.to] = Some(arrow));
-        (0..self.trace.len()).for_each(|at| self.row(&mut out, at, arriving[at]));
+        (0..self.trace.len()).for_each(|at| self.row(&mut out, at, arriving[at], titled));
         self.layout.arrows.iter().for_each(|arrow| self.trunk(&mut out, arrow));
         out
     }
 
-    /// The row of an event, with a title that says in words what happened.
-    fn row(&self, out: &mut String, at: usize, arriving: Option<&Arrow>) {
+    /// The row of an event; with a title, if asked for, that says in words what happened.
+    fn row(&self, out: &mut String, at: usize, arriving: Option<&Arrow>, titled: bool) {
         let (row, one) = (&self.layout.rows[at], &self.trace[at]);
-        let _ = writeln!(
+        let _ = write!(
             out,
-            "<g class=\"row{}\" data-at=\"{at}\" data-top=\"{}\" data-height=\"{}\" transform=\"translate(0,{})\">\
-             <title>{}: {}</title>",
+            "<g class=\"row{}\" data-at=\"{at}\" data-top=\"{}\" data-height=\"{}\" transform=\"translate(0,{})\">",
             if at % 2 == 1 { " odd" } else { "" },
             row.top,
             row.height,
-            row.y,
-            answer(one),
-            one.explained.words
+            row.y
         );
+        if titled {
+            let _ = write!(out, "<title>{}: {}</title>", answer(one), one.explained.words);
+        }
         let (top, width, height) = (-row.top, self.layout.width, row.height);
-        let _ = writeln!(out, "<rect class=\"back\" x=\"0\" y=\"{top}\" width=\"{width}\" height=\"{height}\"/>");
+        let _ = write!(out, "<rect class=\"back\" x=\"0\" y=\"{top}\" width=\"{width}\" height=\"{height}\"/>");
         self.table_row(out, at, one);
         if let Some(arrow) = arriving {
             self.arrive(out, arrow);
@@ -158,7 +159,7 @@ impl Picture<'_> {
                 Item::Late(words) => {
                     badge(out, "badge commit", " white", end, middle, words);
                     let (left, width) = (end - width_of(words) - 11, width_of(words) + 14);
-                    let _ = writeln!(
+                    let _ = write!(
                         out,
                         "<rect class=\"frame\" x=\"{left}\" y=\"{}\" width=\"{width}\" height=\"19\"/>",
                         middle - 10
@@ -176,7 +177,7 @@ impl Picture<'_> {
         let x = self.layout.columns[row.column].x;
         let colour = self.colours.of(message.round());
         if let Some(lane) = row.lane {
-            let _ = writeln!(
+            let _ = write!(
                 out,
                 "<path class=\"line leave\" d=\"M{} {CORNER}Q{} {LEAVE} {} {LEAVE}H{}Q{lane} {LEAVE} {lane} {}\" \
                  stroke=\"{colour}\"/>",
@@ -188,7 +189,7 @@ impl Picture<'_> {
             );
         } else {
             let y = ITEM * (row.items.len() as i32 - 1) + ITEM - 2;
-            let _ = writeln!(
+            let _ = write!(
                 out,
                 "<path class=\"stub\" d=\"M{} 5Q{} {y} {} {y}H{}\" stroke=\"{colour}\"/>\
                  <path class=\"bar\" d=\"M{} {}v8\" stroke=\"{colour}\"/>",
@@ -211,7 +212,7 @@ impl Picture<'_> {
         let colour = self.colour(one.round());
         let tip = x + side * if one.late.is_some() { 10 } else { 6 };
         let end = if one.answer == 0 { tip + side * 6 } else { tip };
-        let _ = writeln!(
+        let _ = write!(
             out,
             "<path class=\"{} arrive\" d=\"M{lane} -{CORNER}Q{lane} 0 {} 0H{end}\" stroke=\"{colour}\"/>",
             line_class(arrow, one),
@@ -227,7 +228,7 @@ impl Picture<'_> {
         let (from, to) = (&self.layout.rows[arrow.from], &self.layout.rows[arrow.to]);
         let one = &self.trace[arrow.to];
         let Some(lane) = from.lane else { return };
-        let _ = writeln!(
+        let _ = write!(
             out,
             "<line class=\"{} trunk\" data-from=\"{}\" data-to=\"{}\" x1=\"{lane}\" y1=\"{}\" x2=\"{lane}\" y2=\"{}\" \
              stroke=\"{}\"/>",
@@ -260,15 +261,14 @@ fn text(out: &mut String, class: &str, x: i32, y: i32, words: &str) {
 fn coloured(out: &mut String, class: &str, x: i32, y: i32, colour: &str, words: &str) {
     let class = if class.is_empty() { String::new() } else { format!(" class=\"{class}\"") };
     let fill = if colour.is_empty() { String::new() } else { format!(" fill=\"{colour}\"") };
-    let _ = writeln!(out, "<text{class} x=\"{x}\" y=\"{y}\"{fill}>{words}</text>");
+    let _ = write!(out, "<text{class} x=\"{x}\" y=\"{y}\"{fill}>{words}</text>");
 }
 
 /// Words in a box whose right edge is near `end`.
 fn badge(out: &mut String, class: &str, words_class: &str, end: i32, middle: i32, words: &str) {
     let width = width_of(words) + 8;
     let (left, top) = (end - width, middle - 7);
-    let _ =
-        writeln!(out, "<rect class=\"{class}\" x=\"{left}\" y=\"{top}\" width=\"{width}\" height=\"13\" rx=\"2\"/>");
+    let _ = write!(out, "<rect class=\"{class}\" x=\"{left}\" y=\"{top}\" width=\"{width}\" height=\"13\" rx=\"2\"/>");
     text(out, &format!("end{words_class}"), end - 4, middle + 3, words);
 }
 
@@ -281,21 +281,21 @@ fn line_class(arrow: &Arrow, one: &Happened) -> String {
 
 /// The tip is at `x`; the line comes from this side.
 fn arrow_head(out: &mut String, x: i32, side: i32, colour: &str) {
-    let _ = writeln!(out, "<path class=\"tip\" d=\"M{x} 0l{} -4v8z\" fill=\"{colour}\"/>", 8 * side);
+    let _ = write!(out, "<path class=\"tip\" d=\"M{x} 0l{} -4v8z\" fill=\"{colour}\"/>", 8 * side);
 }
 
 /// The event itself: a square for a start, else a disc; a circle with a cross where it is refused; a ring around a late
 /// decision.
 fn dot(out: &mut String, x: i32, one: &Happened) {
     if one.late.is_some() {
-        let _ = writeln!(out, "<circle class=\"frame\" cx=\"{x}\" cy=\"0\" r=\"8\"/>");
+        let _ = write!(out, "<circle class=\"frame\" cx=\"{x}\" cy=\"0\" r=\"8\"/>");
     }
     let _ = match (one.answer, one.event) {
         (0, Event::Start { .. }) => {
-            writeln!(out, "<rect class=\"dot\" x=\"{}\" y=\"-4\" width=\"8\" height=\"8\"/>", x - 4)
+            write!(out, "<rect class=\"dot\" x=\"{}\" y=\"-4\" width=\"8\" height=\"8\"/>", x - 4)
         }
-        (0, _) => writeln!(out, "<circle class=\"dot\" cx=\"{x}\" cy=\"0\" r=\"4\"/>"),
-        _ => writeln!(
+        (0, _) => write!(out, "<circle class=\"dot\" cx=\"{x}\" cy=\"0\" r=\"4\"/>"),
+        _ => write!(
             out,
             "<circle class=\"cross\" cx=\"{x}\" cy=\"0\" r=\"5\"/><path class=\"cross\" d=\"M{} -3l6 6m0 -6l-6 6\"/>",
             x - 3
