@@ -4,6 +4,7 @@
 # It needs cargo and clippy, which .ci/run installs where they are missing.
 cd "$(dirname "$0")/.." || exit 2
 . tests/archive.bash
+. tests/cargo.bash
 work=$(mktemp -d)
 trap 'rm -rf "$work"' EXIT
 passed=0
@@ -49,13 +50,7 @@ if ! built; then
 fi
 check "a package that depends on the library alone fails" vault
 
-(cd host && cargo test --release --offline --no-fail-fast) 2>&1 | tee "$work/out"
-status=${PIPESTATUS[0]}
-read -r ran wrong < <(awk '/^test result: / { p += $4; f += $6 } END { print p + 0, f + 0 }' "$work/out")
-if [ "$wrong" -eq 0 ] && { [ "$status" -ne 0 ] || [ "$ran" -eq 0 ]; }; then
-    echo "host: cargo's tests didn't run to their end"
-    wrong=1
-fi
+cargo_tests --no-fail-fast
 passed=$((passed + ran))
 failed=$((failed + wrong))
 echo "$passed passed, $failed failed"

@@ -33,7 +33,8 @@ pub fn explain(list: &EventList, store_rows: usize, table_rows: usize) -> Vec<Ex
     list.events.iter().map(|event| explain_event(&mut model, event)).collect()
 }
 
-fn explain_event(model: &mut Model, event: &Event) -> Explained {
+/// Takes the next event of a run and puts it in words.
+pub fn explain_event(model: &mut Model, event: &Event) -> Explained {
     let before = model.clone();
     let (answer, words) = match model.take(event) {
         Ok(step) => (0, accepted(&before, model, event, &step)),

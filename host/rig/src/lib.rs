@@ -5,6 +5,8 @@
 //! - [`Calls`]: the calls of one implementation as a set; `proved::CALLS` are those of the core
 //! - [`explain`]: a run in words, event by event
 //! - [`draw`]: a tree as text, DOT and SVG
+//! - [`trace`], [`json`]: a run as values and as JSON, event by event
+//! - [`timeline`], [`page`]: a run as a picture, and as a page with its records and trees
 //! - [`random`], [`generate`]: random lists that reach something
 //! - [`compare`], [`shrink`]: two implementations side by side, and the shortest list that tells them apart
 //! - [`shape`]: where the bytes of a list go wrong
@@ -19,6 +21,8 @@ pub mod compare;
 pub mod draw;
 pub mod explain;
 pub mod generate;
+pub mod json;
+pub mod page;
 #[cfg(feature = "core")]
 pub mod proved;
 pub mod random;
@@ -28,5 +32,7 @@ pub mod second;
 pub mod shape;
 pub mod shrink;
 pub mod suite;
+pub mod timeline;
+pub mod trace;
 
 pub use calls::Calls;

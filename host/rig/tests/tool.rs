@@ -1,5 +1,9 @@
 //! The rig's tool from the outside, its notation and its drawings. What plays a list is tried on each implementation.
 
+// Some of it is for the tests of timelines alone.
+#[allow(dead_code)]
+mod svg;
+
 use kalebasin::notation::parse;
 use kalebasin::{Event, EventList, Refusal};
 use kalebasin_rig::draw;
@@ -8,6 +12,7 @@ use std::ffi::OsStr;
 use std::io::{BufRead, BufReader, Write};
 use std::os::unix::ffi::OsStrExt;
 use std::process::{Command, Stdio};
+use svg::elements;
 
 /// An implementation: the option that chooses it, if one is needed, and its name.
 struct On(Option<&'static str>, &'static str);
@@ -161,45 +166,6 @@ fn runs_in_words() {
     }
 }
 
-/// The elements of a document in order, each with the text right behind its tag. Panics unless there is one outermost
-/// element, tags nest, attributes are quoted and named once, and no text needs more than itself to be read.
-fn elements(xml: &str) -> Vec<(String, String)> {
-    let (mut elements, mut open) = (Vec::new(), Vec::new());
-    let mut tags = xml.trim_end().split('<');
-    assert_eq!(tags.next(), Some(""), "something stands before the first tag");
-    for part in tags {
-        let (tag, text) = part.split_once('>').expect("a tag ends");
-        assert!(!text.contains(['>', '&']), "{text}");
-        if let Some(name) = tag.strip_prefix('/') {
-            assert_eq!(open.pop(), Some(name), "a tag ends the element last opened");
-        } else {
-            let (tag, empty) = tag.strip_suffix('/').map_or((tag, false), |tag| (tag, true));
-            let (name, attributes) = tag.split_once(' ').unwrap_or((tag, ""));
-            check_attributes(attributes);
-            assert!(!open.is_empty() || elements.is_empty(), "{name} is a second outermost element");
-            elements.push((name.to_string(), text.trim_end_matches('\n').to_string()));
-            if !empty {
-                open.push(name);
-            }
-        }
-        assert!(!open.is_empty() || text.is_empty(), "{text} stands behind the last tag");
-    }
-    assert!(open.is_empty(), "{open:?} are left open");
-    elements
-}
-
-fn check_attributes(attributes: &str) {
-    let mut names = Vec::new();
-    let mut rest = attributes;
-    while !rest.is_empty() {
-        let (name, behind) = rest.split_once("=\"").expect("an attribute has a quoted value");
-        let (_, behind) = behind.split_once('"').expect("a value ends");
-        assert!(!name.contains(char::is_whitespace) && !names.contains(&name), "{attributes}");
-        names.push(name);
-        rest = behind.strip_prefix(' ').unwrap_or(behind);
-    }
-}
-
 #[test]
 fn drawings_of_the_rehearsal() {
     let text = "root\n└─ round 1, value 70, COMMITTED\n   └─ round 2, value 70, ADDED\n";
@@ -220,8 +186,9 @@ digraph tree {
         assert_eq!(drawn("dot"), (0, dot.into(), String::new()));
         let (status, svg, _) = drawn("svg");
         let elements = elements(&svg);
-        let texts = |name| elements.iter().filter(|one| one.0 == name).map(|one| one.1.as_str()).collect::<Vec<_>>();
-        assert_eq!((status, elements[0].0.as_str(), elements.len()), (0, "svg", 1 + 3 + 2 + 7), "{svg}");
+        let texts =
+            |name| elements.iter().filter(|one| one.name == name).map(|one| one.text.as_str()).collect::<Vec<_>>();
+        assert_eq!((status, elements[0].name.as_str(), elements.len()), (0, "svg", 1 + 3 + 2 + 7), "{svg}");
         assert_eq!((texts("rect"), texts("line")), (vec![""; 3], vec![""; 2]));
         let mut labels = texts("text");
         labels.sort_unstable();
@@ -247,7 +214,7 @@ fn a_drawn_tree_with_branches() {
     let table = [[0, 0, 0, 3], [1, 0, 5, 2], [3, 0, 6, 1], [2, 1, 5, 2]].concat();
     let text = "root\n├─ round 1, value 5, GHOST\n│  └─ round 2, value 5, GHOST\n└─ round 3, value 6, ADDED\n";
     assert_eq!(draw::text(&table), text);
-    let names: Vec<String> = elements(&draw::svg(&table)).into_iter().map(|one| one.0).collect();
+    let names: Vec<String> = elements(&draw::svg(&table)).into_iter().map(|one| one.name).collect();
     let count = |name| names.iter().filter(|one| *one == name).count();
     assert_eq!([count("rect"), count("line"), count("text")], [4, 3, 10]);
 }
@@ -414,7 +381,7 @@ fn mistakes_on_the_command_line() {
         (&["run", "--table-rows=257"], "--table-rows takes a number from 1 to 256, not 257"),
         (&["search", "--seed"], "--seed needs a value"),
         (&["run", "--bytes=yes"], "--bytes takes no value"),
-        (&["draw", "--format", "gif", "-e", ""], "--format takes text, dot or svg, not gif"),
+        (&["draw", "--format", "gif", "-e", ""], "--format takes text, dot, svg or timeline, not gif"),
         (&["run", "-e", "", "file"], "give one of them"),
         (&["run", "-e", "", "--bytes"], "--bytes and --hex are for FILE"),
         (&["run", "--members", "3", "--bytes"], "the bytes say how many members there are"),
@@ -432,7 +399,17 @@ fn mistakes_on_the_command_line() {
 #[test]
 fn options_that_a_command_does_not_take() {
     let options = ["-e", "--members", "--bytes", "--hex", "--store-rows", "--table-rows", "--format", "--dot", "--svg"];
-    let options = options.iter().chain(&["--seed", "--lists", "--all", "--property", "--random", "--second", "--fly"]);
+    let options = options.iter().chain(&[
+        "--html",
+        "--json",
+        "--seed",
+        "--lists",
+        "--all",
+        "--property",
+        "--random",
+        "--second",
+        "--fly",
+    ]);
     let mut refused = 0;
     for option in options {
         for command in COMMANDS.iter().map(|args| args[0]) {
@@ -628,13 +605,27 @@ fn arguments_that_are_not_text() {
 }
 
 /// The numbers of refusals are 1 to 30 in order, and the C header has the same causes.
+/// The name of a refusal's number in the header: that of the variant in capitals.
+fn header_name(refusal: &Refusal) -> String {
+    let mut name = String::from("KALEBASIN");
+    for letter in format!("{refusal:?}").chars() {
+        if letter.is_uppercase() {
+            name.push('_');
+        }
+        name.extend(letter.to_uppercase());
+    }
+    name
+}
+
 #[test]
 fn refusals_and_the_header() {
     let header = include_str!("../../include/kalebasin.h");
     for (at, refusal) in Refusal::ALL.iter().enumerate() {
         assert_eq!(refusal.number() as usize, at + 1);
         assert_eq!(Refusal::from_number(refusal.number()), Some(*refusal));
-        assert!(header.contains(&format!("\n *   {:>2}  {}\n", refusal.number(), refusal.cause())), "{refusal}");
+        let name = header_name(refusal);
+        assert!(header.contains(&format!("    {name} = {}", refusal.number())), "{refusal}");
+        assert!(header.contains(&format!("case {name}: return \"{}\";", refusal.cause())), "{refusal}");
     }
     assert_eq!(Refusal::ALL.len(), 30);
     assert_eq!([0, 31].map(Refusal::from_number), [None, None]);

@@ -9,7 +9,9 @@ use kalebasin_rig::compare::{self, Left};
 use kalebasin_rig::generate::Case;
 use kalebasin_rig::rehearsal::{REHEARSAL_STORE_ROWS, REHEARSAL_TABLE_ROWS};
 use kalebasin_rig::search::clean_case;
-use kalebasin_rig::{draw, explain, rehearsal};
+use kalebasin_rig::timeline::timeline;
+use kalebasin_rig::trace::{trace, Happened};
+use kalebasin_rig::{draw, explain, json, page, rehearsal};
 use kalebasin_rig::{second, Calls};
 use std::ffi::OsStr;
 use std::fs;
@@ -76,11 +78,30 @@ fn run_list(options: &Options, out: &mut dyn Write) -> Outcome {
     let left = play(options, &case)?;
     let (store_rows, table_rows) = case.lent.whole_rows();
     let (n, name) = (case.list.n, calls(options).name);
-    writeln!(out, "{n} members, {store_rows} store rows, {table_rows} table rows, on {name}\n")?;
-    let as_the_model = explain_run(&case, &left, out)?;
-    write_file(options.dot.as_deref(), &draw::dot(left.table()))?;
-    write_file(options.svg.as_deref(), &draw::svg(left.table()))?;
+    let as_the_model = if options.json {
+        print_json(&traced(options, &case, &left), out)?
+    } else {
+        writeln!(out, "{n} members, {store_rows} store rows, {table_rows} table rows, on {name}\n")?;
+        explain_run(&case, &left, out)?
+    };
+    write_file(options.dot.as_deref(), || draw::dot(left.table()))?;
+    write_file(options.svg.as_deref(), || draw::svg(left.table()))?;
+    write_file(options.html.as_deref(), || page::page(n, name, &traced(options, &case, &left)))?;
     status(as_the_model)
+}
+
+/// What happened at each event of a case that was played.
+fn traced(options: &Options, case: &Case, left: &Left) -> Vec<Happened> {
+    let (store_rows, table_rows) = case.lent.whole_rows();
+    trace(&calls(options), &case.list, left.answers(), store_rows, table_rows)
+}
+
+/// An object for each event; whether all answers are those of the model.
+fn print_json(trace: &[Happened], out: &mut dyn Write) -> Result<bool, Stop> {
+    for (at, one) in trace.iter().enumerate() {
+        writeln!(out, "{}", json::event(at, one))?;
+    }
+    Ok(trace.iter().all(Happened::as_the_model))
 }
 
 /// Each event in words, the counts and the tree; whether all answers are those of the model.
@@ -123,22 +144,25 @@ fn print_counts(list: &EventList, left: &Left, out: &mut dyn Write) -> Result<()
     Ok(())
 }
 
-fn write_file(file: Option<&OsStr>, text: &str) -> Result<(), Stop> {
+/// Writes a file, if one is asked for.
+fn write_file(file: Option<&OsStr>, text: impl Fn() -> String) -> Result<(), Stop> {
     match file {
-        Some(file) => fs::write(file, text).map_err(|error| Stop::file(Path::new(file).display(), &error)),
+        Some(file) => fs::write(file, text()).map_err(|error| Stop::file(Path::new(file).display(), &error)),
         None => Ok(()),
     }
 }
 
 fn draw_list(options: &Options, out: &mut dyn Write) -> Outcome {
-    let draw = match options.format.as_str() {
-        "text" => draw::text,
-        "dot" => draw::dot,
-        "svg" => draw::svg,
-        other => return Err(format!("--format takes text, dot or svg, not {other}").into()),
+    let draw: fn(&Options, &Case, &Left) -> String = match options.format.as_str() {
+        "text" => |_, _, left| draw::text(left.table()),
+        "dot" => |_, _, left| draw::dot(left.table()),
+        "svg" => |_, _, left| draw::svg(left.table()),
+        "timeline" => |options, case, left| timeline(case.list.n, &traced(options, case, left)),
+        other => return Err(format!("--format takes text, dot, svg or timeline, not {other}").into()),
     };
-    let left = play(options, &case(options, list(options)?))?;
-    print(draw(left.table()), out)
+    let case = case(options, list(options)?);
+    let left = play(options, &case)?;
+    print(draw(options, &case, &left), out)
 }
 
 /// Writes the bytes of any list, and then tells of one that play refuses.

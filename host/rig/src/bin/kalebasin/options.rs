@@ -33,7 +33,7 @@ const COMMANDS: &[Command] = &[
     Command {
         name: "draw",
         operand: Some("[FILE]"),
-        about: "runs a list and draws the tree alone",
+        about: "runs a list and draws the tree alone, or the run as a timeline",
         more: FILE_OR_INPUT,
     },
     Command {
@@ -146,7 +146,7 @@ const CHOICES: &[Choice] = &[
     Choice {
         name: "--format",
         value: Some("F"),
-        uses: &[(&["draw"], "text, dot or svg (text)")],
+        uses: &[(&["draw"], "text, dot or svg for the tree (text); timeline for the run, as SVG")],
         set: |options, value| text("--format", value).map(|format| options.format = format),
     },
     Choice {
@@ -164,6 +164,24 @@ const CHOICES: &[Choice] = &[
         uses: &[(&["run"], "writes the tree to FILE as a picture")],
         set: |options, value| {
             options.svg = Some(value);
+            Ok(())
+        },
+    },
+    Choice {
+        name: "--html",
+        value: Some("FILE"),
+        uses: &[(&["run"], "writes the run to FILE as a page: the timeline, and records and tree after each event")],
+        set: |options, value| {
+            options.html = Some(value);
+            Ok(())
+        },
+    },
+    Choice {
+        name: "--json",
+        value: None,
+        uses: &[(&["run"], "prints a JSON object for each event, one on each line, instead of words")],
+        set: |options, _| {
+            options.json = true;
             Ok(())
         },
     },
@@ -294,6 +312,8 @@ pub struct Options {
     pub format: String,
     pub dot: Option<OsString>,
     pub svg: Option<OsString>,
+    pub html: Option<OsString>,
+    pub json: bool,
     pub seed: u64,
     pub lists: u64,
     pub all: Option<usize>,
@@ -401,6 +421,8 @@ impl Options {
             format: "text".into(),
             dot: None,
             svg: None,
+            html: None,
+            json: false,
             seed: 1,
             lists: 100_000,
             all: None,
