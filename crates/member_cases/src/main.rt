@@ -7,9 +7,9 @@ use ids::Member;
 use ids::Round;
 use libc::STDIN_FILENO;
 use libc::STDOUT_FILENO;
-use member_record::MemberState;
 use member_calls::reply::Called;
 use member_calls::reply::Report;
+use member_record::MemberState;
 ghost use Prim.Native.Nat.{_+_, _≤_};
 ghost use lib.ListN.{length};
 

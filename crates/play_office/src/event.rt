@@ -1,13 +1,13 @@
 // One event of an office: a member step on what the event before it left (01, "Play"). An event takes the record of its member and how much
 // the office has sent, proposed and decided, and gives both back.
-use play_events::Event;
+use crate::settle;
 use ids::Member;
 use ids::Round;
 use member_record::MemberState;
-use crate::settle;
 use play_effects::Tally;
 use play_effects::Worked;
 use play_effects::left;
+use play_events::Event;
 ghost use mathlib.Core.Path.{_≡_};
 ghost use Rattle.model.specs.Model.{at-member, start, deliver};
 ghost use Rattle.play_events.specs.Value.{model-event};
