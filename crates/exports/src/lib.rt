@@ -13,7 +13,7 @@ ghost use mathlib.Core.Path.{_≡_};
 ghost use mathlib.Core.Bool.{true};
 ghost use Rattle.tree_theory.specs.Machine.{add, commit};
 ghost use Rattle.tree_theory.specs.Table.{fresh-number, fresh-table};
-ghost use Rattle.tree.specs.Promises.{Called, PathGiven};
+ghost use Rattle.tree.specs.Promises.{CalledOnTable, PathGiven};
 ghost use Rattle.message.specs.Reading.{reading};
 ghost use Rattle.play.specs.Promise.{Given};
 ghost use Rattle.exports.specs.Results.{counts-of, voteless, message-result, refused-result, read-result};
@@ -149,23 +149,23 @@ pub extern "C" fn kalebasin_tree_fresh(nodes: &mut [u64]) -> u32
     ensures number { λ n. ⌜ n ≡ fresh-number (now (nodes .entry)) ⌝ }
     ensures left { λ _. ⌜ now (nodes .exit) ≡ fresh-table (now (nodes .entry)) ⌝ }
 {
-    tree::fresh(nodes).number()
+    tree::fresh(nodes)
 }
 
 // add(round, value, parent).
 #[no_mangle]
 pub extern "C" fn kalebasin_tree_add(nodes: &mut [u64], round: u32, value: u64, parent: u32) -> u32
-    ensures { λ n. ⌜ Called true (now (nodes .entry)) (add round value parent) n (now (nodes .exit)) ⌝ }
+    ensures { λ n. ⌜ CalledOnTable true (now (nodes .entry)) (add round value parent) n (now (nodes .exit)) ⌝ }
 {
-    tree::add(nodes, Round(round), value, Round(parent)).number()
+    tree::add(nodes, Round(round), value, Round(parent))
 }
 
 // commit(round).
 #[no_mangle]
 pub extern "C" fn kalebasin_tree_commit(nodes: &mut [u64], round: u32) -> u32
-    ensures { λ n. ⌜ Called true (now (nodes .entry)) (commit round) n (now (nodes .exit)) ⌝ }
+    ensures { λ n. ⌜ CalledOnTable true (now (nodes .entry)) (commit round) n (now (nodes .exit)) ⌝ }
 {
-    tree::commit(nodes, Round(round)).number()
+    tree::commit(nodes, Round(round))
 }
 
 // With a refusal the count is 0.
@@ -182,7 +182,7 @@ pub extern "C" fn kalebasin_tree_path(nodes: &[u64], round: u32, out: &mut [u64]
 {
     let a = tree::path(nodes, Round(round), out);
     PathResult {
-        number: a.number(),
-        count: a.count() as u32,
+        number: a.number,
+        count: a.count as u32,
     }
 }

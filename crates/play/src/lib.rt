@@ -67,7 +67,7 @@ pub fn play(list: &[u8], messages: &mut [u8], nodes: &mut [u64], answered: &mut 
     if answered.len() < xdr::word_at(list, 4) as usize {
         return PlayAnswer::Refused(ListRefusal::StoreOrAnswers);
     }
-    if tree::fresh(nodes).number() != 0 {
+    if tree::fresh(nodes) != 0 {
         return PlayAnswer::Refused(ListRefusal::TableLength);
     }
     play_store::clear(messages);

@@ -1,5 +1,5 @@
 -- The recursion to the parent that writes a path: what it hands on, and what it makes of the parent's path. Assumes nothing.
-use mathlib.Core.Path.{_≡_, refl, sym, ap, subst, _∙_}
+use mathlib.Core.Path.{_≡_, refl, sym, ap, _∙_}
 use mathlib.Core.Bool.{Bool, true, false}
 use mathlib.Core.List.{List, [], _∷_, _++_, append-assoc}
 use Prim.Native.Nat.{ℕ, zero, suc, _+_, _≤_, _<_}
@@ -7,14 +7,15 @@ use native.Mathlib.Omega.{arith}
 use lib.ListN.{length, getD, set, drop, length-append}
 use lib.Seq.{drop-cons, set-at}
 use lib.Dec.{leb}
-use borrow.Author.Tests.{leb-true, leb-false}
-use Rattle.laws.specs.Tests.{by-test, clash, tests}
+use borrow.Author.Tests.{ltb-true, leb-true, leb-false}
+use Rattle.laws.specs.Tests.{by-test, tests}
 use Rattle.tree_theory.specs.Machine.{find, present, path}
-use Rattle.tree_theory.specs.Table.{rows, row, used, nodes}
+use Rattle.tree_theory.specs.Table.{rows, row, rows-of, used, nodes}
 use Rattle.tree_theory.proofs.Grown.{Grown}
 use Rattle.tree_theory.proofs.Paths.{path-in-root, next-lower, next-there, path-next}
 use Rattle.tree_theory.proofs.Trees.{tree-held}
-use Rattle.tree_table.specs.Rows.{Found}
+use Rattle.tree_table.specs.Rows.{row-index}
+use Rattle.tree_table.proofs.Rows.{index-there, found-at}
 use Rattle.tree_steps.specs.Climbed.{PathOf, PathWritten}
 
 -- the root's path, where there is room and where there is none
@@ -44,12 +45,11 @@ module _ {ws : List ℕ} {n r behind : ℕ} (P : PathOf ws n r behind) (pos : 0 
   grown = tree-held (P .valued) ws (P .length-is) (P .tree) .grown
 
   -- the row of r
-  pub row-found : {k : ℕ} → Found ws n r k → (k < used ws) × (find r (nodes ws) ≡ row ws k)
-  row-found {k = k} F =
-      let F′ : Found ws (used ws) r k = subst (λ m. Found ws m r k) (P .rows-are) F in
-      by-test (leb (used ws) k)
-      (λ y. clash (P .there) (F′ .none (leb-true (used ws) k y)))
-      (λ y. (leb-false (used ws) k y, F′ .at (leb-false (used ws) k y)))
+  pub row-found : {k : ℕ} → k ≡ row-index r (rows-of ws n) → (k < used ws) × (find r (nodes ws) ≡ row ws k)
+  row-found {k = k} e =
+      let e′ : k ≡ row-index r (nodes ws) = e ∙ ap (λ m. row-index r (rows-of ws m)) (P .rows-are) in
+      let a : k < used ws = ltb-true k (used ws) (index-there ws (used ws) r e′ ∙ P .there) in
+      (a, found-at ws (used ws) r e′ a)
 
   longer : length (path (nodes ws) r) ≡ length (path (nodes ws) (find r (nodes ws) .parent)) + 1
   longer =

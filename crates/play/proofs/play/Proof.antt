@@ -39,17 +39,17 @@ whole-rows c = sym (c .before .has-store-length .ensures) ∙ not-false _ (c .if
 enough : (c : tie.Else4) → count-of (now (c .before .before .before .before .before .before .before .before .before .before .before .before .before .before .args .list)) ≤ length (now (c .before .before .before .before .before .before .before .before .before .before .before .before .before .before .args .answered))
 enough c = omega (arith, c .before .word-at2 .ensures)
 
-right-length : (c : tie.Else5) → sized (now (c .before .before .before .before .before .before .before .before .before .before .before .before .before .before .before .before .before .before .before .before .args .nodes)) ≡ true
-right-length c = fresh-zero _ (sym (c .before .before .before .before .fresh .ensures .0) ∙ sym (c .before .number .ensures) ∙ c .if5 .left)
+right-length : (c : tie.Else5) → sized (now (c .before .before .before .before .before .before .before .before .before .before .before .before .before .before .before .before .before .before .before .args .nodes)) ≡ true
+right-length c = fresh-zero _ (sym (c .before .before .before .fresh .ensures .0) ∙ c .if5 .left)
 
 made-ready : (c : tie.Else5) →
-    let a = c .before .before .before .before .before .before .before .before .before .before .before .before .before .before .before .before .before .before .before .before .args in
+    let a = c .before .before .before .before .before .before .before .before .before .before .before .before .before .before .before .before .before .before .before .args in
     Ready (now (a .list)) (replicate (length (now (a .messages))) 0) (fresh-table (now (a .nodes))) (now (a .answered))
 made-ready c =
-    let e4 = c .before .before .before .before .before .before in
+    let e4 = c .before .before .before .before .before in
     let e3 = e4 .before .before in
     let e2 = e3 .before .before .before in
-    let a = c .before .before .before .before .before .before .before .before .before .before .before .before .before .before .before .before .before .before .before .before .args in
+    let a = c .before .before .before .before .before .before .before .before .before .before .before .before .before .before .before .before .before .before .before .args in
     ready (now (a .list)) (now (a .messages)) (now (a .nodes)) (now (a .answered)) (fitting (e2 .before .before .before)) (few-members e2) (whole-rows e3) (enough e4) (right-length c)
 
 word-at-requires : tie.Need-word-at-requires
@@ -94,9 +94,6 @@ returns-4 c =
 fresh-requires : tie.Need-fresh-requires
 fresh-requires c κs = search needs
 
-number-requires : tie.Need-number-requires
-number-requires c κs = search needs
-
 same-length-3 : tie.Need-same-length-3
 same-length-3 c = search needs
 
@@ -105,12 +102,12 @@ same-length-4 c = search needs
 
 returns-5 : tie.Need-returns-5
 returns-5 c =
-    let f = c .before .before .before .before .fresh in
-    let e4 = c .before .before .before .before .before .before in
+    let f = c .before .before .before .fresh in
+    let e4 = c .before .before .before .before .before in
     let e3 = e4 .before .before in
     let e2 = e3 .before .before .before in
-    let a = c .before .before .before .before .before .before .before .before .before .before .before .before .before .before .before .before .before .before .before .before .args in
-    let nz : fresh-number (now (a .nodes)) ≡ 0 → ⊥ = λ q. c .if5 .taken (c .before .number .ensures ∙ f .ensures .0 ∙ q) in
+    let a = c .before .before .before .before .before .before .before .before .before .before .before .before .before .before .before .before .before .before .before .args in
+    let nz : fresh-number (now (a .nodes)) ≡ 0 → ⊥ = λ q. c .if5 .taken (f .ensures .0 ∙ q) in
     let odd = fresh-refused (now (a .nodes)) nz in
     subst (λ w. Given (now (a .list)) (now (a .messages)) (now (a .nodes)) (now (a .answered)) (refusal-number TableLength) no-counts (now (a .messages)) w (now (a .answered))) (sym (f .ensures .1 ∙ odd .1))
     (table-odd _ _ _ _ (fitting (e2 .before .before .before)) (few-members e2) (whole-rows e3) (enough e4) (odd .0))
@@ -121,9 +118,9 @@ clear-requires c κs = search needs
 run-requires : tie.Need-run-requires
 run-requires c κs =
     let e5 = c .before .before .before .before .before .before .before in
-    let a = c .before .before .before .before .before .before .before .before .before .before .before .before .before .before .before .before .before .before .before .before .before .before .before .before .before .before .before .args in
-    subst (λ m. Ready (now (a .list)) m (c .before .before .before .before .before .before .before .before .before .before .before .fresh .last .0) (now (a .answered))) (sym (c .before .before .before .before .before .clear .ensures))
-    (subst (λ w. Ready (now (a .list)) (replicate (length (now (a .messages))) 0) w (now (a .answered))) (sym (c .before .before .before .before .before .before .before .before .before .before .before .fresh .ensures .1)) (made-ready e5))
+    let a = c .before .before .before .before .before .before .before .before .before .before .before .before .before .before .before .before .before .before .before .before .before .before .before .before .before .before .args in
+    subst (λ m. Ready (now (a .list)) m (c .before .before .before .before .before .before .before .before .before .before .fresh .last .0) (now (a .answered))) (sym (c .before .before .before .before .before .clear .ensures))
+    (subst (λ w. Ready (now (a .list)) (replicate (length (now (a .messages))) 0) w (now (a .answered))) (sym (c .before .before .before .before .before .before .before .before .before .before .fresh .ensures .1)) (made-ready e5))
 
 same-length-5 : tie.Need-same-length-5
 same-length-5 c = search needs
@@ -137,11 +134,11 @@ same-length-7 c = search needs
 returns-6 : tie.Need-returns-6
 returns-6 c =
     let e5 = c .before .before .before .before .before .before .before .before .before .before .before .before .before .before in
-    let a = c .before .before .before .before .before .before .before .before .before .before .before .before .before .before .before .before .before .before .before .before .before .before .before .before .before .before .before .before .before .before .before .before .before .before .args in
-    let f = c .before .before .before .before .before .before .before .before .before .before .before .before .before .before .before .before .before .before .fresh in
+    let a = c .before .before .before .before .before .before .before .before .before .before .before .before .before .before .before .before .before .before .before .before .before .before .before .before .before .before .before .before .before .before .before .before .before .args in
+    let f = c .before .before .before .before .before .before .before .before .before .before .before .before .before .before .before .before .before .fresh in
     let d = c .before .before .before .before .before .before .before .before .before .before .before .before .clear in
     let r = c .before .before .before .before .before .before .run in
-    let e4 = e5 .before .before .before .before .before .before in
+    let e4 = e5 .before .before .before .before .before in
     let e3 = e4 .before .before in
     let e2 = e3 .before .before .before in
     let W = subst (λ w. Ran (now (a .list)) (replicate (length (now (a .messages))) 0) w (now (a .answered)) (r .result) (r .last .1 .0) (r .last .1 .1 .0) (r .last .1 .1 .1 .0)) (f .ensures .1)
@@ -165,7 +162,6 @@ play-spec =
     same-length-2
     returns-4
     fresh-requires
-    number-requires
     same-length-3
     same-length-4
     returns-5

@@ -6,7 +6,7 @@ use borrow.Author.Tests.{not-true, not-false}
 use denote.Ref.{now}
 use Rattle.tree_theory.specs.Table.{sized, fresh-number, fresh-table}
 use Rattle.tree_theory.proofs.Steps.{fresh-written}
-use Rattle.tree.proofs.Stepping.{four}
+use Rattle.tree.proofs.Calling.{four}
 use Rattle.tree.proofs.fresh.Statement.{statement}
 use Rattle.tree.proofs.fresh.Tie as tie
 

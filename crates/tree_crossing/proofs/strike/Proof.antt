@@ -5,7 +5,7 @@ use native.Mathlib.Omega.{arith}
 use lib.ListN.{length}
 use borrow.Author.Needs.{needs}
 use denote.Ref.{now}
-use Rattle.tree_crossing.specs.Crossed.{strike-crossed}
+use Rattle.tree_theory.specs.Machine.{strike-crossed}
 use Rattle.tree_table.proofs.Rows.{Passed, pass-none, pass-end}
 use Rattle.tree_crossing.proofs.Striking.{struck-more}
 use Rattle.tree_crossing.proofs.strike.Statement.{statement}
