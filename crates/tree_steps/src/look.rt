@@ -21,10 +21,12 @@ fn look_on(l: Look, t: &[u64], r: u64, p: u64) -> Look
     ensures { λ m. ⌜ m ≡ look-of r p (rows-of (now (t .entry)) (l .used + 1)) ⌝ }
 {
     let i = l.used;
+    let row = tree_table::find_row_more(t, i, r, l.row);
+    let parent = tree_table::find_row_more(t, i, p, l.parent);
     Look {
         used: i + 1,
-        row: tree_table::find_row_more(t, i, r, l.row),
-        parent: tree_table::find_row_more(t, i, p, l.parent),
+        row,
+        parent,
         above: l.above | (r < tree_table::round_at(t, i)),
         blocked: l.blocked | tree_crossing::crossed_at(t, i, tree_table::COMMITTED, r, p),
     }

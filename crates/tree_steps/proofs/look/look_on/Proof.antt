@@ -19,14 +19,14 @@ use Rattle.tree_steps.proofs.look.look_on.Tie as tie
 abbrev begun : tie.After-round-at → tie.Start
 begun c = c .before .before .before .before
 
-add-t6 : tie.Need-add-t6
-add-t6 c = omega arith
-
 find-row-more-requires : tie.Need-find-row-more-requires
 find-row-more-requires c κs = (search needs, ap (λ (l : Look). l .row) (c .before .pre .1))
 
 find-row-more-requires-2 : tie.Need-find-row-more-requires-2
 find-row-more-requires-2 c κs = (search needs, ap (λ (l : Look). l .parent) (c .before .before .pre .1))
+
+add-t8 : tie.Need-add-t8
+add-t8 c = omega arith
 
 round-at-requires : tie.Need-round-at-requires
 round-at-requires c κs = search needs
@@ -58,9 +58,9 @@ pub look-on-spec : {M : Type 1} → statement M
 look-on-spec =
     tie.close
     (tie.spec
-    add-t6
     find-row-more-requires
     find-row-more-requires-2
+    add-t8
     round-at-requires
     crossed-at-requires
     returns)
