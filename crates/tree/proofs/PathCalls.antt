@@ -76,7 +76,8 @@ module _ (valued : Bool) (ws : List ℕ) (r : ℕ) (out : List ℕ) where
             (λ y. absurd (omega (arith, rw y at (W .count-is), some valued ws G r p)))
             (λ y.
             let short : ltb (length out) (length (path (nodes ws) r)) ≡ true = omega tests in
-            subst (PathGiven valued ws r out SLICE-SHORT 0) (sym (rw y at (W .slice-is))) (path-refused SLICE-SHORT (rw (s, t, a, p, short) refl) (λ q. omega arith)))
+            subst (PathGiven valued ws r out SLICE-SHORT 0) (sym (rw y at (W .slice-is)))
+            (path-refused SLICE-SHORT (rw (s, t, a, p, short) refl) (λ q. omega arith)))
 
         pub path-done : (k ≡ 0 → ⊥) → PathGiven valued ws r out OK k out′
         unfolding path-number path-count path-slice

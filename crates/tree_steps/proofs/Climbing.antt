@@ -73,7 +73,7 @@ module _ {ws : List ℕ} {n r behind : ℕ} (P : PathOf ws n r behind) (pos : 0 
   module _ {p : ℕ} (e : p ≡ find r (nodes ws) .parent) {out : List ℕ} {k : ℕ} {out′ : List ℕ} (W : PathWritten ws p (behind + 1) out k out′) where
     -- the parent's path found room for itself and r, or it didn't
     fate : {C : Type 0} →
-        ((length (path (nodes ws) p) + (behind + 1) ≤ length out) → k ≡ length (path (nodes ws) p) → out′ ≡ path (nodes ws) p ++ drop (length (path (nodes ws) p)) out → C) →
+        (let l = length (path (nodes ws) p) in (l + (behind + 1) ≤ length out) → k ≡ l → out′ ≡ path (nodes ws) p ++ drop l out → C) →
         ((length out < length (path (nodes ws) p) + (behind + 1)) → k ≡ 0 → out′ ≡ out → C) → C
     fate f g =
         by-test (leb (length (path (nodes ws) p) + (behind + 1)) (length out))
@@ -100,13 +100,15 @@ module _ {ws : List ℕ} {n r behind : ℕ} (P : PathOf ws n r behind) (pos : 0 
         (λ room a b.
         let l = length (path (nodes ws) p) in
         let t : leb (length (path (nodes ws) r) + behind) (length out) ≡ true = omega (tests, length-r) in
-        let whole : path (nodes ws) r ≡ path (nodes ws) p ++ r ∷ [] = path-next (P .valued) (rows ws) (nodes ws) grown r (P .there) pos ∙ ap (λ x. path (nodes ws) x ++ r ∷ []) (sym e) in
+        let whole : path (nodes ws) r ≡ path (nodes ws) p ++ r ∷ [] =
+        path-next (P .valued) (rows ws) (nodes ws) grown r (P .there) pos ∙ ap (λ x. path (nodes ws) x ++ r ∷ []) (sym e) in
         let s : l + 1 ≡ suc l = omega arith in
         let d : drop l out ≡ getD out l 0 ∷ drop (suc l) out = drop-cons out l 0 (omega arith) in
         let put : set out′ k r ≡ path (nodes ws) p ++ r ∷ drop (suc l) out =
         ap (λ x. set x k r) (b ∙ ap (λ x. path (nodes ws) p ++ x) d) ∙ set-at (path (nodes ws) p) (getD out l 0) (drop (suc l) out) r k (sym a) in
         record {
           count-is = rw t (ap (λ x. x + 1) a ∙ sym length-r);
-          slice-is = rw t (put ∙ sym (ap (λ x. x ++ drop (length (path (nodes ws) r)) out) whole ∙ ap (λ x. path (nodes ws) p ++ r ∷ [] ++ drop x out) (length-r ∙ s) ∙ append-assoc (path (nodes ws) p) (r ∷ []) (drop (suc l) out)));
+          slice-is = rw t (put ∙ sym (ap (λ x. x ++ drop (length (path (nodes ws) r)) out) whole ∙
+              ap (λ x. path (nodes ws) p ++ r ∷ [] ++ drop x out) (length-r ∙ s) ∙ append-assoc (path (nodes ws) p) (r ∷ []) (drop (suc l) out)));
         })
         (λ none a b. absurd (z a))

@@ -50,21 +50,24 @@ module _ {ws : List ℕ} {r p : ℕ} {l : Look} (W : Walked ws r p l) where
   walk-end h = ended (W .rest ∙ used-end ws (rows ws) (l .used) h)
 
 -- what it says of the nodes
-module _ (ws : List ℕ) (r p : ℕ) {l : Look} (e : l ≡ look-of r p (nodes ws)) where
+pub record LookedAt (ws : List ℕ) (r p : ℕ) (l : Look) : Type 0 where
+  pub is : l ≡ look-of r p (nodes ws)
+
+module _ {ws : List ℕ} {r p : ℕ} {l : Look} (L : LookedAt ws r p l) where
   pub used-is : l .used ≡ used ws
-  used-is = ap (λ (k : Look). k .used) e ∙ length-rows ws (used ws)
+  used-is = ap (λ (k : Look). k .used) (L .is) ∙ length-rows ws (used ws)
 
   row-is : l .row ≡ row-index r (nodes ws)
-  row-is = ap (λ (k : Look). k .row) e
+  row-is = ap (λ (k : Look). k .row) (L .is)
 
   parent-is : l .parent ≡ row-index p (nodes ws)
-  parent-is = ap (λ (k : Look). k .parent) e
+  parent-is = ap (λ (k : Look). k .parent) (L .is)
 
   pub above-is : l .above ≡ any (above r) (nodes ws)
-  above-is = ap (λ (k : Look). k .above) e
+  above-is = ap (λ (k : Look). k .above) (L .is)
 
   pub blocked-is : l .blocked ≡ any (blocks r p) (nodes ws)
-  blocked-is = ap (λ (k : Look). k .blocked) e
+  blocked-is = ap (λ (k : Look). k .blocked) (L .is)
 
   pub round-present : l .row < l .used → present r (nodes ws) ≡ true
   round-present h = found-there ws (used ws) r row-is (omega (arith, used-is))

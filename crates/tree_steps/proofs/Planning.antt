@@ -1,6 +1,6 @@
 -- Plans for the calls of a tree: what the passes of the code leave is what the machine makes. Assumes nothing.
 use mathlib.Core.Path.{_≡_, refl, sym, ap, subst, _∙_}
-use mathlib.Core.Bool.{Bool, true, false, cond, _||_, or-false}
+use mathlib.Core.Bool.{Bool, true, false, cond, not, _||_, or-false}
 use mathlib.Core.Logic.{_≢_}
 use mathlib.Core.List.{List, [], _∷_, _++_, map}
 use Prim.Native.Nat.{ℕ, zero, suc, _+_, _-_, _*_, _≤_, _<_}
@@ -8,7 +8,7 @@ use native.Mathlib.Omega.{arith}
 use lib.ListN.{length, set, getD, drop, replicate, length-append, length-map}
 use lib.Seq.{drop-append-add}
 use lib.Dec.{ltb, eqb}
-use borrow.Author.Tests.{eq-eqb, ne-eqb, eqb-false, ltb-true, leb-false, not-false}
+use borrow.Author.Tests.{eq-eqb, ne-eqb, eqb-false, ltb-true, leb-false, not-true, not-false}
 use Rattle.laws.specs.Tests.{by-test, clash, tests, or-left}
 use Rattle.laws.specs.Lists.{any, any-append, any-intro}
 use Rattle.laws.specs.First.{passed}
@@ -25,6 +25,14 @@ use Rattle.tree_theory.proofs.Trees.{tree-held}
 use Rattle.tree_table.specs.Rows.{row-index}
 use Rattle.tree_table.proofs.Rows.{rows-from, rows-more, rows-split, index-left, index-there, found-at, Passed, pass-none, pass-on, pass-set, pass-end}
 use Rattle.tree_steps.specs.Planned.{written, Planned}
+
+-- what the test of a round's range left behind
+module _ (r : ℕ) {b : Bool} (e : b ≡ not (out-of-range r)) where
+  pub beyond : not b ≡ true → out-of-range r ≡ true
+  beyond t = not-false (out-of-range r) (sym e ∙ not-true b t)
+
+  pub within : not b ≡ false → out-of-range r ≡ false
+  within t = not-true (out-of-range r) (sym e ∙ not-false b t)
 
 drop-zeros : (k n : ℕ) → drop {A = ℕ} k (replicate n 0) ≡ replicate (n - k) 0
 drop-zeros zero n = let e : n - 0 ≡ n = omega arith in rw e refl

@@ -1,6 +1,5 @@
 // All that an add asks of the rows, in one walk over those that are used.
 ghost use mathlib.Core.Path.{_≡_};
-ghost use mathlib.Core.Bool.{_||_};
 ghost use Prim.Native.Nat.{_+_, _*_, _≤_};
 ghost use lib.ListN.{length};
 ghost use Rattle.tree_theory.specs.Table.{rows-of, nodes};
@@ -16,33 +15,24 @@ pub struct Look {
     pub blocked: bool,
 }
 
-fn either(a: bool, b: bool) -> bool
-    ensures { λ c. ⌜ c ≡ (a || b) ⌝ }
-{
-    if a {
-        return true;
-    }
-    b
-}
-
 // One row more.
 fn look_on(l: Look, t: &[u64], r: u64, p: u64) -> Look
     requires { ⌜ (4 * l .used + 4 ≤ length (now t)) × (l ≡ look-of r p (rows-of (now t) (l .used))) ⌝ }
     ensures { λ m. ⌜ m ≡ look-of r p (rows-of (now (t .entry)) (l .used + 1)) ⌝ }
 {
     let i = l.used;
+    let row = tree_table::find_row_more(t, i, r, l.row);
+    let parent = tree_table::find_row_more(t, i, p, l.parent);
     Look {
         used: i + 1,
-        row: tree_table::find_row_more(t, i, r, l.row),
-        parent: tree_table::find_row_more(t, i, p, l.parent),
-        above: either(l.above, r < tree_table::round_at(t, i)),
-        blocked: either(
-            l.blocked,
-            tree_crossing::crossed_at(t, i, tree_table::COMMITTED, r, p),
-        ),
+        row,
+        parent,
+        above: l.above | (r < tree_table::round_at(t, i)),
+        blocked: l.blocked | tree_crossing::crossed_at(t, i, tree_table::COMMITTED, r, p),
     }
 }
 
+// The whole walk: it ends at the first free row.
 pub fn look_over(t: &[u64], r: u64, p: u64) -> Look
     ensures { λ l. ⌜ l ≡ look-of r p (nodes (now (t .entry))) ⌝ }
 {

@@ -46,9 +46,9 @@ pub record Scanned (P : Node → Bool) (ws : List ℕ) (n i : ℕ) : Type 0 wher
   pub within : i ≤ n
   pub none : any P (rows-of ws i) ≡ false
 
-pub scan-start : (P : Node → Bool) (ws : List ℕ) (n : ℕ) → Scanned P ws n 0
+pub scan-start : {P : Node → Bool} {ws : List ℕ} {n : ℕ} → Scanned P ws n 0
 unfolding rows-of
-scan-start P ws n = record { within = omega arith; none = refl }
+scan-start = record { within = omega arith; none = refl }
 
 module _ {P : Node → Bool} {ws : List ℕ} {n i : ℕ} (S : Scanned P ws n i) where
   pub scan-more : i < n → P (row ws i) ≡ false → Scanned P ws n (i + 1)
@@ -219,15 +219,19 @@ module _ (f : Node → Node) (t₀ : List ℕ) where
   pass-keep i t P h k = pass-more i t (P .is ∙ rw (row-ahead t₀ i h, k) refl)
 
   -- its status is set
-  pub pass-set : (i : ℕ) (t : List ℕ) (s : ℕ) → Passed f t₀ i t → 4 * i + 4 ≤ length t₀ → f (row t₀ i) ≡ with-status (row t₀ i) s → Passed f t₀ (i + 1) (set t (4 * i + 3) s)
+  pub pass-set : (i : ℕ) (t : List ℕ) (s : ℕ) → Passed f t₀ i t → 4 * i + 4 ≤ length t₀ → f (row t₀ i) ≡ with-status (row t₀ i) s →
+      Passed f t₀ (i + 1) (set t (4 * i + 3) s)
   unfolding words
   pass-set i t s P h k =
+      let n = row t₀ i in
+      let front = words (map f (rows-of t₀ i)) in
       pass-more i (set t (4 * i + 3) s)
-      (ap (λ l. set l (4 * i + 3) s) (P .is ∙ ap (λ l. words (map f (rows-of t₀ i)) ++ l) (row-ahead t₀ i h)) ∙
-      rw k (rw (length-front i) at (set-fourth (words (map f (rows-of t₀ i))) (row t₀ i .round) (row t₀ i .parent) (row t₀ i .value) (row t₀ i .status) s (drop (4 * suc i) t₀))))
+      (ap (λ l. set l (4 * i + 3) s) (P .is ∙ ap (λ l. front ++ l) (row-ahead t₀ i h)) ∙
+      rw k (rw (length-front i) at (set-fourth front (n .round) (n .parent) (n .value) (n .status) s (drop (4 * suc i) t₀))))
 
   -- rows that f leaves as they are
-  pub pass-on : (t : List ℕ) (d i : ℕ) → Passed f t₀ i t → 4 * (i + d) ≤ length t₀ → ((j : ℕ) → i ≤ j → j < i + d → f (row t₀ j) ≡ row t₀ j) → Passed f t₀ (i + d) t
+  pub pass-on : (t : List ℕ) (d i : ℕ) → Passed f t₀ i t → 4 * (i + d) ≤ length t₀ → ((j : ℕ) → i ≤ j → j < i + d → f (row t₀ j) ≡ row t₀ j) →
+      Passed f t₀ (i + d) t
   pass-on t zero i P h k = rw (add-zero i) P
   pass-on t (suc d) i P h k =
       let e : i + suc d ≡ i + 1 + d = omega arith in

@@ -19,17 +19,25 @@ abbrev μ-loop : tie.MeasureT-loop
 μ-loop t n r i₀ i = n - i
 
 loop-holds : tie.Need-loop-holds Inv-loop μ-loop
-loop-holds c = scan-start _ _ _
+loop-holds c = scan-start
 
 round-at-requires : tie.Need-round-at-requires Inv-loop μ-loop
 round-at-requires c κs = omega arith
 
+-- the turn of a row, and where the code began
+abbrev turn : tie.After-round-at Inv-loop μ-loop → tie.In-loop Inv-loop μ-loop
+turn c = c .before
+
+abbrev begun : tie.In-loop Inv-loop μ-loop → tie.Start Inv-loop μ-loop
+begun c = c .before .before .before
+
 returns : tie.Need-returns Inv-loop μ-loop
 returns c =
-    let a = c .before .before .before .before .before .args in
-    let l = c .before .before .before .loop in
+    let t = turn (c .before) in
+    let l = t .before .loop in
+    let a = begun t .args in
     let e : row (now (a .t)) (l .i) .round ≡ a .r = omega arith in
-    sym (stopped (l .inv) (c .before .before .loop-test .taken) e)
+    sym (stopped (l .inv) (t .loop-test .taken) e)
 
 add-i : tie.Need-add-i Inv-loop μ-loop
 add-i c = search needs
@@ -39,10 +47,11 @@ loop-less c = search needs
 
 loop-again : tie.Need-loop-again Inv-loop μ-loop
 loop-again c =
-    let a = c .before .before .before .before .before .args in
-    let l = c .before .before .before .loop in
+    let t = turn (c .before) in
+    let l = t .before .loop in
+    let a = begun t .args in
     let e : row (now (a .t)) (l .i) .round ≡ a .r → ⊥ = λ q. c .if1 .left (omega arith) in
-    scan-more (l .inv) (c .before .before .loop-test .taken) (ne-eqb _ _ e)
+    scan-more (l .inv) (t .loop-test .taken) (ne-eqb _ _ e)
 
 returns-2 : tie.Need-returns-2 Inv-loop μ-loop
 returns-2 c =

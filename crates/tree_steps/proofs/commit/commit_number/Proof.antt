@@ -5,14 +5,15 @@ use mathlib.Core.List.{List, [], _∷_}
 use Prim.Native.Nat.{ℕ}
 use lib.Dec.{eqb}
 use borrow.Author.Needs.{needs}
-use borrow.Author.Tests.{eq-eqb, ne-eqb, not-true, not-false}
+use borrow.Author.Tests.{eq-eqb, ne-eqb}
 use denote.Ref.{now}
 use Rattle.ids.specs.Ranges.{out-of-range}
-use Rattle.numbers.specs.Numbers.{ROUND-GHOST}
+use Rattle.numbers.specs.Numbers.{ROUND-COMMITTED, ROUND-GHOST}
 use Rattle.laws.specs.First.{first, _gives_}
-use Rattle.tree_theory.specs.Machine.{Node, GHOST, find, causes, answer, commit}
+use Rattle.tree_theory.specs.Machine.{Node, GHOST, COMMITTED, find, causes, answer, commit}
 use Rattle.tree_theory.specs.Table.{rows, rows-of}
 use Rattle.tree_table.proofs.Rows.{found-there, found-none, found-at}
+use Rattle.tree_steps.proofs.Planning.{beyond, within}
 use Rattle.tree_steps.proofs.commit.commit_number.Statement.{statement}
 use Rattle.tree_steps.proofs.commit.commit_number.Tie as tie
 
@@ -34,12 +35,10 @@ in-range-requires c κs = search needs
 
 returns : tie.Need-returns
 unfolding answer causes
-returns c =
-    let e : out-of-range (c .before .before .before .args .r .0) ≡ true = not-false _ (sym (c .before .in-range .ensures) ∙ not-true _ (c .if1 .taken)) in
-    rw e refl
+returns c = rw (beyond (c .before .before .before .args .r .0) (c .before .in-range .ensures) (c .if1 .taken)) refl
 
 ranged : (c : tie.Else1) → out-of-range (begun c .args .r .0) ≡ false
-ranged c = not-true _ (sym (c .before .in-range .ensures) ∙ not-false _ (c .if1 .left))
+ranged c = within (begun c .args .r .0) (c .before .in-range .ensures) (c .if1 .left)
 
 returns-2 : tie.Need-returns-2
 unfolding answer causes
@@ -50,34 +49,36 @@ returns-2 c =
 status-at-requires : tie.Need-status-at-requires
 status-at-requires c κs = search needs
 
--- the status read is the node's, and no cause before the statuses holds
+-- the status read is the node's
 status-is : (c : tie.After-status-at) → find (read c .args .r .0) (all-rows (read c)) .status ≡ c .status-at .result
 status-is c =
     let s = read c in
     ap (λ (n : Node). n .status) (found-at (now (s .args .t)) _ _ (s .pre) (c .before .if2 .left)) ∙ sym (c .status-at .ensures)
 
-returns-3 : tie.Need-returns-3
+-- once the round is known to be present, only its status is left
+present-there : (c : tie.Else2) →
+    let s = begun-2 c in
+    let status = find (s .args .r .0) (all-rows s) .status in
+    answer true (rows (now (s .args .t))) (all-rows s) (commit (s .args .r .0)) ≡
+    first (eqb status COMMITTED gives ROUND-COMMITTED ∷ eqb status GHOST gives ROUND-GHOST ∷ [])
 unfolding answer causes
+present-there c =
+    let s = begun-2 c in
+    rw (ranged (c .before), found-there (now (s .args .t)) _ _ (s .pre) (c .if2 .left)) refl
+
+returns-3 : tie.Need-returns-3
 returns-3 c =
-    let d = c .before .before in
-    let s = begun-2 d in
-    rw (ranged (d .before), found-there (now (s .args .t)) _ _ (s .pre) (d .if2 .left), eq-eqb _ _ (status-is (c .before) ∙ c .if3 .taken)) refl
+    let o = c .before in
+    sym (present-there (o .before) ∙ rw (eq-eqb _ _ (status-is o ∙ c .if3 .taken)) refl)
 
 -- once the node is known to be uncommitted, only GHOST is left
 uncommitted : (c : tie.Else3) →
     let s = read (c .before) in
     answer true (rows (now (s .args .t))) (all-rows s) (commit (s .args .r .0)) ≡
     first (eqb (find (s .args .r .0) (all-rows s) .status) GHOST gives ROUND-GHOST ∷ [])
-unfolding answer causes
 uncommitted c =
-    let d = c .before .before in
-    let s = begun-2 d in
-    rw (
-      ranged (d .before),
-      found-there (now (s .args .t)) _ _ (s .pre) (d .if2 .left),
-      ne-eqb _ _ (λ q. c .if3 .left (sym (status-is (c .before)) ∙ q)),
-    )
-    refl
+    let o = c .before in
+    present-there (o .before) ∙ rw (ne-eqb _ _ (λ q. c .if3 .left (sym (status-is o) ∙ q))) refl
 
 returns-4 : tie.Need-returns-4
 returns-4 c =
