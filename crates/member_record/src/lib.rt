@@ -1,20 +1,35 @@
 // The member record of 01, "Members": which records are sound, and the fresh record.
-use ids::LAST_ROUND;
 use ids::Member;
 use ids::Round;
+use ids::above_range;
 use ids::leader;
 use quorum::quorum_of;
 ghost use mathlib.Core.Path.{_≡_};
 ghost use Prim.Native.Nat.{_≤_};
 ghost use Rattle.quorum.specs.Count.{count};
-ghost use Rattle.member_record.specs.Record.{allowed, leads, flag, flagged, fresh, sound-number, sound-vote, sound-flags, sound-idle, sound-count, sound-leading, sound-lead, sound};
+ghost use Rattle.member_record.specs.Phases.{needed};
+ghost use Rattle.member_record.specs.Record.{changes-durable, allowed, leads, flag, flagged, fresh, sound-number};
+ghost use Rattle.member_record.specs.Record.{sound-durable, sound-flags, sound-idle, sound-count, sound-leading, sound-lead, sound};
 
-// The member record.
-pub struct MemberState {
+// The phases of a leader: it has led no round yet; it counts JOINs; it has proposed and counts VOTEs; it has decided.
+pub const IDLE: u32 = 0;
+
+pub const COLLECTING: u32 = 1;
+
+pub const PROPOSED: u32 = 2;
+
+pub const DECIDED: u32 = 3;
+
+// Which member of which office a record is.
+pub struct Who {
     // Own number.
     pub me: Member,
     // N, the number of members.
     pub n: u32,
+}
+
+// What must last: a member that forgot one of these could vote or lead against what it did.
+pub struct Durable {
     // J, the highest round joined or voted.
     pub joined: Round,
     // V, the last voted round.
@@ -23,7 +38,11 @@ pub struct MemberState {
     pub vote: u64,
     // L, the round last led.
     pub led: Round,
-    // 0 idle, 1 collecting, 2 proposed, 3 decided.
+}
+
+// What belongs to leading the round last led.
+pub struct Lead {
+    // IDLE, COLLECTING, PROPOSED or DECIDED.
     pub phase: u32,
     // X, the value to propose.
     pub value: u64,
@@ -31,6 +50,37 @@ pub struct MemberState {
     pub source: Round,
     // One for each member counted.
     pub flags: [bool; 7],
+}
+
+// The member record.
+pub struct MemberState {
+    pub who: Who,
+    pub durable: Durable,
+    pub lead: Lead,
+}
+
+// Whether J, V, W or L differs.
+pub fn changes_durable(before: Durable, after: Durable) -> bool
+    ensures { λ b. ⌜ b ≡ changes-durable before after ⌝ }
+{
+    if before.joined.0 != after.joined.0 {
+        return true;
+    }
+    if before.voted.0 != after.voted.0 {
+        return true;
+    }
+    if before.vote != after.vote {
+        return true;
+    }
+    before.led.0 != after.led.0
+}
+
+// How many flags a phase needs to end, or ended with: the quorum of the office in each.
+pub fn needed(who: Who, phase: u32) -> u32
+    requires { ⌜ 1 ≤ who .n ⌝ }
+    ensures { λ k. ⌜ k ≡ needed who phase ⌝ }
+{
+    quorum_of(who.n)
 }
 
 // How many of the members below `to` are flagged.
@@ -60,18 +110,21 @@ pub fn count_flags(flags: [bool; 7]) -> u32
 pub fn blank(me: Member, n: u32) -> MemberState
     ensures { λ m. ⌜ m ≡ fresh me n ⌝ }
 {
-    MemberState {
-        me: me,
-        n: n,
-        joined: Round(0),
-        voted: Round(0),
+    let none = Round(0);
+    let who = Who { me, n };
+    let durable = Durable {
+        joined: none,
+        voted: none,
         vote: 0,
-        led: Round(0),
-        phase: 0,
+        led: none,
+    };
+    let lead = Lead {
+        phase: IDLE,
         value: 0,
-        source: Round(0),
+        source: none,
         flags: [false; 7],
-    }
+    };
+    MemberState { who, durable, lead }
 }
 
 // N is 3, 5 or 7.
@@ -106,91 +159,94 @@ pub fn is_leader(n: u32, s: Member, r: Round) -> bool
 }
 
 // V is at most J, J at most the last round, and V is 0 only with W 0.
-fn vote_sound(m: MemberState) -> bool
-    ensures { λ b. ⌜ b ≡ sound-vote m ⌝ }
+fn durable_sound(d: Durable) -> bool
+    ensures { λ b. ⌜ b ≡ sound-durable d ⌝ }
 {
-    if m.joined.0 < m.voted.0 {
+    if d.joined.0 < d.voted.0 {
         return false;
     }
-    if LAST_ROUND < m.joined.0 {
+    if above_range(d.joined.0 as u64) {
         return false;
     }
-    if m.voted.0 == 0 {
-        return m.vote == 0;
+    if d.voted.0 == 0 {
+        return d.vote == 0;
     }
     true
 }
 
 // Flags from N on are false: as many are counted below N as in all.
-fn flags_sound(m: MemberState) -> bool
-    requires { ⌜ m .n ≤ 7 ⌝ }
-    ensures { λ b. ⌜ b ≡ sound-flags m ⌝ }
+fn flags_sound(who: Who, l: Lead) -> bool
+    requires { ⌜ who .n ≤ 7 ⌝ }
+    ensures { λ b. ⌜ b ≡ sound-flags who l ⌝ }
 {
-    let n = m.n as usize;
-    let flags = m.flags;
+    let n = who.n as usize;
+    let flags = l.flags;
     count_below(flags, n) == count_below(flags, 7)
 }
 
 // L is 0: idle, X and B are 0, no flag.
-fn idle_sound(m: MemberState) -> bool
-    ensures { λ b. ⌜ b ≡ sound-idle m ⌝ }
+fn idle_sound(l: Lead) -> bool
+    ensures { λ b. ⌜ b ≡ sound-idle l ⌝ }
 {
-    if m.phase != 0 {
+    if l.phase != IDLE {
         return false;
     }
-    if m.value != 0 {
+    if l.value != 0 {
         return false;
     }
-    if m.source.0 != 0 {
+    if l.source.0 != 0 {
         return false;
     }
-    let flags = m.flags;
+    let flags = l.flags;
     count_flags(flags) == 0
 }
 
-// Fewer flags than the quorum in phases 1 and 2, the quorum in phase 3.
-fn count_sound(m: MemberState) -> bool
-    requires { ⌜ 1 ≤ m .n ⌝ }
-    ensures { λ b. ⌜ b ≡ sound-count m ⌝ }
+// Fewer flags than needed while they are counted, as many once it is decided.
+fn count_sound(who: Who, l: Lead) -> bool
+    requires { ⌜ 1 ≤ who .n ⌝ }
+    ensures { λ b. ⌜ b ≡ sound-count who l ⌝ }
 {
-    let flags = m.flags;
+    let flags = l.flags;
     let counted = count_flags(flags);
-    let needed = quorum_of(m.n);
-    if m.phase == 3 {
-        return counted == needed;
+    let full = needed(who, l.phase);
+    if l.phase == DECIDED {
+        return counted == full;
     }
-    counted < needed
+    counted < full
 }
 
 // L isn't 0: not idle, L in range and led by this member, B below L.
 fn leading_sound(m: MemberState) -> bool
-    requires { ⌜ 1 ≤ m .n ⌝ }
+    requires { ⌜ 1 ≤ m .who .n ⌝ }
     ensures { λ b. ⌜ b ≡ sound-leading m ⌝ }
 {
-    if m.phase == 0 {
+    if m.lead.phase == IDLE {
         return false;
     }
-    if LAST_ROUND < m.led.0 {
+    let led = m.durable.led;
+    if above_range(led.0 as u64) {
         return false;
     }
-    let me = m.me;
-    let led = m.led;
-    if !is_leader(m.n, me, led) {
+    let who = m.who;
+    let me = who.me;
+    if !is_leader(who.n, me, led) {
         return false;
     }
-    if m.led.0 <= m.source.0 {
+    let lead = m.lead;
+    if led.0 <= lead.source.0 {
         return false;
     }
-    count_sound(m)
+    count_sound(who, lead)
 }
 
 // Idle exactly when L is 0.
 fn lead_sound(m: MemberState) -> bool
-    requires { ⌜ 1 ≤ m .n ⌝ }
+    requires { ⌜ 1 ≤ m .who .n ⌝ }
     ensures { λ b. ⌜ b ≡ sound-lead m ⌝ }
 {
-    if m.led.0 == 0 {
-        return idle_sound(m);
+    let lead = m.lead;
+    if m.durable.led.0 == 0 {
+        return idle_sound(lead);
     }
     leading_sound(m)
 }
@@ -199,17 +255,20 @@ fn lead_sound(m: MemberState) -> bool
 pub fn is_sound(m: MemberState) -> bool
     ensures { λ b. ⌜ b ≡ sound m ⌝ }
 {
-    let me = m.me;
-    if !number_sound(me, m.n) {
+    let who = m.who;
+    let me = who.me;
+    let durable = m.durable;
+    let lead = m.lead;
+    if !number_sound(me, who.n) {
         return false;
     }
-    if 3 < m.phase {
+    if DECIDED < lead.phase {
         return false;
     }
-    if !vote_sound(m) {
+    if !durable_sound(durable) {
         return false;
     }
-    if !flags_sound(m) {
+    if !flags_sound(who, lead) {
         return false;
     }
     lead_sound(m)

@@ -10,14 +10,10 @@ use Rattle.laws.specs.Lists.{_∈_}
 use Rattle.ids.specs.declared.Round.{Round}
 use Rattle.tree_theory.specs.Table.{sized, Tree}
 use Rattle.message.specs.declared.Message.{Message}
-use Rattle.message.specs.Fields.{in-range}
 use Rattle.member_record.specs.declared.MemberState.{MemberState}
-use Rattle.member_rules.specs.declared.refusals.Refusal.{Refusal}
-use Rattle.member_rules.specs.declared.refusals.Refusal.the-variants.{NotSound, Field, RoundRange, NotLeader, NotAboveLed, Sender, MovedPast, OtherValue, NotAwaited, CountedAlready}
 use Rattle.member.specs.declared.Answer.{Answer}
 use Rattle.member.specs.declared.Answer.the-variants.{Sent, Proposed}
 use Rattle.member.specs.declared.Step.{Step}
-use Rattle.member_rules.specs.Refusals.{refusal-number}
 use Rattle.member.specs.Answers.{answer-outcome, outcome}
 use Rattle.member.specs.Table.{Outcome}
 use Rattle.model.specs.Model.{Sizes, Event}
@@ -28,6 +24,7 @@ use Rattle.play_office.specs.declared.Office.{Office}
 use Rattle.play_office.specs.Standing.{Took, Faced, office-of}
 use Rattle.member_record.specs.Record.{allowed}
 use Rattle.member.specs.Table.{sound-step}
+use Rattle.member.specs.Kept.{Kept}
 use Rattle.member.proofs.Keeping.{step-kept}
 use Rattle.model.specs.Model.{member-at, event-of, at-member}
 use Rattle.model.proofs.Kept.{KeptOffice, step-is-sound, event-fits}
@@ -38,19 +35,6 @@ pub allowed-seven : (n : ℕ) → allowed n ≡ true → n ≤ 7
 allowed-seven n h =
     or-cases (eqb n 3) (eqb n 5 || eqb n 7) h (λ t. omega tests)
     (λ t. or-cases (eqb n 5) (eqb n 7) t (λ f. omega tests) (λ f. omega tests))
-
--- a refusal's number is a byte
-pub refusal-small : (k : Refusal) → refusal-number k < 256
-refusal-small NotSound = omega arith
-refusal-small Field = omega arith
-refusal-small RoundRange = omega arith
-refusal-small NotLeader = omega arith
-refusal-small NotAboveLed = omega arith
-refusal-small Sender = omega arith
-refusal-small MovedPast = omega arith
-refusal-small OtherValue = omega arith
-refusal-small NotAwaited = omega arith
-refusal-small CountedAlready = omega arith
 
 -- the step taken, by its answer
 pub retook : {z : Sizes} {o : ModelOffice} {e : Event} {i : ℕ} (s : Step) {b : Answer} → s .answer ≡ b → Took z o e i (outcome s) → Took z o e i (answer-outcome (s .state) b)
@@ -75,17 +59,17 @@ module _ (t : Tally) (m : MemberState) (u : Outcome) (store ws : List ℕ) (F : 
   pub faced-tree : (sized ws ≡ true) × Tree true ws
   faced-tree = let G = F .standing in (G .lent .table-length, is-a-tree (G .z) (G .o) office store ws (G .lent) (G .reached) (G .stands))
 
-  -- what a step sends is within its ranges
-  pub sent-ranged : (g : Message) → g ∈ u .sent → in-range g ≡ true
-  sent-ranged g n =
+  -- what a step sends is within its ranges, and its number is a byte
+  pub step-keeps : Kept u
+  step-keeps =
       let G = F .standing in
       let T = F .took in
       let K = office-kept in
       let M = K .each (at-member (F .e)) (T .member) in
       let same : u ≡ sound-step (member-at (G .z) (G .o) (at-member (F .e))) (event-of (G .o) (F .e)) =
       T .equals ∙ step-is-sound (G .z) (G .o) K (F .e) (T .member) (T .there) in
-      step-kept (member-at (G .z) (G .o) (at-member (F .e))) (event-of (G .o) (F .e)) (M .seven) (M .is-sound) (event-fits (G .z) (G .o) K (F .e) (T .there)) .sent-in-range g
-      (subst (λ (v : Outcome). g ∈ v .sent) same n)
+      rw same
+      (step-kept (member-at (G .z) (G .o) (at-member (F .e))) (event-of (G .o) (F .e)) (M .seven) (M .is-sound) (event-fits (G .z) (G .o) K (F .e) (T .there)))
 
 -- the message of an answer that sends one
 pub answers-sent : (m : MemberState) (a : Answer) (g : Message) → a ≡ Sent g → g ∈ answer-outcome m a .sent

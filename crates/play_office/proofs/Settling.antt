@@ -11,9 +11,6 @@ use borrow.Author.Tests.{eq-eqb, ne-eqb, le-leb, lt-leb}
 use Rattle.laws.specs.First.{first, _gives_}
 use Rattle.tree_theory.specs.Table.{table}
 use Rattle.member_record.specs.declared.MemberState.{MemberState}
-use Rattle.member.specs.declared.Answer.{Answer}
-use Rattle.member.specs.declared.Answer.the-variants.{Refused, Sent, Done, Proposed, Decided}
-use Rattle.member.specs.Answers.{answer-outcome}
 use Rattle.member.specs.Table.{Outcome, Named, nothing, proposal, decision}
 use Rattle.model.specs.Model.{Sizes, Event, at-member, sends-one, proposes-one, proposals, event-causes, answer, made-by, taken, next}
 use Rattle.model.specs.Model.{Office as ModelOffice}
@@ -24,14 +21,6 @@ use Rattle.play_effects.specs.declared.Worked.{Worked}
 use Rattle.play_effects.specs.Effects.{counted}
 use Rattle.play_office.specs.declared.Office.{Office}
 use Rattle.play_office.specs.Standing.{Held, Stands, Next, Took, office-of}
-
--- the record stands beside every answer
-pub state-of : (m : MemberState) (a : Answer) → answer-outcome m a .state ≡ m
-state-of m (Refused k) = refl
-state-of m (Sent g) = refl
-state-of m Done = refl
-state-of m (Proposed g r x b) = refl
-state-of m (Decided r x) = refl
 
 proposals-append : (l k : List Named) → proposals (l ++ k) ≡ proposals l + proposals k
 unfolding proposals

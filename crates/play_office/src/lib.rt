@@ -5,6 +5,7 @@ use ids::Member;
 use member::Answer;
 use member::Step;
 use member_record::MemberState;
+use member_record::blank;
 use play_effects::Tally;
 use play_effects::Worked;
 use play_effects::decide;
@@ -12,8 +13,9 @@ use play_effects::left;
 use play_effects::propose;
 use play_effects::send;
 ghost use mathlib.Core.Path.{_≡_};
+ghost use mathlib.Core.Bool.{true};
 ghost use Rattle.member_record.specs.Record.{fresh};
-ghost use Rattle.member.specs.Answers.{outcome};
+ghost use Rattle.member.specs.Answers.{outcome, numbered-answer};
 ghost use Rattle.model.specs.Model.{member-number};
 ghost use Rattle.play_office.specs.Standing.{Faced, Settles, fresh-office};
 
@@ -27,8 +29,7 @@ pub struct Office {
 fn fresh_member(k: u32, n: u32) -> MemberState
     ensures { λ m. ⌜ m ≡ fresh (member-number k) n ⌝ }
 {
-    let s = member::fresh(Member(k), n);
-    s.state
+    blank(Member(k), n)
 }
 
 // Fresh members, nothing sent and nothing made.
@@ -63,13 +64,13 @@ pub fn settle(
     messages: &mut [u8],
     nodes: &mut [u64],
 ) -> Worked
-    requires { ⌜ Faced tally m (outcome s) (now messages) (now nodes) ⌝ }
+    requires { ⌜ Faced tally m (outcome s) (now messages) (now nodes) × (numbered-answer (s .answer) ≡ true) ⌝ }
     ensures { λ w. ⌜ Settles tally m (outcome s) (now (messages .entry)) (now (nodes .entry)) (w .state) (w .tally) (w .number) (now (messages .exit)) (now (nodes .exit)) ⌝ }
 {
     let state = s.state;
     let a = s.answer;
     match a {
-        Answer::Refused(k) => left(m, tally, member::number(k) as u8),
+        Answer::Refused(k) => left(m, tally, k as u8),
         Answer::Done => Worked {
             state,
             tally,

@@ -3,10 +3,9 @@ use mathlib.Core.Path.{_≡_}
 use native.Mathlib.Omega.{arith}
 use denote.Ref.{now}
 use Rattle.laws.specs.Tests.{tests}
-use Rattle.member_rules.specs.Refusals.{refusal-number}
-use Rattle.member_rules.proofs.Checks.{numbered}
+use Rattle.member.proofs.Checks.{refused-byte, refused-some}
 use Rattle.play_office.proofs.Arms.{refuses, goes-silent, sends-go, proposes-go, decides-go}
-use Rattle.play_office.proofs.Facing.{retook, refusal-small, few, sent-ranged, answers-sent, answers-proposed, faced-tree}
+use Rattle.play_office.proofs.Facing.{retook, step-keeps, few, answers-sent, answers-proposed, faced-tree}
 use Rattle.play_office.proofs.Settling.{as-worked}
 use borrow.Author.Needs.{needs}
 use Rattle.play_office.proofs.settle.Statement.{statement}
@@ -15,11 +14,10 @@ use Rattle.play_office.proofs.settle.Tie as tie
 enum-known-a : tie.Need-enum-known-a
 enum-known-a c = search needs
 
-number-requires : tie.Need-number-requires
-number-requires c κs = search needs
-
 cast-left : tie.Need-cast-left
-cast-left c = omega (arith, c .number .ensures, refusal-small (c .before .before .a .given .0 .0))
+cast-left c =
+    let entry = c .before .before .before .before .before .before in
+    omega (arith, refused-byte (entry .args .s .state) (c .before .a .given .1) (step-keeps _ _ _ _ _ (entry .pre .0)))
 
 left-requires : tie.Need-left-requires
 left-requires c κs = search needs
@@ -31,32 +29,33 @@ enum-known-a-2 : tie.Need-enum-known-a-2
 enum-known-a-2 c = search needs
 
 send-requires : tie.Need-send-requires
-send-requires c κs = (few _ _ _ _ _ (c .before .before .before .before .before .before .before .pre), sent-ranged _ _ _ _ _ (c .before .before .before .before .before .before .before .pre) _ (answers-sent _ _ _ (c .before .before .a2 .given .1)))
+send-requires c κs = (few _ _ _ _ _ (c .before .before .before .before .before .before .before .pre .0), step-keeps _ _ _ _ _ (c .before .before .before .before .before .before .before .pre .0) .sent-in-range _ (answers-sent _ _ _ (c .before .before .a2 .given .1)))
 
 enum-known-a-3 : tie.Need-enum-known-a-3
 enum-known-a-3 c = search needs
 
 propose-requires : tie.Need-propose-requires
 propose-requires c κs =
-    let (is-sized, is-tree) = faced-tree _ _ _ _ _ (c .before .before .before .before .before .before .before .before .pre) in
-    (few _ _ _ _ _ (c .before .before .before .before .before .before .before .before .pre), sent-ranged _ _ _ _ _ (c .before .before .before .before .before .before .before .before .pre) _ (answers-proposed _ _ _ _ _ _ (c .before .before .before .a3 .given .1)), is-sized, is-tree)
+    let (is-sized, is-tree) = faced-tree _ _ _ _ _ (c .before .before .before .before .before .before .before .before .pre .0) in
+    (few _ _ _ _ _ (c .before .before .before .before .before .before .before .before .pre .0), step-keeps _ _ _ _ _ (c .before .before .before .before .before .before .before .before .pre .0) .sent-in-range _ (answers-proposed _ _ _ _ _ _ (c .before .before .before .a3 .given .1)), is-sized, is-tree)
 
 enum-known-a-4 : tie.Need-enum-known-a-4
 enum-known-a-4 c = search needs
 
 decide-requires : tie.Need-decide-requires
 decide-requires c κs =
-    let (is-sized, is-tree) = faced-tree _ _ _ _ _ (c .before .before .before .before .before .before .before .pre) in
-    (few _ _ _ _ _ (c .before .before .before .before .before .before .before .pre), is-sized, is-tree)
+    let (is-sized, is-tree) = faced-tree _ _ _ _ _ (c .before .before .before .before .before .before .before .pre .0) in
+    (few _ _ _ _ _ (c .before .before .before .before .before .before .before .pre .0), is-sized, is-tree)
 
 returns : tie.Need-returns
 returns c =
     λ ms i z o e H L R S T.
-    let args = c .before .before .before .before .before .before .before .before .args in
-    let k = c .before .before .before .a .given .0 .0 in
-    let n : c .before .number .result ≡ refusal-number k = c .before .number .ensures in
+    let arm = c .before .before in
+    let entry = arm .before .before .before .before .before in
+    let args = entry .args in
     as-worked z o e ms i (now (args .messages)) (now (args .nodes)) _ (c .left .ensures)
-    (rw n (refuses z o e (args .tally) ms i (args .m) H (now (args .messages)) (now (args .nodes)) L R S (refusal-number k) _ (retook (args .s) (c .before .before .before .a .given .1) T) (λ q. omega (tests, numbered k))))
+    (refuses z o e (args .tally) ms i (args .m) H (now (args .messages)) (now (args .nodes)) L R S _ _ (retook (args .s) (arm .a .given .1) T)
+    (refused-some (arm .a .given .1) (entry .pre .1)))
 
 returns-2 : tie.Need-returns-2
 returns-2 c =
@@ -99,7 +98,6 @@ settle-spec =
     tie.close
     (tie.spec
     enum-known-a
-    number-requires
     cast-left
     left-requires
     enum-told

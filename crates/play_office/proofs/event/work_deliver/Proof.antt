@@ -35,15 +35,17 @@ deliver-sound-requires c κs =
     (sound-member (c .before .before .before .before .before .before .before .before .before .pre .standing .z) (c .before .before .before .before .before .before .before .before .before .pre .standing .o) (c .before .before .before .before .before .before .before .before .before .args .tally) (c .before .before .before .before .before .before .before .before .before .pre .members) (now (c .before .before .before .before .before .before .before .before .before .args .messages)) (now (c .before .before .before .before .before .before .before .before .before .args .nodes)) (c .before .before .before .before .before .before .before .before .before .pre .standing .lent) (c .before .before .before .before .before .before .before .before .before .pre .standing .reached) (c .before .before .before .before .before .before .before .before .before .pre .standing .stands) (deliver (c .before .before .before .before .before .before .before .before .before .args .message) (c .before .before .before .before .before .before .before .before .before .args .member .0)) (c .before .before .before .before .before .before .before .before .before .args .m) (c .before .before .before .before .before .before .before .before .before .pre .held) (c .before .before .before .before .if1 .left), row-ranged (c .before .before .before .before .before .before .before .before .before .pre .standing .z) (c .before .before .before .before .before .before .before .before .before .pre .standing .o) (c .before .before .before .before .before .before .before .before .before .args .tally) (c .before .before .before .before .before .before .before .before .before .pre .members) (now (c .before .before .before .before .before .before .before .before .before .args .messages)) (now (c .before .before .before .before .before .before .before .before .before .args .nodes)) (c .before .before .before .before .before .before .before .before .before .pre .standing .lent) (c .before .before .before .before .before .before .before .before .before .pre .standing .reached) (c .before .before .before .before .before .before .before .before .before .pre .standing .stands) (c .before .before .before .before .before .before .before .before .before .args .message) _ (c .before .before .if2 .left) (c .fetch .ensures))
 
 settle-requires : tie.Need-settle-requires
-settle-requires c κs =
-    record {
-      members = c .before .before .before .before .before .before .before .before .before .before .before .before .pre .members;
-      i = place-of (c .before .before .before .before .before .before .before .before .before .before .before .before .args .member .0);
-      held = c .before .before .before .before .before .before .before .before .before .before .before .before .pre .held;
-      standing = c .before .before .before .before .before .before .before .before .before .before .before .before .pre .standing;
-      e = (deliver (c .before .before .before .before .before .before .before .before .before .before .before .before .args .message) (c .before .before .before .before .before .before .before .before .before .before .before .before .args .member .0));
-      took = took-deliver (c .before .before .before .before .before .before .before .before .before .before .before .before .pre .standing .z) (c .before .before .before .before .before .before .before .before .before .before .before .before .pre .standing .o) (c .before .before .before .before .before .before .before .before .before .before .before .before .args .tally) (c .before .before .before .before .before .before .before .before .before .before .before .before .pre .members) (now (c .before .before .before .before .before .before .before .before .before .before .before .before .args .messages)) (now (c .before .before .before .before .before .before .before .before .before .before .before .before .args .nodes)) (c .before .before .before .before .before .before .before .before .before .before .before .before .pre .standing .lent) (c .before .before .before .before .before .before .before .before .before .before .before .before .pre .standing .reached) (c .before .before .before .before .before .before .before .before .before .before .before .before .pre .standing .stands) (c .before .before .before .before .before .before .before .before .before .before .before .before .args .message) (c .before .before .before .before .before .before .before .before .before .before .before .before .args .member .0) (c .before .before .before .before .before .before .before .before .before .before .before .before .args .m) (c .before .before .before .before .before .before .before .before .before .before .before .before .pre .held) _ _ (c .before .before .before .before .before .before .before .if1 .left) (c .before .before .before .before .before .if2 .left) (c .before .before .before .fetch .ensures) (c .before .before .deliver-sound .ensures);
-    }
+settle-requires c κs = (
+  record {
+    members = c .before .before .before .before .before .before .before .before .before .before .before .before .pre .members;
+    i = place-of (c .before .before .before .before .before .before .before .before .before .before .before .before .args .member .0);
+    held = c .before .before .before .before .before .before .before .before .before .before .before .before .pre .held;
+    standing = c .before .before .before .before .before .before .before .before .before .before .before .before .pre .standing;
+    e = (deliver (c .before .before .before .before .before .before .before .before .before .before .before .before .args .message) (c .before .before .before .before .before .before .before .before .before .before .before .before .args .member .0));
+    took = took-deliver (c .before .before .before .before .before .before .before .before .before .before .before .before .pre .standing .z) (c .before .before .before .before .before .before .before .before .before .before .before .before .pre .standing .o) (c .before .before .before .before .before .before .before .before .before .before .before .before .args .tally) (c .before .before .before .before .before .before .before .before .before .before .before .before .pre .members) (now (c .before .before .before .before .before .before .before .before .before .before .before .before .args .messages)) (now (c .before .before .before .before .before .before .before .before .before .before .before .before .args .nodes)) (c .before .before .before .before .before .before .before .before .before .before .before .before .pre .standing .lent) (c .before .before .before .before .before .before .before .before .before .before .before .before .pre .standing .reached) (c .before .before .before .before .before .before .before .before .before .before .before .before .pre .standing .stands) (c .before .before .before .before .before .before .before .before .before .before .before .before .args .message) (c .before .before .before .before .before .before .before .before .before .before .before .before .args .member .0) (c .before .before .before .before .before .before .before .before .before .before .before .before .args .m) (c .before .before .before .before .before .before .before .before .before .before .before .before .pre .held) _ _ (c .before .before .before .before .before .before .before .if1 .left) (c .before .before .before .before .before .if2 .left) (c .before .before .before .fetch .ensures) (c .before .before .deliver-sound .ensures);
+  },
+  c .before .before .deliver-sound .ensures .numbered,
+)
 
 same-length : tie.Need-same-length
 same-length c = search needs

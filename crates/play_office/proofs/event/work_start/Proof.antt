@@ -22,15 +22,17 @@ start-sound-requires c κs =
     sound-member (c .before .before .before .before .before .pre .standing .z) (c .before .before .before .before .before .pre .standing .o) (c .before .before .before .before .before .args .tally) (c .before .before .before .before .before .pre .members) (now (c .before .before .before .before .before .args .messages)) (now (c .before .before .before .before .before .args .nodes)) (c .before .before .before .before .before .pre .standing .lent) (c .before .before .before .before .before .pre .standing .reached) (c .before .before .before .before .before .pre .standing .stands) (start (c .before .before .before .before .before .args .member .0) (c .before .before .before .before .before .args .round .0) (c .before .before .before .before .before .args .offer)) (c .before .before .before .before .before .args .m) (c .before .before .before .before .before .pre .held) (c .if1 .left)
 
 settle-requires : tie.Need-settle-requires
-settle-requires c κs =
-    record {
-      members = c .before .before .before .before .before .before .before .before .pre .members;
-      i = place-of (c .before .before .before .before .before .before .before .before .args .member .0);
-      held = c .before .before .before .before .before .before .before .before .pre .held;
-      standing = c .before .before .before .before .before .before .before .before .pre .standing;
-      e = (start (c .before .before .before .before .before .before .before .before .args .member .0) (c .before .before .before .before .before .before .before .before .args .round .0) (c .before .before .before .before .before .before .before .before .args .offer));
-      took = took-start (c .before .before .before .before .before .before .before .before .pre .standing .z) (c .before .before .before .before .before .before .before .before .pre .standing .o) (c .before .before .before .before .before .before .before .before .args .tally) (c .before .before .before .before .before .before .before .before .pre .members) (now (c .before .before .before .before .before .before .before .before .args .messages)) (now (c .before .before .before .before .before .before .before .before .args .nodes)) (c .before .before .before .before .before .before .before .before .pre .standing .lent) (c .before .before .before .before .before .before .before .before .pre .standing .reached) (c .before .before .before .before .before .before .before .before .pre .standing .stands) (c .before .before .before .before .before .before .before .before .args .member .0) (c .before .before .before .before .before .before .before .before .args .round .0) (c .before .before .before .before .before .before .before .before .args .offer) (c .before .before .before .before .before .before .before .before .args .m) _ (c .before .before .before .before .before .before .before .before .pre .held) (c .before .before .before .if1 .left) (c .before .before .start-sound .ensures);
-    }
+settle-requires c κs = (
+  record {
+    members = c .before .before .before .before .before .before .before .before .pre .members;
+    i = place-of (c .before .before .before .before .before .before .before .before .args .member .0);
+    held = c .before .before .before .before .before .before .before .before .pre .held;
+    standing = c .before .before .before .before .before .before .before .before .pre .standing;
+    e = (start (c .before .before .before .before .before .before .before .before .args .member .0) (c .before .before .before .before .before .before .before .before .args .round .0) (c .before .before .before .before .before .before .before .before .args .offer));
+    took = took-start (c .before .before .before .before .before .before .before .before .pre .standing .z) (c .before .before .before .before .before .before .before .before .pre .standing .o) (c .before .before .before .before .before .before .before .before .args .tally) (c .before .before .before .before .before .before .before .before .pre .members) (now (c .before .before .before .before .before .before .before .before .args .messages)) (now (c .before .before .before .before .before .before .before .before .args .nodes)) (c .before .before .before .before .before .before .before .before .pre .standing .lent) (c .before .before .before .before .before .before .before .before .pre .standing .reached) (c .before .before .before .before .before .before .before .before .pre .standing .stands) (c .before .before .before .before .before .before .before .before .args .member .0) (c .before .before .before .before .before .before .before .before .args .round .0) (c .before .before .before .before .before .before .before .before .args .offer) (c .before .before .before .before .before .before .before .before .args .m) _ (c .before .before .before .before .before .before .before .before .pre .held) (c .before .before .before .if1 .left) (c .before .before .start-sound .ensures);
+  },
+  c .before .before .start-sound .ensures .numbered,
+)
 
 same-length : tie.Need-same-length
 same-length c = search needs
