@@ -13,8 +13,6 @@ use member_record::is_sound;
 use member_record::number_sound;
 use message::LONGEST;
 use message::Read;
-use numbers::NOT_SOUND;
-use numbers::REPLY_SHORT;
 ghost use mathlib.Core.Path.{_≡_};
 ghost use Rattle.laws.specs.First.{first};
 ghost use Rattle.member_calls.specs.Reports.{Answers, Replies};
