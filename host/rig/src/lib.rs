@@ -2,6 +2,7 @@
 //! the tests are made of. A vault needs none of it; it depends on the crate `kalebasin` alone.
 //!
 //! - [`second`]: document 01 in plain Rust, written from the document alone, the reference for tests
+//! - [`quick`]: play in plain Rust, written for speed, the yardstick of the benchmark
 //! - [`Calls`]: the calls of one implementation as a set; `proved::CALLS` are those of the core
 //! - [`explain`]: a run in words, event by event
 //! - [`draw`]: a tree as text, DOT and SVG
@@ -25,6 +26,7 @@ pub mod json;
 pub mod page;
 #[cfg(feature = "core")]
 pub mod proved;
+pub mod quick;
 pub mod random;
 pub mod rehearsal;
 pub mod search;

@@ -2,27 +2,18 @@
 
 #![cfg(feature = "core")]
 
+mod compared;
+
+use compared::{same, seed};
 use kalebasin::{ffi, notation, number_of, EventList, Message, Refusal, Round};
 use kalebasin::{tree_add, tree_commit, tree_fresh, tree_path};
 use kalebasin::{STORE_ROW, STORE_ROWS, TABLE_ROW, TABLE_ROWS};
 use kalebasin_rig::random::Random;
-use kalebasin_rig::suite::{self, Compared, REHEARSAL};
+use kalebasin_rig::suite::{self, REHEARSAL};
 use kalebasin_rig::{generate, rehearsal};
 use kalebasin_rig::{proved, second, Calls};
 
 const PAIR: [&Calls; 2] = [&proved::CALLS, &second::CALLS];
-
-/// The seed of the random parts; KALEBASIN_SEED chooses another.
-fn seed() -> u64 {
-    std::env::var("KALEBASIN_SEED").map_or(2026, |seed| seed.parse().expect("KALEBASIN_SEED is a number"))
-}
-
-fn same(what: &str, compared: Compared) {
-    match compared {
-        Ok(calls) => println!("{what}: {calls} calls compared"),
-        Err(report) => panic!("{what}: {report}"),
-    }
-}
 
 #[test]
 fn every_list_of_up_to_four_events() {

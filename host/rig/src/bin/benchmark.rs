@@ -1,4 +1,4 @@
-//! Measures the proved core side by side with the second implementation and prints a table in markdown.
+//! Measures the proved core side by side with plain Rust and prints a table in markdown.
 //!
 //! Run it with `cargo run --release --bin benchmark`. `benchmark --add ROWS SHAPE CALLS` makes so many checked adds of the
 //! core and nothing else, for a tool that counts instructions: SHAPE is `path` or `star`, of a tree that fills all rows but
@@ -8,8 +8,9 @@ use kalebasin::{Event, EventList, Member, MessageNumber, Round, STORE_ROW, TABLE
 use kalebasin_rig::generate;
 use kalebasin_rig::random::Random;
 use kalebasin_rig::suite::valid_messages;
-use kalebasin_rig::{second, Calls};
+use kalebasin_rig::{quick, second, Calls};
 use std::hint::black_box;
+use std::io::{self, Write};
 use std::process::ExitCode;
 use std::time::Instant;
 
@@ -18,12 +19,20 @@ const SAMPLES: usize = 301;
 /// A sample repeats the call until it takes about so long.
 const SAMPLE_NANOSECONDS: u128 = 100_000;
 
-/// The implementations measured, the core first.
+/// The core, where it is linked.
+#[cfg(feature = "core")]
+const CORE: &[Calls] = &[kalebasin_rig::proved::CALLS];
+#[cfg(not(feature = "core"))]
+const CORE: &[Calls] = &[];
+
+/// The implementations of all calls, the core first.
 fn implementations() -> Vec<Calls> {
-    #[cfg(feature = "core")]
-    return vec![kalebasin_rig::proved::CALLS, second::CALLS];
-    #[cfg(not(feature = "core"))]
-    return vec![second::CALLS];
+    [CORE, &[second::CALLS]].concat()
+}
+
+/// The implementations of play, the same and one for speed.
+fn players() -> Vec<Calls> {
+    [CORE, &[second::CALLS, quick::CALLS]].concat()
 }
 
 /// What is measured of one implementation: a call that can be repeated.
@@ -37,53 +46,63 @@ struct Row {
 }
 
 impl Row {
-    /// The core's time, where the second implementation's is 1.
-    fn ratio(&self) -> Option<f64> {
-        match self.nanoseconds[..] {
-            [core, second] => Some(core / second),
-            _ => None,
-        }
+    /// The core's time, where that of an implementation behind it is 1.
+    fn ratio(&self, implementation: usize) -> Option<f64> {
+        let behind = CORE.len() == 1 && implementation > 0;
+        Some(self.nanoseconds.first()? / self.nanoseconds.get(implementation).filter(|_| behind)?)
     }
 }
 
 fn main() -> ExitCode {
     let args: Vec<String> = std::env::args().skip(1).collect();
     match args.iter().map(String::as_str).collect::<Vec<_>>()[..] {
-        [] => print_times(),
-        ["--add", rows, shape, calls] if add_many(rows, shape, calls).is_some() => {}
-        _ => {
-            eprintln!("usage: benchmark, or benchmark --add ROWS SHAPE CALLS: 3 to 256 rows, shape path or star");
-            return ExitCode::from(2);
-        }
+        [] => match print_times(&mut io::stdout().lock()) {
+            Ok(()) => ExitCode::SUCCESS,
+            Err(error) => stop(&format!("benchmark: standard output: {error}")),
+        },
+        ["--add", rows, shape, calls] if add_many(rows, shape, calls).is_some() => ExitCode::SUCCESS,
+        _ => stop("usage: benchmark, or benchmark --add ROWS SHAPE CALLS: 3 to 256 rows, shape path or star"),
     }
-    ExitCode::SUCCESS
+}
+
+/// Tells why nothing more is done. What can't be told on standard error either is lost.
+fn stop(why: &str) -> ExitCode {
+    let _ = writeln!(io::stderr(), "{why}");
+    ExitCode::from(2)
 }
 
 /// Measures all and prints it, a page in markdown.
-fn print_times() {
+fn print_times(out: &mut dyn Write) -> io::Result<()> {
+    print_conditions(out)?;
     let adds = [add_rows("one path", path_tree), add_rows("all below the root", star_tree)].concat();
     let groups = [("play", play_rows()), ("the reader", reader_rows()), ("the checked add", adds)];
-    print_conditions();
-    println!();
-    print_table(&groups.each_ref().map(|(_, rows)| &rows[..]).concat());
-    if implementations().len() > 1 {
-        println!("\nOf the plain Rust's time: {}.", groups.each_ref().map(|(name, rows)| range(name, rows)).join(", "));
+    writeln!(out)?;
+    print_table(out, &groups.each_ref().map(|(_, rows)| &rows[..]).concat())?;
+    for (at, calls) in players().iter().enumerate().skip(1) {
+        let ranges: Vec<String> = groups.iter().filter_map(|(name, rows)| range(name, rows, at)).collect();
+        if !ranges.is_empty() {
+            writeln!(out, "\nOf the time of {}: {}.", calls.name, ranges.join(", "))?;
+        }
     }
+    Ok(())
 }
 
-fn print_conditions() {
+fn print_conditions(out: &mut dyn Write) -> io::Result<()> {
     let cores = std::thread::available_parallelism().map_or(1, |cores| cores.get());
-    println!("- {}, {}, {cores} cores, release builds.", processor(), std::env::consts::ARCH);
-    println!(
-        "- Medians of {SAMPLES} samples, the two sides in turns, each sample of as many calls as take about {} µs.",
+    writeln!(out, "- {}, {}, {cores} cores, release builds.", processor(), std::env::consts::ARCH)?;
+    writeln!(
+        out,
+        "- Medians of {SAMPLES} samples, the sides in turns, each sample of as many calls as take about {} µs.",
         SAMPLE_NANOSECONDS / 1000
-    );
-    println!("- Buffers aren't cleared before a call. Play clears the store and makes the table fresh, in its time.");
-    println!(
-        "- Before each add the table is copied from a tree with one free row, in the add's time. Each add checks that"
-    );
-    println!("  the table is a tree.");
-    println!("- The reader is measured as the C function, without the step to the host's enum.");
+    )?;
+    out.write_all(
+        "- Buffers aren't cleared before a call. Play clears the store and makes the table fresh, in its time.
+- Before each add the table is copied from a tree with one free row, in the add's time. Each add checks that
+  the table is a tree.
+- The reader is measured as the C function, without the step to the host's enum.
+"
+        .as_bytes(),
+    )
 }
 
 fn processor() -> String {
@@ -92,22 +111,34 @@ fn processor() -> String {
     name.map_or("A processor that doesn't tell its name".into(), |(_, name)| name.into())
 }
 
-fn print_table(rows: &[Row]) {
-    let names: Vec<&str> = implementations().iter().map(|calls| calls.name).collect();
-    let ratio = if names.len() > 1 { " ratio |" } else { "" };
-    println!("| one call | {} |{ratio}", names.join(" | "));
-    println!("|---|{}", "---:|".repeat(names.len() + names.len() / 2));
-    for row in rows {
-        let times: Vec<String> = row.nanoseconds.iter().map(|time| words(*time)).collect();
-        let ratio = row.ratio().map_or(String::new(), |ratio| format!(" {ratio:.2} |"));
-        println!("| {} | {} |{ratio}", row.what, times.join(" | "));
+/// A column for each implementation, and behind each but the core one for the ratio of the core to it.
+fn print_table(out: &mut dyn Write, rows: &[Row]) -> io::Result<()> {
+    let mut heading = Vec::new();
+    for (at, calls) in players().iter().enumerate() {
+        heading.push(calls.name);
+        if CORE.len() == 1 && at > 0 {
+            heading.push("ratio");
+        }
     }
+    writeln!(out, "| one call | {} |", heading.join(" | "))?;
+    writeln!(out, "|---|{}", "---:|".repeat(heading.len()))?;
+    for row in rows {
+        let mut cells = Vec::new();
+        for (at, time) in row.nanoseconds.iter().enumerate() {
+            cells.push(words(*time));
+            cells.extend(row.ratio(at).map(|ratio| format!("{ratio:.2}")));
+        }
+        cells.resize(heading.len(), String::new());
+        writeln!(out, "| {} | {} |", row.what, cells.join(" | "))?;
+    }
+    Ok(())
 }
 
-/// The least and the greatest ratio of some rows.
-fn range(name: &str, rows: &[Row]) -> String {
-    let ratios = || rows.iter().filter_map(Row::ratio);
-    format!("{name} {:.2} to {:.2}", ratios().fold(f64::INFINITY, f64::min), ratios().fold(0.0, f64::max))
+/// The least and the greatest ratio of the core to an implementation, if these rows have one.
+fn range(name: &str, rows: &[Row], implementation: usize) -> Option<String> {
+    let mut ratios: Vec<f64> = rows.iter().filter_map(|row| row.ratio(implementation)).collect();
+    ratios.sort_by(f64::total_cmp);
+    Some(format!("{name} {:.2} to {:.2}", ratios.first()?, ratios.last()?))
 }
 
 fn words(nanoseconds: f64) -> String {
@@ -182,7 +213,7 @@ fn play_row(what: String, list: EventList) -> Row {
             assert!(black_box(played).is_ok());
         })
     };
-    measure(what, implementations().into_iter().map(work).collect())
+    measure(what, players().into_iter().map(work).collect())
 }
 
 /// One round of three members after another, each decided: start, two STARTs, two JOINs, two PROPOSEs, two VOTEs.

@@ -1,0 +1,351 @@
+//! Play in plain Rust, written for speed: the yardstick that the benchmark measures the core by.
+//!
+//! It goes once over the nodes for a proposal and once for a decision. It is play alone, in one piece, without proofs; a test
+//! compares it with the second implementation, lent memory included. The office's host program calls the core, not this.
+
+use crate::second;
+use crate::Calls;
+use kalebasin::{EventList, Member, Played, Refusal, Round, STORE_ROW, STORE_ROWS, TABLE_ROW};
+
+/// The second implementation with the quick play in place of its own.
+pub const CALLS: Calls = Calls { name: "the quick play", play, ..second::CALLS };
+
+/// Runs the list, with the messages in the store, the tree in the table and one answer byte for each event.
+pub fn play(list: &[u8], store: &mut [u8], table: &mut [u64], answers: &mut [u8]) -> Result<Played, Refusal> {
+    let (n, count, mut rest) = check_list(list).ok_or(Refusal::ListShape)?;
+    if !matches!(n, 3 | 5 | 7) {
+        return Err(Refusal::OfficeSize);
+    }
+    let whole_rows = store.len() % STORE_ROW == 0 && (1..=STORE_ROWS).contains(&(store.len() / STORE_ROW));
+    let answers = answers.get_mut(..count).filter(|_| whole_rows).ok_or(Refusal::StoreOrAnswers)?;
+    second::tree::fresh(table)?;
+    store.fill(0);
+
+    let (store, tree) = (Store { bytes: store, sent: 0 }, Tree { words: table, used: TABLE_ROW });
+    let mut office = Office { n, members: [Record::default(); 7], store, tree };
+    let mut played = Played::default();
+    for answer in answers {
+        let Some((event, behind)) = first_event(rest) else { break };
+        rest = behind;
+        let made = match event {
+            Event::Start(words) => office.start(Member(word(words, 4)), Round(word(words, 8)), double(words, 12)),
+            Event::Deliver(words) => office.deliver(word(words, 4), Member(word(words, 8))),
+        };
+        *answer = made.as_ref().map_or_else(|refusal| refusal.number() as u8, |_| 0);
+        if let Ok(made) = made {
+            played.accepted += 1;
+            played.proposals += u32::from(made == Made::Proposal);
+            played.decisions += u32::from(made == Made::Decision);
+        }
+    }
+    played.messages = office.store.sent;
+    Ok(played)
+}
+
+/// An event's bytes.
+enum Event<'a> {
+    Start(&'a [u8; 20]),
+    Deliver(&'a [u8; 12]),
+}
+
+/// N, the event count and the events, if bytes, count and kinds match exactly.
+fn check_list(list: &[u8]) -> Option<(u32, usize, &[u8])> {
+    let (head, events) = list.split_first_chunk::<8>()?;
+    let count = word(head, 4) as usize;
+    if count > EventList::MOST {
+        return None;
+    }
+    let mut rest = events;
+    for _ in 0..count {
+        rest = first_event(rest)?.1;
+    }
+    rest.is_empty().then_some((word(head, 0), count, events))
+}
+
+/// The event at the front, and the rest of the list.
+fn first_event(list: &[u8]) -> Option<(Event<'_>, &[u8])> {
+    match u32::from_be_bytes(*list.first_chunk()?) {
+        1 => list.split_first_chunk().map(|(event, rest)| (Event::Start(event), rest)),
+        2 => list.split_first_chunk().map(|(event, rest)| (Event::Deliver(event), rest)),
+        _ => None,
+    }
+}
+
+/// What an accepted event makes in the tree.
+#[derive(PartialEq)]
+enum Made {
+    Nothing,
+    Proposal,
+    Decision,
+}
+
+#[derive(Clone, Copy, Default, PartialEq)]
+enum Phase {
+    #[default]
+    Idle,
+    Collecting,
+    Proposed,
+    Decided,
+}
+
+/// The member record. The fields have document 01's letters; number and N are the office's.
+#[derive(Clone, Copy, Default)]
+struct Record {
+    j: Round,
+    v: Round,
+    w: u64,
+    l: Round,
+    phase: Phase,
+    x: u64,
+    b: Round,
+    /// A bit for each member counted.
+    flags: u8,
+}
+
+impl Record {
+    /// The flags with that of a sender whose JOIN or VOTE is awaited in this phase.
+    fn count(&self, n: u32, round: Round, sender: Member, phase: Phase) -> Result<u8, Refusal> {
+        if sender.0 >= n {
+            return Err(Refusal::Sender);
+        }
+        if round != self.l || self.phase != phase {
+            return Err(Refusal::NotAwaited);
+        }
+        let flags = self.flags | 1 << sender.0;
+        if flags == self.flags {
+            return Err(Refusal::CountedAlready);
+        }
+        Ok(flags)
+    }
+}
+
+fn is_quorum(n: u32, flags: u8) -> bool {
+    flags.count_ones() > n / 2
+}
+
+// The kinds of messages.
+const START: u32 = 1;
+const JOIN: u32 = 2;
+const PROPOSE: u32 = 3;
+const VOTE: u32 = 4;
+
+/// The members, what they have sent, and the tree.
+struct Office<'a> {
+    n: u32,
+    members: [Record; 7],
+    store: Store<'a>,
+    tree: Tree<'a>,
+}
+
+impl Office<'_> {
+    /// Takes a start, or changes nothing.
+    fn start(&mut self, member: Member, round: Round, offer: u64) -> Result<Made, Refusal> {
+        let record = member_of(&mut self.members, self.n, member)?;
+        if !round.in_range() {
+            return Err(Refusal::RoundRange);
+        }
+        if round.leader(self.n) != Some(member) {
+            return Err(Refusal::NotLeader);
+        }
+        if round <= record.l {
+            return Err(Refusal::NotAboveLed);
+        }
+        self.store.send(START, round, member)?;
+        *record = Record { l: round, phase: Phase::Collecting, x: offer, b: Round::ROOT, flags: 0, ..*record };
+        Ok(Made::Nothing)
+    }
+
+    /// Takes a message sent earlier, or changes nothing.
+    fn deliver(&mut self, message: u32, member: Member) -> Result<Made, Refusal> {
+        let n = self.n;
+        let record = member_of(&mut self.members, n, member)?;
+        let words = self.store.message(message).ok_or(Refusal::NoMemberOrMessage)?;
+        let (round, sender) = (Round(word(words, 4)), Member(word(words, 8)));
+        match word(words, 0) {
+            START => {
+                if round.leader(n) != Some(sender) {
+                    return Err(Refusal::Sender);
+                }
+                if record.j >= round {
+                    return Err(Refusal::MovedPast);
+                }
+                let join = self.store.send(JOIN, round, member)?;
+                if record.v > Round::ROOT {
+                    put(join, 12, 1);
+                    put(join, 16, record.v.0);
+                    put_double(join, 20, record.w);
+                }
+                record.j = round;
+                Ok(Made::Nothing)
+            }
+            JOIN => {
+                let flags = record.count(n, round, sender, Phase::Collecting)?;
+                // Of a JOIN that never voted the voted round reads as 0.
+                let voted = Round(word(words, 16));
+                let (x, b) = if voted > record.b { (double(words, 20), voted) } else { (record.x, record.b) };
+                if !is_quorum(n, flags) {
+                    *record = Record { x, b, flags, ..*record };
+                    return Ok(Made::Nothing);
+                }
+                if self.store.is_full() {
+                    return Err(Refusal::StoreFull);
+                }
+                self.tree.add(round, x, b)?;
+                let propose = self.store.send(PROPOSE, round, member)?;
+                put_double(propose, 12, x);
+                *record = Record { phase: Phase::Proposed, x, b, flags: 0, ..*record };
+                Ok(Made::Proposal)
+            }
+            PROPOSE => {
+                let value = double(words, 12);
+                if round.leader(n) != Some(sender) {
+                    return Err(Refusal::Sender);
+                }
+                if record.j > round {
+                    return Err(Refusal::MovedPast);
+                }
+                if record.v == round && record.w != value {
+                    return Err(Refusal::AnotherValue);
+                }
+                self.store.send(VOTE, round, member)?;
+                *record = Record { j: round, v: round, w: value, ..*record };
+                Ok(Made::Nothing)
+            }
+            // A VOTE: the store has messages that play wrote, and nothing else.
+            _ => {
+                let flags = record.count(n, round, sender, Phase::Proposed)?;
+                if !is_quorum(n, flags) {
+                    record.flags = flags;
+                    return Ok(Made::Nothing);
+                }
+                self.tree.commit(round)?;
+                *record = Record { phase: Phase::Decided, flags, ..*record };
+                Ok(Made::Decision)
+            }
+        }
+    }
+}
+
+fn member_of(members: &mut [Record; 7], n: u32, member: Member) -> Result<&mut Record, Refusal> {
+    let record = members.get_mut(member.0 as usize).filter(|_| member.0 < n);
+    record.ok_or(Refusal::NoMemberOrMessage)
+}
+
+type Row = [u8; STORE_ROW];
+
+/// The lent store, and how many messages it has.
+struct Store<'a> {
+    bytes: &'a mut [u8],
+    sent: u32,
+}
+
+impl Store<'_> {
+    fn message(&self, number: u32) -> Option<&Row> {
+        let row = self.bytes.chunks_exact(STORE_ROW).nth(number as usize).filter(|_| number < self.sent);
+        row?.first_chunk()
+    }
+
+    fn is_full(&self) -> bool {
+        self.sent as usize * STORE_ROW >= self.bytes.len()
+    }
+
+    /// Puts a message behind the others: its first words, and its row for the rest, which is zeros.
+    fn send(&mut self, kind: u32, round: Round, sender: Member) -> Result<&mut Row, Refusal> {
+        let free = self.bytes.chunks_exact_mut(STORE_ROW).nth(self.sent as usize);
+        let row = free.and_then(|free| free.first_chunk_mut()).ok_or(Refusal::StoreFull)?;
+        self.sent += 1;
+        put(row, 0, kind);
+        put(row, 4, round.0);
+        put(row, 8, sender.0);
+        Ok(row)
+    }
+}
+
+/// The word that starts at a byte.
+#[inline(always)]
+fn word<const LENGTH: usize>(bytes: &[u8; LENGTH], at: usize) -> u32 {
+    u32::from_be_bytes([bytes[at], bytes[at + 1], bytes[at + 2], bytes[at + 3]])
+}
+
+/// The value that starts at a byte.
+#[inline(always)]
+fn double<const LENGTH: usize>(bytes: &[u8; LENGTH], at: usize) -> u64 {
+    u64::from(word(bytes, at)) << 32 | u64::from(word(bytes, at + 4))
+}
+
+fn put(row: &mut Row, at: usize, word: u32) {
+    row[at..at + 4].copy_from_slice(&word.to_be_bytes());
+}
+
+fn put_double(row: &mut Row, at: usize, value: u64) {
+    row[at..at + 8].copy_from_slice(&value.to_be_bytes());
+}
+
+// The statuses.
+const ADDED: u64 = 1;
+const GHOST: u64 = 2;
+const COMMITTED: u64 = 3;
+
+/// The lent table, and how many words of it hold nodes.
+struct Tree<'a> {
+    words: &'a mut [u64],
+    used: usize,
+}
+
+impl Tree<'_> {
+    /// add(r, v, p) with p < r. One walk looks for the causes of a refusal and strikes: play never meets a cause but
+    /// the missing row, so nothing struck has to be undone.
+    fn add(&mut self, r: Round, v: u64, p: Round) -> Result<(), Refusal> {
+        let (r, p) = (u64::from(r.0), u64::from(p.0));
+        let (nodes, free) = self.words.split_at_mut_checked(self.used).ok_or(Refusal::NoFreeRow)?;
+        let free: &mut [u64; TABLE_ROW] = free.first_chunk_mut().ok_or(Refusal::NoFreeRow)?;
+        let (mut present, mut parent, mut blocked, mut above) = (false, None, false, false);
+        for node in nodes.chunks_exact_mut(TABLE_ROW) {
+            let [round, _, value, status] = node else { break };
+            if *round <= p {
+                if *round == p {
+                    parent = Some(*value);
+                }
+            } else if *round < r {
+                blocked |= *status == COMMITTED;
+                if *status == ADDED {
+                    *status = GHOST;
+                }
+            } else {
+                present |= *round == r;
+                above = true;
+            }
+        }
+        if present {
+            return Err(Refusal::RoundPresent);
+        }
+        let parent_value = parent.ok_or(Refusal::ParentAbsent)?;
+        if p != 0 && parent_value != v {
+            return Err(Refusal::ValueDiffers);
+        }
+        if blocked {
+            return Err(Refusal::CrossesCommitted);
+        }
+        *free = [r, p, v, if above { GHOST } else { ADDED }];
+        self.used += TABLE_ROW;
+        Ok(())
+    }
+
+    /// commit(r).
+    fn commit(&mut self, r: Round) -> Result<(), Refusal> {
+        for node in self.words.chunks_exact_mut(TABLE_ROW) {
+            let [round, _, _, status] = node else { break };
+            if *round == u64::from(r.0) {
+                return match *status {
+                    COMMITTED => Err(Refusal::IsCommitted),
+                    GHOST => Err(Refusal::IsGhost),
+                    _ => {
+                        *status = COMMITTED;
+                        Ok(())
+                    }
+                };
+            }
+        }
+        Err(Refusal::RoundAbsent)
+    }
+}
