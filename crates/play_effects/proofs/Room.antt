@@ -6,7 +6,7 @@ use Prim.Native.Nat.{ℕ, _+_, _*_, _≤_}
 use lib.ListN.{length}
 use Rattle.laws.specs.Tests.{tests}
 use Rattle.play_effects.specs.declared.Tally.{Tally}
-use Rattle.play_effects.specs.Effects.{store-full}
+use Rattle.play_effects.specs.Effects.{no-room-to-send}
 
-pub room : (t : Tally) (store : List ℕ) → store-full t store ≡ false → 28 * t .sent + 28 ≤ length store
-room t store h = omega tests
+pub row-free : (t : Tally) (store : List ℕ) → no-room-to-send t store ≡ false → 28 * t .sent + 28 ≤ length store
+row-free t store h = omega tests
