@@ -32,7 +32,7 @@ module _ (cs : List Cause) (m : MemberState) (o : Outcome) (b : Check) (is : che
       rw n e
 
 -- a sender that passed is a member
-pub check-sender : (phase : ℕ) (m : MemberState) (r : Round) (s : Member) (b : Check) → check-number b ≡ first (count-causes phase m r s) → b ≡ Pass → s .0 < m .n
+pub check-sender : (phase : ℕ) (m : MemberState) (r : Round) (s : Member) (b : Check) → check-number b ≡ first (count-causes phase m r s) → b ≡ Pass → s .0 < m .who .n
 check-sender phase m r s b e h =
     let (t, rest) = passed (count-causes phase m r s) refl (sym e ∙ ap check-number h) in
     omega tests
@@ -50,6 +50,6 @@ module _ (full : MemberState → Outcome) (m d : MemberState) (b : Bool) (same :
       e ∙ ap (λ k. at-quorum full k) same
 
 -- a vote taken over leaves N
-pub adopting-size : (m : MemberState) (q : Round) (w : ℕ) → adopting m q w .n ≡ m .n
+pub adopting-size : (m : MemberState) (q : Round) (w : ℕ) → adopting m q w .who .n ≡ m .who .n
 unfolding adopting
-adopting-size m q w = by-test (ltb (m .source .0) (q .0)) (λ t. rw t refl) (λ t. rw t refl)
+adopting-size m q w = by-test (ltb (m .lead .source .0) (q .0)) (λ t. rw t refl) (λ t. rw t refl)

@@ -20,7 +20,7 @@ use Rattle.message.specs.declared.Message.{Message}
 use Rattle.message.specs.declared.Message.the-variants.{Start, Join, JoinVoted, Propose, Vote}
 use Rattle.message.specs.Fields.{head-in-range, in-range}
 use Rattle.member_record.specs.declared.MemberState.{MemberState}
-use Rattle.member_record.specs.Record.{leads, flag, flagged, flag-from, no-flags, sound}
+use Rattle.member_record.specs.Record.{with-lead, leads, flag, flagged, flag-from, no-flags, sound}
 use Rattle.member_rules.specs.Causes.{start-causes, START-causes, awaits, count-causes}
 use Rattle.member_rules.specs.Changes.{leading, joining, join-of, counting, adopted, adopting, voting}
 use Rattle.member.specs.Table.{Outcome, silent, start-row, START-row, complete, at-quorum, proposes, JOIN-row, PROPOSE-row, decides, VOTE-row, Event, start, deliver, fitting, causes, row, sound-step, step}
@@ -32,10 +32,10 @@ one-sent : (x : Message) → in-range x ≡ true → (g : Message) → g ∈ x �
 one-sent x h g i = rw (List·Memᴰ·eq-of-singleton i) h
 
 -- a message of round r from this member
-own-head : (m : MemberState) (r : Round) → Sound m → out-of-range (r .0) ≡ false → head-in-range r (m .me) ≡ true
+own-head : (m : MemberState) (r : Round) → Sound m → out-of-range (r .0) ≡ false → head-in-range r (m .who .me) ≡ true
 own-head m r s range =
-    let (low, three, seven) = number-sizes (m .me) (m .n) (s .number) in
-    let e : no-member (m .me .0) ≡ false = omega tests in
+    let (low, three, seven) = number-sizes (m .who .me) (m .who .n) (s .number) in
+    let e : no-member (m .who .me .0) ≡ false = omega tests in
     rw (range, e)
 
 start-kept : (m : MemberState) (r : Round) (offer : ℕ) → Sound m → Passed (start-causes m r) → Kept (start-row m r offer)
@@ -45,24 +45,24 @@ start-kept m r offer s (range, (leader, (higher, end))) =
         number = s .number;
         phases = refl;
         vote = s .vote;
-        flags = cleared-from (m .n);
+        flags = cleared-from (m .who .n);
         lead = leading-whole (leading m r offer) (or-left (eqb (r .0) 0) (above-range (r .0)) range) (record {
           active = refl;
           ranged = rw (or-right (eqb (r .0) 0) (above-range (r .0)) range);
-          leader = not-false (leads (m .n) (m .me) r) leader;
+          leader = not-false (leads (m .who .n) (m .who .me) r) leader;
           lower = omega tests;
-          counted = cleared-short (m .n);
+          counted = cleared-short (m .who .n);
         });
       });
       seven-after = refl;
-      sent-in-range = one-sent (Start r (m .me)) (own-head m r s range);
+      sent-in-range = one-sent (Start r (m .who .me)) (own-head m r s range);
     }
 
-START-kept : (m : MemberState) (r : Round) (t : Member) → length (m .flags) ≡ 7 → Sound m → out-of-range (r .0) ≡ false → Passed (START-causes m r t) → Kept (START-row m r)
+START-kept : (m : MemberState) (r : Round) (t : Member) → length (m .lead .flags) ≡ 7 → Sound m → out-of-range (r .0) ≡ false → Passed (START-causes m r t) → Kept (START-row m r)
 START-kept m r t seven s range (leader, (higher, end)) =
     let v : Votes m = votes m s in
-    let o : leb (m .voted .0) (r .0) ≡ true = omega (tests, v .ordered) in
-    let o′ : ltb (m .voted .0) (r .0) ≡ true = omega (tests, v .ordered) in
+    let o : leb (m .durable .voted .0) (r .0) ≡ true = omega (tests, v .ordered) in
+    let o′ : ltb (m .durable .voted .0) (r .0) ≡ true = omega (tests, v .ordered) in
     record {
       sound-after = whole (joining m r) (record {
         number = s .number;
@@ -72,12 +72,12 @@ START-kept m r t seven s range (leader, (higher, end)) =
         lead = s .lead;
       });
       seven-after = seven;
-      sent-in-range = one-sent (join-of m r) (by-test (ltb 0 (m .voted .0))
-          (λ t. let one : leb 1 (m .voted .0) ≡ true = omega tests in rw (t, own-head m r s range, one) o′)
+      sent-in-range = one-sent (join-of m r) (by-test (ltb 0 (m .durable .voted .0))
+          (λ t. let one : leb 1 (m .durable .voted .0) ≡ true = omega tests in rw (t, own-head m r s range, one) o′)
           (λ t. rw t (own-head m r s range)));
     }
 
-PROPOSE-kept : (m : MemberState) (r : Round) (v : ℕ) → length (m .flags) ≡ 7 → Sound m → out-of-range (r .0) ≡ false → Kept (PROPOSE-row m r v)
+PROPOSE-kept : (m : MemberState) (r : Round) (v : ℕ) → length (m .lead .flags) ≡ 7 → Sound m → out-of-range (r .0) ≡ false → Kept (PROPOSE-row m r v)
 PROPOSE-kept m r v seven s range =
     let o : leb (r .0) (r .0) ≡ true = omega tests in
     record {
@@ -89,16 +89,15 @@ PROPOSE-kept m r v seven s range =
         lead = s .lead;
       });
       seven-after = seven;
-      sent-in-range = one-sent (Vote r (m .me)) (own-head m r s range);
+      sent-in-range = one-sent (Vote r (m .who .me)) (own-head m r s range);
     }
 
 -- a leading record with other flags, in a phase for which they are a sound count
 abbrev recounted : MemberState → ℕ → List Bool → MemberState
-recounted m p fs =
-    record { me = m .me; n = m .n; joined = m .joined; voted = m .voted; vote = m .vote; led = m .led; phase = p; value = m .value; source = m .source; flags = fs }
+recounted m p fs = with-lead m (record { phase = p; value = m .lead .value; source = m .lead .source; flags = fs })
 
-recounted-sound : (m : MemberState) (p : ℕ) (fs : List Bool) → Sound m → eqb (m .led .0) 0 ≡ false → leb p 3 ≡ true → eqb p 0 ≡ false →
-    not (some (flag-from (m .n) fs) 7) ≡ true → cond (eqb p 3) (eqb (flagged fs) (quorum (m .n))) (ltb (flagged fs) (quorum (m .n))) ≡ true →
+recounted-sound : (m : MemberState) (p : ℕ) (fs : List Bool) → Sound m → eqb (m .durable .led .0) 0 ≡ false → leb p 3 ≡ true → eqb p 0 ≡ false →
+    not (some (flag-from (m .who .n) fs) 7) ≡ true → cond (eqb p 3) (eqb (flagged fs) (quorum (m .who .n))) (ltb (flagged fs) (quorum (m .who .n))) ≡ true →
     sound (recounted m p fs) ≡ true
 recounted-sound m p fs s z high low from count =
     let l : Leading m = leading-parts m s z in
@@ -111,42 +110,42 @@ recounted-sound m p fs s z high low from count =
     })
 
 -- a JOIN or VOTE that is counted in a phase before 3: `full` is what happens at the quorum
-module _ (phase : ℕ) (m : MemberState) (r : Round) (t : Member) (seven : length (m .flags) ≡ 7) (s : Sound m)
+module _ (phase : ℕ) (m : MemberState) (r : Round) (t : Member) (seven : length (m .lead .flags) ≡ 7) (s : Sound m)
     (range : out-of-range (r .0) ≡ false) (early : phase < 3) (active : 0 < phase) (p : Passed (count-causes phase m r t)) where
   awaited : awaits m phase r ≡ true
   awaited = not-false (awaits m phase r) (p .1 .0)
 
-  now : m .phase ≡ phase
-  now = omega (tests, and-right (eqb (r .0) (m .led .0)) (eqb (m .phase) phase) awaited)
+  now : m .lead .phase ≡ phase
+  now = omega (tests, and-right (eqb (r .0) (m .durable .led .0)) (eqb (m .lead .phase) phase) awaited)
 
-  led : eqb (m .led .0) 0 ≡ false
-  led = omega (tests, and-left (eqb (r .0) (m .led .0)) (eqb (m .phase) phase) awaited, or-left (eqb (r .0) 0) (above-range (r .0)) range)
+  led : eqb (m .durable .led .0) 0 ≡ false
+  led = omega (tests, and-left (eqb (r .0) (m .durable .led .0)) (eqb (m .lead .phase) phase) awaited, or-left (eqb (r .0) 0) (above-range (r .0)) range)
 
-  sender : t .0 < m .n
+  sender : t .0 < m .who .n
   sender = omega (tests, p .0)
 
-  unflagged : flag (m .flags) (t .0) ≡ false
+  unflagged : flag (m .lead .flags) (t .0) ≡ false
   unflagged = p .1 .1 .0
 
   low : t .0 < 7
-  low = let (own, three, high) = number-sizes (m .me) (m .n) (s .number) in omega (arith, sender)
+  low = let (own, three, high) = number-sizes (m .who .me) (m .who .n) (s .number) in omega (arith, sender)
 
-  one-more : flagged (set (m .flags) (t .0) true) ≡ suc (flagged (m .flags))
-  one-more = set-count (m .flags) (t .0) seven low unflagged
+  one-more : flagged (set (m .lead .flags) (t .0) true) ≡ suc (flagged (m .lead .flags))
+  one-more = set-count (m .lead .flags) (t .0) seven low unflagged
 
-  from : not (some (flag-from (m .n) (set (m .flags) (t .0) true)) 7) ≡ true
-  from = set-from (m .flags) (t .0) seven low (m .n) sender (s .flags)
+  from : not (some (flag-from (m .who .n) (set (m .lead .flags) (t .0) true)) 7) ≡ true
+  from = set-from (m .lead .flags) (t .0) seven low (m .who .n) sender (s .flags)
 
   -- short of the quorum before
-  before : ltb (flagged (m .flags)) (quorum (m .n)) ≡ true
-  before = let e : eqb (m .phase) 3 ≡ false = omega (tests, now) in rw e at (leading-parts m s led .counted)
+  before : ltb (flagged (m .lead .flags)) (quorum (m .who .n)) ≡ true
+  before = let e : eqb (m .lead .phase) 3 ≡ false = omega (tests, now) in rw e at (leading-parts m s led .counted)
 
   counting-kept : complete (counting m t) ≡ false → Kept (silent (counting m t))
   counting-kept h =
-      let e : eqb (m .phase) 3 ≡ false = omega (tests, now) in
-      let k : ltb (flagged (set (m .flags) (t .0) true)) (quorum (m .n)) ≡ true = omega (tests, one-more, before) in
+      let e : eqb (m .lead .phase) 3 ≡ false = omega (tests, now) in
+      let k : ltb (flagged (set (m .lead .flags) (t .0) true)) (quorum (m .who .n)) ≡ true = omega (tests, one-more, before) in
       record {
-        sound-after = recounted-sound m (m .phase) (set (m .flags) (t .0) true) s led (s .phases) (omega (tests, now)) from (rw e k);
+        sound-after = recounted-sound m (m .lead .phase) (set (m .lead .flags) (t .0) true) s led (s .phases) (omega (tests, now)) from (rw e k);
         seven-after = simp length-set seven;
         sent-in-range = λ g i. elim i [ ];
       }
@@ -155,37 +154,37 @@ module _ (phase : ℕ) (m : MemberState) (r : Round) (t : Member) (seven : lengt
   at-quorum-kept full f =
       by-test (complete (counting m t)) (λ h. rw h (f h)) (λ h. rw h (counting-kept h))
 
-JOIN-kept : (m : MemberState) (r : Round) (t : Member) → length (m .flags) ≡ 7 → Sound m → out-of-range (r .0) ≡ false → Passed (count-causes 1 m r t) → Kept (JOIN-row m r t)
+JOIN-kept : (m : MemberState) (r : Round) (t : Member) → length (m .lead .flags) ≡ 7 → Sound m → out-of-range (r .0) ≡ false → Passed (count-causes 1 m r t) → Kept (JOIN-row m r t)
 JOIN-kept m r t seven s range p =
     at-quorum-kept 1 m r t seven s range (omega arith) (omega arith) p (λ k. proposes k r)
     (λ h.
     record {
-      sound-after = recounted-sound m 2 no-flags s (led 1 m r t seven s range (omega arith) (omega arith) p) refl refl (cleared-from (m .n)) (cleared-short (m .n));
+      sound-after = recounted-sound m 2 no-flags s (led 1 m r t seven s range (omega arith) (omega arith) p) refl refl (cleared-from (m .who .n)) (cleared-short (m .who .n));
       seven-after = refl;
-      sent-in-range = one-sent (Propose r (m .me) (m .value)) (own-head m r s range);
+      sent-in-range = one-sent (Propose r (m .who .me) (m .lead .value)) (own-head m r s range);
     })
 
-VOTE-kept : (m : MemberState) (r : Round) (t : Member) → length (m .flags) ≡ 7 → Sound m → out-of-range (r .0) ≡ false → Passed (count-causes 2 m r t) → Kept (VOTE-row m r t)
+VOTE-kept : (m : MemberState) (r : Round) (t : Member) → length (m .lead .flags) ≡ 7 → Sound m → out-of-range (r .0) ≡ false → Passed (count-causes 2 m r t) → Kept (VOTE-row m r t)
 VOTE-kept m r t seven s range p =
     at-quorum-kept 2 m r t seven s range (omega arith) (omega arith) p (λ k. decides k r)
     (λ h.
     record {
-      sound-after = recounted-sound m 3 (set (m .flags) (t .0) true) s (led 2 m r t seven s range (omega arith) (omega arith) p) refl refl
+      sound-after = recounted-sound m 3 (set (m .lead .flags) (t .0) true) s (led 2 m r t seven s range (omega arith) (omega arith) p) refl refl
           (from 2 m r t seven s range (omega arith) (omega arith) p) h;
       seven-after = simp length-set seven;
       sent-in-range = λ g i. elim i [ ];
     })
 
 -- a JOIN with a vote: its round is below the JOIN's, so B stays below L
-JOIN-voted-kept : (m : MemberState) (r : Round) (t : Member) (q : Round) (w : ℕ) → length (m .flags) ≡ 7 → Sound m → out-of-range (r .0) ≡ false → ltb (q .0) (r .0) ≡ true →
+JOIN-voted-kept : (m : MemberState) (r : Round) (t : Member) (q : Round) (w : ℕ) → length (m .lead .flags) ≡ 7 → Sound m → out-of-range (r .0) ≡ false → ltb (q .0) (r .0) ≡ true →
     Passed (count-causes 1 m r t) → Kept (JOIN-row (adopting m q w) r t)
 unfolding adopting
 JOIN-voted-kept m r t q w seven s range below p =
-    by-test (ltb (m .source .0) (q .0))
+    by-test (ltb (m .lead .source .0) (q .0))
     (λ h. rw h (JOIN-kept (adopted m q w) r t seven adopted-sound range p))
     (λ h. rw h (JOIN-kept m r t seven s range p))
   where
-    z : eqb (m .led .0) 0 ≡ false
+    z : eqb (m .durable .led .0) 0 ≡ false
     z = led 1 m r t seven s range (omega arith) (omega arith) p
 
     adopted-sound : Sound (adopted m q w)
@@ -200,7 +199,7 @@ JOIN-voted-kept m r t q w seven s range below p =
             active = l .active;
             ranged = l .ranged;
             leader = l .leader;
-            lower = omega (tests, below, and-left (eqb (r .0) (m .led .0)) (eqb (m .phase) 1) (awaited 1 m r t seven s range (omega arith) (omega arith) p));
+            lower = omega (tests, below, and-left (eqb (r .0) (m .durable .led .0)) (eqb (m .lead .phase) 1) (awaited 1 m r t seven s range (omega arith) (omega arith) p));
             counted = l .counted;
           });
         }
@@ -209,7 +208,7 @@ head-range : (r : Round) (t : Member) → head-in-range r t ≡ true → out-of-
 head-range r t h = not-true (out-of-range (r .0)) (and-left (not (out-of-range (r .0))) (not (no-member (t .0))) h)
 
 -- each accepted step of a sound record, at a message within its ranges
-pub row-kept : (m : MemberState) (e : Event) → length (m .flags) ≡ 7 → sound m ≡ true → fitting e ≡ true → first (causes m e) ≡ 0 → Kept (row m e)
+pub row-kept : (m : MemberState) (e : Event) → length (m .lead .flags) ≡ 7 → sound m ≡ true → fitting e ≡ true → first (causes m e) ≡ 0 → Kept (row m e)
 unfolding causes row
 row-kept m (start r offer) seven s f h = start-kept m r offer (parts m s) (passed (start-causes m r) refl h)
 row-kept m (deliver (Start r t)) seven s f h = START-kept m r t seven (parts m s) (head-range r t f) (passed (START-causes m r t) refl h)
@@ -222,7 +221,7 @@ row-kept m (deliver (Propose r t v)) seven s f h = PROPOSE-kept m r v seven (par
 row-kept m (deliver (Vote r t)) seven s f h = VOTE-kept m r t seven (parts m s) (head-range r t f) (passed (count-causes 2 m r t) refl h)
 
 -- and each step, since a refused one leaves the record and sends nothing
-pub step-kept : (m : MemberState) (e : Event) → length (m .flags) ≡ 7 → sound m ≡ true → fitting e ≡ true → Kept (sound-step m e)
+pub step-kept : (m : MemberState) (e : Event) → length (m .lead .flags) ≡ 7 → sound m ≡ true → fitting e ≡ true → Kept (sound-step m e)
 unfolding sound-step
 step-kept m e seven s f =
     by-test (eqb (first (causes m e)) 0)

@@ -14,7 +14,7 @@ use Rattle.member.specs.Answers.{outcome}
 -- the record after is sound, its flags are seven, and what is sent is within the ranges of its kind
 pub record Kept (o : Outcome) : Type 0 where
   pub sound-after : sound (o .state) ≡ true
-  pub seven-after : length (o .state .flags) ≡ 7
+  pub seven-after : length (o .state .lead .flags) ≡ 7
   pub sent-in-range : (g : Message) → g ∈ o .sent → in-range g ≡ true
 
 -- the step equals the table and is kept so

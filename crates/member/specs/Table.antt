@@ -46,7 +46,7 @@ unless cs m o = cond (eqb (first cs) 0) o (refused (first cs) m)
 
 -- start(r, offer): L = r, phase 1, X = offer, B = 0, flags cleared; sends START
 abbrev pub start-row : MemberState → Round → ℕ → Outcome
-start-row m r offer = sends (leading m r offer) (Start r (m .me))
+start-row m r offer = sends (leading m r offer) (Start r (m .who .me))
 
 -- START r: J = r; sends JOIN with V, W if V > 0
 abbrev pub START-row : MemberState → Round → Outcome
@@ -54,7 +54,7 @@ START-row m r = sends (joining m r) (join-of m r)
 
 -- at f+1 flags
 abbrev pub complete : MemberState → Bool
-complete m = eqb (flagged (m .flags)) (quorum (m .n))
+complete m = eqb (flagged (m .lead .flags)) (quorum (m .who .n))
 
 -- what happens at f+1 flags, and nothing more before
 abbrev pub at-quorum : (MemberState → Outcome) → MemberState → Outcome
@@ -63,7 +63,7 @@ at-quorum full m = cond (complete m) (full m) (silent m)
 -- phase 2, flags cleared, sends PROPOSE(r, X), and the answer names r, X, B: add(r, X, B)
 abbrev pub proposes : MemberState → Round → Outcome
 proposes m r =
-    record { number = 0; state = proposing m; sent = Propose r (m .me) (m .value) ∷ []; named = proposal (r .0) (m .value) (m .source .0) }
+    record { number = 0; state = proposing m; sent = Propose r (m .who .me) (m .lead .value) ∷ []; named = proposal (r .0) (m .lead .value) (m .lead .source .0) }
 
 -- JOIN r once its vote is taken over: flags the sender; at f+1 flags it proposes
 abbrev pub JOIN-row : MemberState → Round → Member → Outcome
@@ -71,11 +71,11 @@ JOIN-row m r s = at-quorum (λ k. proposes k r) (counting m s)
 
 -- PROPOSE r, v: J = V = r, W = v; sends VOTE
 abbrev pub PROPOSE-row : MemberState → Round → ℕ → Outcome
-PROPOSE-row m r v = sends (voting m r v) (Vote r (m .me))
+PROPOSE-row m r v = sends (voting m r v) (Vote r (m .who .me))
 
 -- phase 3, the answer names r, X: commit(r)
 abbrev pub decides : MemberState → Round → Outcome
-decides m r = record { number = 0; state = deciding m; sent = []; named = decision (r .0) (m .value) }
+decides m r = record { number = 0; state = deciding m; sent = []; named = decision (r .0) (m .lead .value) }
 
 -- VOTE r: flags the sender; at f+1 flags it decides
 abbrev pub VOTE-row : MemberState → Round → Member → Outcome

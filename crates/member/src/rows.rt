@@ -3,6 +3,8 @@ use crate::Answer;
 use crate::Step;
 use ids::Member;
 use ids::Round;
+use member_record::MemberState;
+use member_record::count_flags;
 use member_rules::changes::adopting;
 use member_rules::changes::counting;
 use member_rules::changes::deciding;
@@ -11,8 +13,6 @@ use member_rules::changes::joining;
 use member_rules::changes::leading;
 use member_rules::changes::proposing;
 use member_rules::changes::voting;
-use member_record::MemberState;
-use member_record::count_flags;
 use member_rules::refusals::Check;
 use member_rules::refusals::Refusal;
 use member_rules::refusals::check_count;
@@ -61,14 +61,14 @@ pub fn accept(m: MemberState) -> Step
 
 // start(r, offer).
 pub fn on_start_call(m: MemberState, r: Round, offer: u64) -> Step
-    requires { ⌜ 1 ≤ m .n ⌝ }
+    requires { ⌜ 1 ≤ m .who .n ⌝ }
     ensures { λ s. ⌜ outcome s ≡ unless (start-causes m r) m (start-row m r offer) ⌝ }
 {
     let check = check_start_call(m, r);
     if let Check::Refused(k) = check {
         return refuse(m, k);
     }
-    let me = m.me;
+    let me = m.who.me;
     send(
         leading(m, r, offer),
         Message::Start {
@@ -80,7 +80,7 @@ pub fn on_start_call(m: MemberState, r: Round, offer: u64) -> Step
 
 // START r.
 fn on_start(m: MemberState, r: Round, s: Member) -> Step
-    requires { ⌜ 1 ≤ m .n ⌝ }
+    requires { ⌜ 1 ≤ m .who .n ⌝ }
     ensures { λ t. ⌜ outcome t ≡ unless (START-causes m r s) m (START-row m r) ⌝ }
 {
     let check = check_start(m, r, s);
@@ -92,29 +92,29 @@ fn on_start(m: MemberState, r: Round, s: Member) -> Step
 
 // Whether the flags are the quorum.
 fn is_complete(m: MemberState) -> bool
-    requires { ⌜ 1 ≤ m .n ⌝ }
+    requires { ⌜ 1 ≤ m .who .n ⌝ }
     ensures { λ b. ⌜ b ≡ complete m ⌝ }
 {
-    let flags = m.flags;
-    count_flags(flags) == quorum_of(m.n)
+    let flags = m.lead.flags;
+    count_flags(flags) == quorum_of(m.who.n)
 }
 
 // The quorum of joins: PROPOSE is sent, and the proposal named.
 fn propose(m: MemberState, r: Round) -> Step
     ensures { λ s. ⌜ outcome s ≡ proposes m r ⌝ }
 {
-    let me = m.me;
-    let source = m.source;
+    let me = m.who.me;
+    let source = m.lead.source;
     Step {
         state: proposing(m),
         answer: Answer::Proposed {
             sent: Message::Propose {
                 round: r,
                 sender: me,
-                value: m.value,
+                value: m.lead.value,
             },
             round: r,
-            value: m.value,
+            value: m.lead.value,
             parent: source,
         },
     }
@@ -122,7 +122,7 @@ fn propose(m: MemberState, r: Round) -> Step
 
 // A JOIN that is counted, its vote taken over before.
 fn count_join(m: MemberState, r: Round, s: Member) -> Step
-    requires { ⌜ (1 ≤ m .n) × (s .0 < 7) ⌝ }
+    requires { ⌜ (1 ≤ m .who .n) × (s .0 < 7) ⌝ }
     ensures { λ t. ⌜ outcome t ≡ JOIN-row m r s ⌝ }
 {
     let counted = counting(m, s);
@@ -134,7 +134,7 @@ fn count_join(m: MemberState, r: Round, s: Member) -> Step
 
 // JOIN r without a vote.
 fn on_join(m: MemberState, r: Round, s: Member) -> Step
-    requires { ⌜ (1 ≤ m .n) × (m .n ≤ 7) ⌝ }
+    requires { ⌜ (1 ≤ m .who .n) × (m .who .n ≤ 7) ⌝ }
     ensures { λ t. ⌜ outcome t ≡ unless (count-causes 1 m r s) m (JOIN-row m r s) ⌝ }
 {
     let check = check_count(m, 1, r, s);
@@ -146,7 +146,7 @@ fn on_join(m: MemberState, r: Round, s: Member) -> Step
 
 // JOIN r with a vote for w in round q.
 fn on_join_voted(m: MemberState, r: Round, s: Member, q: Round, w: u64) -> Step
-    requires { ⌜ (1 ≤ m .n) × (m .n ≤ 7) ⌝ }
+    requires { ⌜ (1 ≤ m .who .n) × (m .who .n ≤ 7) ⌝ }
     ensures { λ t. ⌜ outcome t ≡ unless (count-causes 1 m r s) m (JOIN-row (adopting m q w) r s) ⌝ }
 {
     let check = check_count(m, 1, r, s);
@@ -158,14 +158,14 @@ fn on_join_voted(m: MemberState, r: Round, s: Member, q: Round, w: u64) -> Step
 
 // PROPOSE r, v.
 fn on_propose(m: MemberState, r: Round, s: Member, v: u64) -> Step
-    requires { ⌜ 1 ≤ m .n ⌝ }
+    requires { ⌜ 1 ≤ m .who .n ⌝ }
     ensures { λ t. ⌜ outcome t ≡ unless (PROPOSE-causes m r s v) m (PROPOSE-row m r v) ⌝ }
 {
     let check = check_propose(m, r, s, v);
     if let Check::Refused(k) = check {
         return refuse(m, k);
     }
-    let me = m.me;
+    let me = m.who.me;
     send(
         voting(m, r, v),
         Message::Vote {
@@ -183,14 +183,14 @@ fn decide(m: MemberState, r: Round) -> Step
         state: deciding(m),
         answer: Answer::Decided {
             round: r,
-            value: m.value,
+            value: m.lead.value,
         },
     }
 }
 
 // A VOTE that is counted.
 fn count_vote(m: MemberState, r: Round, s: Member) -> Step
-    requires { ⌜ (1 ≤ m .n) × (s .0 < 7) ⌝ }
+    requires { ⌜ (1 ≤ m .who .n) × (s .0 < 7) ⌝ }
     ensures { λ t. ⌜ outcome t ≡ VOTE-row m r s ⌝ }
 {
     let counted = counting(m, s);
@@ -202,7 +202,7 @@ fn count_vote(m: MemberState, r: Round, s: Member) -> Step
 
 // VOTE r.
 fn on_vote(m: MemberState, r: Round, s: Member) -> Step
-    requires { ⌜ (1 ≤ m .n) × (m .n ≤ 7) ⌝ }
+    requires { ⌜ (1 ≤ m .who .n) × (m .who .n ≤ 7) ⌝ }
     ensures { λ t. ⌜ outcome t ≡ unless (count-causes 2 m r s) m (VOTE-row m r s) ⌝ }
 {
     let check = check_count(m, 2, r, s);
@@ -214,7 +214,7 @@ fn on_vote(m: MemberState, r: Round, s: Member) -> Step
 
 // Any message.
 pub fn on_message(m: MemberState, g: Message) -> Step
-    requires { ⌜ (1 ≤ m .n) × (m .n ≤ 7) ⌝ }
+    requires { ⌜ (1 ≤ m .who .n) × (m .who .n ≤ 7) ⌝ }
     ensures { λ t. ⌜ outcome t ≡ sound-step m (deliver g) ⌝ }
 {
     match g {

@@ -1,16 +1,16 @@
 // The member calls of 01, "Members", by value: a record in and out, and a reply buffer that what is sent is put in.
 pub mod reply;
 
+use crate::reply::Called;
+use crate::reply::give;
+use crate::reply::refuse;
+use crate::reply::tell;
 use ids::Member;
 use ids::Round;
 use member_record::MemberState;
 use member_record::blank;
 use member_record::is_sound;
 use member_record::number_sound;
-use crate::reply::Called;
-use crate::reply::give;
-use crate::reply::refuse;
-use crate::reply::tell;
 use message::LONGEST;
 use message::Read;
 ghost use mathlib.Core.Path.{_≡_};

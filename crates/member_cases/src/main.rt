@@ -7,9 +7,12 @@ use ids::Member;
 use ids::Round;
 use libc::STDIN_FILENO;
 use libc::STDOUT_FILENO;
-use member_record::MemberState;
 use member_calls::reply::Called;
 use member_calls::reply::Report;
+use member_record::Durable;
+use member_record::Lead;
+use member_record::MemberState;
+use member_record::Who;
 ghost use Prim.Native.Nat.{_+_, _≤_};
 ghost use lib.ListN.{length};
 
@@ -55,16 +58,16 @@ fn put_report(r: Report) {
 }
 
 fn put_record(m: MemberState) {
-    put_number(m.me.0 as u64);
-    put_number(m.n as u64);
-    put_number(m.joined.0 as u64);
-    put_number(m.voted.0 as u64);
-    put_number(m.vote);
-    put_number(m.led.0 as u64);
-    put_number(m.phase as u64);
-    put_number(m.value);
-    put_number(m.source.0 as u64);
-    let flags = m.flags;
+    put_number(m.who.me.0 as u64);
+    put_number(m.who.n as u64);
+    put_number(m.durable.joined.0 as u64);
+    put_number(m.durable.voted.0 as u64);
+    put_number(m.durable.vote);
+    put_number(m.durable.led.0 as u64);
+    put_number(m.lead.phase as u64);
+    put_number(m.lead.value);
+    put_number(m.lead.source.0 as u64);
+    let flags = m.lead.flags;
     put_flags(flags);
 }
 
@@ -104,18 +107,23 @@ fn flags_of(s: &[u8]) -> [bool; 7]
 fn record_of(s: &[u8]) -> MemberState
     requires { ⌜ 136 ≤ length (now s) ⌝ }
 {
-    MemberState {
+    let who = Who {
         me: Member(xdr::word_at(s, 4)),
         n: xdr::word_at(s, 8),
+    };
+    let durable = Durable {
         joined: Round(xdr::word_at(s, 12)),
         voted: Round(xdr::word_at(s, 16)),
         vote: xdr::hyper_at(s, 20),
         led: Round(xdr::word_at(s, 28)),
+    };
+    let lead = Lead {
         phase: xdr::word_at(s, 32),
         value: xdr::hyper_at(s, 36),
         source: Round(xdr::word_at(s, 44)),
         flags: flags_of(s),
-    }
+    };
+    MemberState { who, durable, lead }
 }
 
 fn fresh(s: &[u8], reply: &[u8])

@@ -4,9 +4,9 @@ use ids::Member;
 use ids::Round;
 use member_calls::deliver_into;
 use member_calls::fresh_into;
+use member_calls::reply::Report;
 use member_calls::start_into;
 use member_record::MemberState;
-use member_calls::reply::Report;
 ghost use Rattle.member_calls.specs.Reports.{Answers, Replies};
 ghost use Rattle.member_calls.specs.Calls.{fresh-call, start-call, deliver-call};
 

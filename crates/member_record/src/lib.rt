@@ -9,12 +9,16 @@ ghost use Prim.Native.Nat.{_≤_};
 ghost use Rattle.quorum.specs.Count.{count};
 ghost use Rattle.member_record.specs.Record.{allowed, leads, flag, flagged, fresh, sound-number, sound-vote, sound-flags, sound-idle, sound-count, sound-leading, sound-lead, sound};
 
-// The member record.
-pub struct MemberState {
+// Which member of which office a record is.
+pub struct Who {
     // Own number.
     pub me: Member,
     // N, the number of members.
     pub n: u32,
+}
+
+// What must last: a member that forgot one of these could vote or lead against what it did.
+pub struct Durable {
     // J, the highest round joined or voted.
     pub joined: Round,
     // V, the last voted round.
@@ -23,6 +27,10 @@ pub struct MemberState {
     pub vote: u64,
     // L, the round last led.
     pub led: Round,
+}
+
+// What belongs to leading the round last led.
+pub struct Lead {
     // 0 idle, 1 collecting, 2 proposed, 3 decided.
     pub phase: u32,
     // X, the value to propose.
@@ -31,6 +39,13 @@ pub struct MemberState {
     pub source: Round,
     // One for each member counted.
     pub flags: [bool; 7],
+}
+
+// The member record.
+pub struct MemberState {
+    pub who: Who,
+    pub durable: Durable,
+    pub lead: Lead,
 }
 
 // How many of the members below `to` are flagged.
@@ -60,18 +75,21 @@ pub fn count_flags(flags: [bool; 7]) -> u32
 pub fn blank(me: Member, n: u32) -> MemberState
     ensures { λ m. ⌜ m ≡ fresh me n ⌝ }
 {
-    MemberState {
-        me: me,
-        n: n,
-        joined: Round(0),
-        voted: Round(0),
+    let none = Round(0);
+    let who = Who { me, n };
+    let durable = Durable {
+        joined: none,
+        voted: none,
         vote: 0,
-        led: Round(0),
+        led: none,
+    };
+    let lead = Lead {
         phase: 0,
         value: 0,
-        source: Round(0),
+        source: none,
         flags: [false; 7],
-    }
+    };
+    MemberState { who, durable, lead }
 }
 
 // N is 3, 5 or 7.
@@ -109,25 +127,25 @@ pub fn is_leader(n: u32, s: Member, r: Round) -> bool
 fn vote_sound(m: MemberState) -> bool
     ensures { λ b. ⌜ b ≡ sound-vote m ⌝ }
 {
-    if m.joined.0 < m.voted.0 {
+    if m.durable.joined.0 < m.durable.voted.0 {
         return false;
     }
-    if LAST_ROUND < m.joined.0 {
+    if LAST_ROUND < m.durable.joined.0 {
         return false;
     }
-    if m.voted.0 == 0 {
-        return m.vote == 0;
+    if m.durable.voted.0 == 0 {
+        return m.durable.vote == 0;
     }
     true
 }
 
 // Flags from N on are false: as many are counted below N as in all.
 fn flags_sound(m: MemberState) -> bool
-    requires { ⌜ m .n ≤ 7 ⌝ }
+    requires { ⌜ m .who .n ≤ 7 ⌝ }
     ensures { λ b. ⌜ b ≡ sound-flags m ⌝ }
 {
-    let n = m.n as usize;
-    let flags = m.flags;
+    let n = m.who.n as usize;
+    let flags = m.lead.flags;
     count_below(flags, n) == count_below(flags, 7)
 }
 
@@ -135,28 +153,28 @@ fn flags_sound(m: MemberState) -> bool
 fn idle_sound(m: MemberState) -> bool
     ensures { λ b. ⌜ b ≡ sound-idle m ⌝ }
 {
-    if m.phase != 0 {
+    if m.lead.phase != 0 {
         return false;
     }
-    if m.value != 0 {
+    if m.lead.value != 0 {
         return false;
     }
-    if m.source.0 != 0 {
+    if m.lead.source.0 != 0 {
         return false;
     }
-    let flags = m.flags;
+    let flags = m.lead.flags;
     count_flags(flags) == 0
 }
 
 // Fewer flags than the quorum in phases 1 and 2, the quorum in phase 3.
 fn count_sound(m: MemberState) -> bool
-    requires { ⌜ 1 ≤ m .n ⌝ }
+    requires { ⌜ 1 ≤ m .who .n ⌝ }
     ensures { λ b. ⌜ b ≡ sound-count m ⌝ }
 {
-    let flags = m.flags;
+    let flags = m.lead.flags;
     let counted = count_flags(flags);
-    let needed = quorum_of(m.n);
-    if m.phase == 3 {
+    let needed = quorum_of(m.who.n);
+    if m.lead.phase == 3 {
         return counted == needed;
     }
     counted < needed
@@ -164,21 +182,21 @@ fn count_sound(m: MemberState) -> bool
 
 // L isn't 0: not idle, L in range and led by this member, B below L.
 fn leading_sound(m: MemberState) -> bool
-    requires { ⌜ 1 ≤ m .n ⌝ }
+    requires { ⌜ 1 ≤ m .who .n ⌝ }
     ensures { λ b. ⌜ b ≡ sound-leading m ⌝ }
 {
-    if m.phase == 0 {
+    if m.lead.phase == 0 {
         return false;
     }
-    if LAST_ROUND < m.led.0 {
+    if LAST_ROUND < m.durable.led.0 {
         return false;
     }
-    let me = m.me;
-    let led = m.led;
-    if !is_leader(m.n, me, led) {
+    let me = m.who.me;
+    let led = m.durable.led;
+    if !is_leader(m.who.n, me, led) {
         return false;
     }
-    if m.led.0 <= m.source.0 {
+    if m.durable.led.0 <= m.lead.source.0 {
         return false;
     }
     count_sound(m)
@@ -186,10 +204,10 @@ fn leading_sound(m: MemberState) -> bool
 
 // Idle exactly when L is 0.
 fn lead_sound(m: MemberState) -> bool
-    requires { ⌜ 1 ≤ m .n ⌝ }
+    requires { ⌜ 1 ≤ m .who .n ⌝ }
     ensures { λ b. ⌜ b ≡ sound-lead m ⌝ }
 {
-    if m.led.0 == 0 {
+    if m.durable.led.0 == 0 {
         return idle_sound(m);
     }
     leading_sound(m)
@@ -199,11 +217,11 @@ fn lead_sound(m: MemberState) -> bool
 pub fn is_sound(m: MemberState) -> bool
     ensures { λ b. ⌜ b ≡ sound m ⌝ }
 {
-    let me = m.me;
-    if !number_sound(me, m.n) {
+    let me = m.who.me;
+    if !number_sound(me, m.who.n) {
         return false;
     }
-    if 3 < m.phase {
+    if 3 < m.lead.phase {
         return false;
     }
     if !vote_sound(m) {

@@ -14,33 +14,33 @@ use Rattle.member_record.specs.Record.{leads, flag}
 abbrev pub start-causes : MemberState → Round → List Cause
 start-causes m r =
     out-of-range (r .0) gives 3 ∷
-    not (leads (m .n) (m .me) r) gives 19 ∷
-    leb (r .0) (m .led .0) gives 20 ∷ []
+    not (leads (m .who .n) (m .who .me) r) gives 19 ∷
+    leb (r .0) (m .durable .led .0) gives 20 ∷ []
 
 -- START r: 21 unless the sender leads r; 22 if J ≥ r
 abbrev pub START-causes : MemberState → Round → Member → List Cause
 START-causes m r s =
-    not (leads (m .n) s r) gives 21 ∷
-    leb (r .0) (m .joined .0) gives 22 ∷ []
+    not (leads (m .who .n) s r) gives 21 ∷
+    leb (r .0) (m .durable .joined .0) gives 22 ∷ []
 
 -- r = L in this phase
 abbrev pub awaits : MemberState → ℕ → Round → Bool
-awaits m phase r = eqb (r .0) (m .led .0) && eqb (m .phase) phase
+awaits m phase r = eqb (r .0) (m .durable .led .0) && eqb (m .lead .phase) phase
 
 -- JOIN r (phase 1) and VOTE r (phase 2): 21 if sender ≥ N; 24 unless r = L in that phase; 25
 abbrev pub count-causes : ℕ → MemberState → Round → Member → List Cause
 count-causes phase m r s =
-    leb (m .n) (s .0) gives 21 ∷
+    leb (m .who .n) (s .0) gives 21 ∷
     not (awaits m phase r) gives 24 ∷
-    flag (m .flags) (s .0) gives 25 ∷ []
+    flag (m .lead .flags) (s .0) gives 25 ∷ []
 
 -- V = r and W ≠ v
 abbrev pub other-vote : MemberState → Round → ℕ → Bool
-other-vote m r v = eqb (m .voted .0) (r .0) && not (eqb (m .vote) v)
+other-vote m r v = eqb (m .durable .voted .0) (r .0) && not (eqb (m .durable .vote) v)
 
 -- PROPOSE r, v: 21 unless the sender leads r; 22 if J > r; 23 if V = r and W ≠ v
 abbrev pub PROPOSE-causes : MemberState → Round → Member → ℕ → List Cause
 PROPOSE-causes m r s v =
-    not (leads (m .n) s r) gives 21 ∷
-    ltb (r .0) (m .joined .0) gives 22 ∷
+    not (leads (m .who .n) s r) gives 21 ∷
+    ltb (r .0) (m .durable .joined .0) gives 22 ∷
     other-vote m r v gives 23 ∷ []

@@ -8,47 +8,43 @@ use Rattle.ids.specs.declared.Member.{Member}
 use Rattle.message.specs.declared.Message.{Message}
 use Rattle.message.specs.declared.Message.the-variants.{Join, JoinVoted}
 use Rattle.member_record.specs.declared.MemberState.{MemberState}
-use Rattle.member_record.specs.Record.{round, no-flags}
+use Rattle.member_record.specs.Record.{with-durable, with-lead, round, no-flags}
 
 -- L = r, phase 1, X = offer, B = 0, flags cleared
 abbrev pub leading : MemberState → Round → ℕ → MemberState
 leading m r offer =
-    record { me = m .me; n = m .n; joined = m .joined; voted = m .voted; vote = m .vote; led = r; phase = 1; value = offer; source = round 0; flags = no-flags }
+    with-lead
+    (with-durable m (record { joined = m .durable .joined; voted = m .durable .voted; vote = m .durable .vote; led = r }))
+    (record { phase = 1; value = offer; source = round 0; flags = no-flags })
 
 -- J = r
 abbrev pub joining : MemberState → Round → MemberState
-joining m r =
-    record { me = m .me; n = m .n; joined = r; voted = m .voted; vote = m .vote; led = m .led; phase = m .phase; value = m .value; source = m .source; flags = m .flags }
+joining m r = with-durable m (record { joined = r; voted = m .durable .voted; vote = m .durable .vote; led = m .durable .led })
 
 -- JOIN with V, W if V > 0
 abbrev pub join-of : MemberState → Round → Message
-join-of m r = cond (ltb 0 (m .voted .0)) (JoinVoted r (m .me) (m .voted) (m .vote)) (Join r (m .me))
+join-of m r = cond (ltb 0 (m .durable .voted .0)) (JoinVoted r (m .who .me) (m .durable .voted) (m .durable .vote)) (Join r (m .who .me))
 
 -- flags the sender
 abbrev pub counting : MemberState → Member → MemberState
-counting m s =
-    record { me = m .me; n = m .n; joined = m .joined; voted = m .voted; vote = m .vote; led = m .led; phase = m .phase; value = m .value; source = m .source; flags = set (m .flags) (s .0) true }
+counting m s = with-lead m (record { phase = m .lead .phase; value = m .lead .value; source = m .lead .source; flags = set (m .lead .flags) (s .0) true })
 
 -- B and X replaced
 abbrev pub adopted : MemberState → Round → ℕ → MemberState
-adopted m q w =
-    record { me = m .me; n = m .n; joined = m .joined; voted = m .voted; vote = m .vote; led = m .led; phase = m .phase; value = w; source = q; flags = m .flags }
+adopted m q w = with-lead m (record { phase = m .lead .phase; value = w; source = q; flags = m .lead .flags })
 
 -- a voted round above B replaces B and X
 unfoldable pub adopting : MemberState → Round → ℕ → MemberState
-adopting m q w = cond (ltb (m .source .0) (q .0)) (adopted m q w) m
+adopting m q w = cond (ltb (m .lead .source .0) (q .0)) (adopted m q w) m
 
 -- phase 2, flags cleared
 abbrev pub proposing : MemberState → MemberState
-proposing m =
-    record { me = m .me; n = m .n; joined = m .joined; voted = m .voted; vote = m .vote; led = m .led; phase = 2; value = m .value; source = m .source; flags = no-flags }
+proposing m = with-lead m (record { phase = 2; value = m .lead .value; source = m .lead .source; flags = no-flags })
 
 -- J = V = r, W = v
 abbrev pub voting : MemberState → Round → ℕ → MemberState
-voting m r v =
-    record { me = m .me; n = m .n; joined = r; voted = r; vote = v; led = m .led; phase = m .phase; value = m .value; source = m .source; flags = m .flags }
+voting m r v = with-durable m (record { joined = r; voted = r; vote = v; led = m .durable .led })
 
 -- phase 3
 abbrev pub deciding : MemberState → MemberState
-deciding m =
-    record { me = m .me; n = m .n; joined = m .joined; voted = m .voted; vote = m .vote; led = m .led; phase = 3; value = m .value; source = m .source; flags = m .flags }
+deciding m = with-lead m (record { phase = 3; value = m .lead .value; source = m .lead .source; flags = m .lead .flags })

@@ -32,17 +32,17 @@ pub enum Check {
 
 // The refusals of start(r, offer).
 pub fn check_start_call(m: MemberState, r: Round) -> Check
-    requires { ⌜ 1 ≤ m .n ⌝ }
+    requires { ⌜ 1 ≤ m .who .n ⌝ }
     ensures { λ k. ⌜ check-number k ≡ first (start-causes m r) ⌝ }
 {
     if !in_range(r) {
         return Check::Refused(Refusal::RoundRange);
     }
-    let me = m.me;
-    if !is_leader(m.n, me, r) {
+    let me = m.who.me;
+    if !is_leader(m.who.n, me, r) {
         return Check::Refused(Refusal::NotLeader);
     }
-    if r.0 <= m.led.0 {
+    if r.0 <= m.durable.led.0 {
         return Check::Refused(Refusal::NotAboveLed);
     }
     Check::Pass
@@ -50,13 +50,13 @@ pub fn check_start_call(m: MemberState, r: Round) -> Check
 
 // The refusals of START r.
 pub fn check_start(m: MemberState, r: Round, s: Member) -> Check
-    requires { ⌜ 1 ≤ m .n ⌝ }
+    requires { ⌜ 1 ≤ m .who .n ⌝ }
     ensures { λ k. ⌜ check-number k ≡ first (START-causes m r s) ⌝ }
 {
-    if !is_leader(m.n, s, r) {
+    if !is_leader(m.who.n, s, r) {
         return Check::Refused(Refusal::Sender);
     }
-    if r.0 <= m.joined.0 {
+    if r.0 <= m.durable.joined.0 {
         return Check::Refused(Refusal::MovedPast);
     }
     Check::Pass
@@ -64,20 +64,20 @@ pub fn check_start(m: MemberState, r: Round, s: Member) -> Check
 
 // The refusals of JOIN r, awaited in phase 1, and of VOTE r, in phase 2.
 pub fn check_count(m: MemberState, phase: u32, r: Round, s: Member) -> Check
-    requires { ⌜ m .n ≤ 7 ⌝ }
+    requires { ⌜ m .who .n ≤ 7 ⌝ }
     ensures { λ k. ⌜ check-number k ≡ first (count-causes phase m r s) ⌝ }
 {
-    if m.n <= s.0 {
+    if m.who.n <= s.0 {
         return Check::Refused(Refusal::Sender);
     }
-    if r.0 != m.led.0 {
+    if r.0 != m.durable.led.0 {
         return Check::Refused(Refusal::NotAwaited);
     }
-    if m.phase != phase {
+    if m.lead.phase != phase {
         return Check::Refused(Refusal::NotAwaited);
     }
     let at = s.0 as usize;
-    let flags = m.flags;
+    let flags = m.lead.flags;
     if flags[at] {
         return Check::Refused(Refusal::CountedAlready);
     }
@@ -88,21 +88,21 @@ pub fn check_count(m: MemberState, phase: u32, r: Round, s: Member) -> Check
 fn voted_otherwise(m: MemberState, r: Round, v: u64) -> bool
     ensures { λ b. ⌜ b ≡ other-vote m r v ⌝ }
 {
-    if m.voted.0 != r.0 {
+    if m.durable.voted.0 != r.0 {
         return false;
     }
-    m.vote != v
+    m.durable.vote != v
 }
 
 // The refusals of PROPOSE r, v.
 pub fn check_propose(m: MemberState, r: Round, s: Member, v: u64) -> Check
-    requires { ⌜ 1 ≤ m .n ⌝ }
+    requires { ⌜ 1 ≤ m .who .n ⌝ }
     ensures { λ k. ⌜ check-number k ≡ first (PROPOSE-causes m r s v) ⌝ }
 {
-    if !is_leader(m.n, s, r) {
+    if !is_leader(m.who.n, s, r) {
         return Check::Refused(Refusal::Sender);
     }
-    if r.0 < m.joined.0 {
+    if r.0 < m.durable.joined.0 {
         return Check::Refused(Refusal::MovedPast);
     }
     if voted_otherwise(m, r, v) {

@@ -31,16 +31,16 @@ use Rattle.model.proofs.Grows.{reached-rises}
 
 -- what soundness says of a member that isn't idle, its vote count apart
 pub record Counts (z : Sizes) (t : ℕ) (m : MemberState) : Type 0 where
-  pub number : m .me ≡ member-number t
-  pub size : m .n ≡ z .n
-  pub own : m .led .0 % z .n ≡ t
-  pub ranged : out-of-range (m .led .0) ≡ false
-  pub lower : m .source .0 < m .led .0
-  pub seven : length (m .flags) ≡ 7
-  pub small : m .n ≤ 7
-  pub none-from : not (some (flag-from (m .n) (m .flags)) 7) ≡ true
+  pub number : m .who .me ≡ member-number t
+  pub size : m .who .n ≡ z .n
+  pub own : m .durable .led .0 % z .n ≡ t
+  pub ranged : out-of-range (m .durable .led .0) ≡ false
+  pub lower : m .lead .source .0 < m .durable .led .0
+  pub seven : length (m .lead .flags) ≡ 7
+  pub small : m .who .n ≤ 7
+  pub none-from : not (some (flag-from (m .who .n) (m .lead .flags)) 7) ≡ true
 
-pub counts-of : (z : Sizes) (t : ℕ) (m : MemberState) → KeptMember z t m → 1 ≤ m .phase → Counts z t m
+pub counts-of : (z : Sizes) (t : ℕ) (m : MemberState) → KeptMember z t m → 1 ≤ m .lead .phase → Counts z t m
 counts-of z t m M h = record {
   number = M .number;
   size = M .size;
@@ -53,7 +53,7 @@ counts-of z t m M h = record {
 }
 
 -- a vote below L taken over
-pub counts-adopted : (z : Sizes) (t : ℕ) (m : MemberState) (q : Round) (w : ℕ) → q .0 < m .led .0 → Counts z t m → Counts z t (adopted m q w)
+pub counts-adopted : (z : Sizes) (t : ℕ) (m : MemberState) (q : Round) (w : ℕ) → q .0 < m .durable .led .0 → Counts z t m → Counts z t (adopted m q w)
 counts-adopted z t m q w h c = record {
   number = c .number;
   size = c .size;
@@ -79,13 +79,13 @@ no-flag s =
     (λ t. List·getD-eq-default (replicate 7 false) false {n = s} (omega tests))
 
 -- a complete count is a quorum
-pub flagged-quorum : (z : Sizes) (t : ℕ) (m : MemberState) (s : Member) (P : ℕ → Type 0) → Counts z t m → s .0 < m .n → complete (counting m s) ≡ true →
-    ((i : ℕ) → flag (set (m .flags) (s .0) true) i ≡ true → P i) → Quorum (z .n) (quorum (z .n)) P
+pub flagged-quorum : (z : Sizes) (t : ℕ) (m : MemberState) (s : Member) (P : ℕ → Type 0) → Counts z t m → s .0 < m .who .n → complete (counting m s) ≡ true →
+    ((i : ℕ) → flag (set (m .lead .flags) (s .0) true) i ≡ true → P i) → Quorum (z .n) (quorum (z .n)) P
 unfolding flagged
 flagged-quorum z t m s P c low full f =
-    let all : eqb (count (flag (set (m .flags) (s .0) true)) (m .n)) (count (flag (set (m .flags) (s .0) true)) 7) ≡ true =
-    counts-agree (m .n) (set (m .flags) (s .0) true) (c .small) ∙ set-from (m .flags) (s .0) (c .seven) (omega (arith, c .small)) (m .n) low (c .none-from) in
-    rw (← (c .size)) (record { who = flag (set (m .flags) (s .0) true); enough = omega tests; each = λ i l h. f i h })
+    let all : eqb (count (flag (set (m .lead .flags) (s .0) true)) (m .who .n)) (count (flag (set (m .lead .flags) (s .0) true)) 7) ≡ true =
+    counts-agree (m .who .n) (set (m .lead .flags) (s .0) true) (c .small) ∙ set-from (m .lead .flags) (s .0) (c .seven) (omega (arith, c .small)) (m .who .n) low (c .none-from) in
+    rw (← (c .size)) (record { who = flag (set (m .lead .flags) (s .0) true); enough = omega tests; each = λ i l h. f i h })
 
 -- neither a JOIN nor a VOTE
 abbrev pub Quiet : Message → Type 0

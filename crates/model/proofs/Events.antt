@@ -33,23 +33,23 @@ use Rattle.model.proofs.Rows.{start-new, START-new, PROPOSE-new, JOIN-n
 -- the events of one member, whose record is m
 module _ (z : Sizes) (o : Office) (offers : List ℕ) (I : Invariant z o offers) (meets : z .n < join-quorum (z .n) + vote-quorum (z .n))
     (t : ℕ) (m : MemberState) (M : KeptMember z t m) (S : Stands (z .n) (o .sent) (o .made) offers t m) where
-  awaited-round : (phase : ℕ) (r : Round) → not (awaits m phase r) ≡ false → r ≡ m .led
+  awaited-round : (phase : ℕ) (r : Round) → not (awaits m phase r) ≡ false → r ≡ m .durable .led
   awaited-round phase r h =
-      let e : eqb (r .0) (m .led .0) ≡ true = and-left (eqb (r .0) (m .led .0)) (eqb (m .phase) phase) (not-false (awaits m phase r) h) in
-      let q : r .0 ≡ m .led .0 = omega tests in
+      let e : eqb (r .0) (m .durable .led .0) ≡ true = and-left (eqb (r .0) (m .durable .led .0)) (eqb (m .lead .phase) phase) (not-false (awaits m phase r) h) in
+      let q : r .0 ≡ m .durable .led .0 = omega tests in
       ap round q
 
-  awaited-phase : (phase : ℕ) (r : Round) → not (awaits m phase r) ≡ false → m .phase ≡ phase
+  awaited-phase : (phase : ℕ) (r : Round) → not (awaits m phase r) ≡ false → m .lead .phase ≡ phase
   awaited-phase phase r h =
-      omega (tests, and-right (eqb (r .0) (m .led .0)) (eqb (m .phase) phase) (not-false (awaits m phase r) h))
+      omega (tests, and-right (eqb (r .0) (m .durable .led .0)) (eqb (m .lead .phase) phase) (not-false (awaits m phase r) h))
 
   -- a JOIN's vote is taken over if it is above B
-  adopting-cases : (P : MemberState → Type 0) (q : Round) (w : ℕ) → (m .source .0 < q .0 → P (adopted m q w)) → (q .0 ≤ m .source .0 → P m) → P (adopting m q w)
+  adopting-cases : (P : MemberState → Type 0) (q : Round) (w : ℕ) → (m .lead .source .0 < q .0 → P (adopted m q w)) → (q .0 ≤ m .lead .source .0 → P m) → P (adopting m q w)
   unfolding adopting
-  adopting-cases P q w f g = by-test (ltb (m .source .0) (q .0)) (λ h. rw h (f (omega tests))) (λ h. rw h (g (omega tests)))
+  adopting-cases P q w f g = by-test (ltb (m .lead .source .0) (q .0)) (λ h. rw h (f (omega tests))) (λ h. rw h (g (omega tests)))
 
   -- the member with the vote of a JOIN taken over
-  adopted-stands : (r : Round) (s : Member) (q : Round) (w : ℕ) → JoinVoted r s q w ∈ o .sent → m .phase ≡ 1 → m .source .0 < q .0 →
+  adopted-stands : (r : Round) (s : Member) (q : Round) (w : ℕ) → JoinVoted r s q w ∈ o .sent → m .lead .phase ≡ 1 → m .lead .source .0 < q .0 →
       Stands (z .n) (o .sent) (o .made) offers t (adopted m q w)
   adopted-stands r s q w i now up = record {
     spoken = S .spoken;
@@ -58,7 +58,7 @@ module _ (z : Sizes) (o : Office) (offers : List ℕ) (I : Invariant z o offers)
       collects = S .leading .collects;
       proposed = λ a b. absurd (omega arith);
       undecided = S .leading .undecided;
-      joins = λ p k h. let j : Joined (o .sent) (m .led .0) (m .source .0) k = S .leading .joins p k h in
+      joins = λ p k h. let j : Joined (o .sent) (m .durable .led .0) (m .lead .source .0) k = S .leading .joins p k h in
           record { message = j .message; is-sent = j .is-sent; is-join = j .is-join; at-most = omega (arith, j .at-most) };
       source-added = λ p h. I .backed (JoinVoted r s q w) i;
       votes = S .leading .votes;
@@ -68,8 +68,8 @@ module _ (z : Sizes) (o : Office) (offers : List ℕ) (I : Invariant z o offers)
   }
 
   -- a JOIN of the round awaited, k being m or m with the vote taken over
-  join-new : (g : Message) (r : Round) (s : Member) (k : MemberState) → g ∈ o .sent → JoinOf (k .led .0) (s .0) g → carried g ≤ k .source .0 →
-      leb (m .n) (s .0) ≡ false → k .phase ≡ 1 → r ≡ k .led → Counts z t k → Stands (z .n) (o .sent) (o .made) offers t k →
+  join-new : (g : Message) (r : Round) (s : Member) (k : MemberState) → g ∈ o .sent → JoinOf (k .durable .led .0) (s .0) g → carried g ≤ k .lead .source .0 →
+      leb (m .who .n) (s .0) ≡ false → k .lead .phase ≡ 1 → r ≡ k .durable .led → Counts z t k → Stands (z .n) (o .sent) (o .made) offers t k →
       (proposes-one (JOIN-row k r s .named) ≡ true → suc (proposals (o .made)) < z .table) → New z o offers t (JOIN-row k r s) []
   join-new g r s k i join carries low now e C St =
       rw e (JOIN-new z o offers I meets t k C St s (omega (tests, M .size)) now (record { message = g; is-sent = i; is-join = join; at-most = carries }))
@@ -80,15 +80,15 @@ module _ (z : Sizes) (o : Office) (offers : List ℕ) (I : Invariant z o offers)
   message-new (Start r s) i f c room = START-new z o offers I t m M S r s (passed (START-causes m r s) refl c)
   message-new (Join r s) i f c room =
       let (sender, (await, rest)) = passed (count-causes 1 m r s) refl c in
-      let e : r ≡ m .led = awaited-round 1 r await in
-      let now : m .phase ≡ 1 = awaited-phase 1 r await in
+      let e : r ≡ m .durable .led = awaited-round 1 r await in
+      let now : m .lead .phase ≡ 1 = awaited-phase 1 r await in
       join-new (Join r s) r s m i (ap (λ x. x .0) e, refl) (omega arith) sender now e (counts-of z t m M (omega arith)) S room
   message-new (JoinVoted r s q w) i f c room =
       let (sender, (await, rest)) = passed (count-causes 1 m r s) refl c in
-      let e : r ≡ m .led = awaited-round 1 r await in
-      let now : m .phase ≡ 1 = awaited-phase 1 r await in
+      let e : r ≡ m .durable .led = awaited-round 1 r await in
+      let now : m .lead .phase ≡ 1 = awaited-phase 1 r await in
       let C : Counts z t m = counts-of z t m M (omega arith) in
-      let below : q .0 < m .led .0 = omega (tests, and-right (leb 1 (q .0)) (ltb (q .0) (r .0)) (and-right (head-in-range r s) (vote-in-range r q) f), ap (λ x. x .0) e) in
+      let below : q .0 < m .durable .led .0 = omega (tests, and-right (leb 1 (q .0)) (ltb (q .0) (r .0)) (and-right (head-in-range r s) (vote-in-range r q) f), ap (λ x. x .0) e) in
       adopting-cases (λ k. (proposes-one (JOIN-row k r s .named) ≡ true → suc (proposals (o .made)) < z .table) → New z o offers t (JOIN-row k r s) []) q w
       (λ up. join-new (JoinVoted r s q w) r s (adopted m q w) i (ap (λ x. x .0) e, refl) (omega arith) sender now e
       (counts-adopted z t m q w below C) (adopted-stands r s q w i now up))
@@ -97,8 +97,8 @@ module _ (z : Sizes) (o : Office) (offers : List ℕ) (I : Invariant z o offers)
   message-new (Propose r s v) i f c room = PROPOSE-new z o offers I t m M S r s v i (passed (PROPOSE-causes m r s v) refl c)
   message-new (Vote r s) i f c room =
       let (sender, (await, rest)) = passed (count-causes 2 m r s) refl c in
-      let e : r ≡ m .led = awaited-round 2 r await in
-      let now : m .phase ≡ 2 = awaited-phase 2 r await in
+      let e : r ≡ m .durable .led = awaited-round 2 r await in
+      let now : m .lead .phase ≡ 2 = awaited-phase 2 r await in
       rw e (VOTE-new z o offers I meets t m (counts-of z t m M (omega arith)) S s (omega (tests, M .size)) now (subst (λ x. Vote x s ∈ o .sent) e i))
 
 module _ (z : Sizes) (ok : allowed (z .n) ≡ true) where

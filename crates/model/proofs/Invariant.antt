@@ -88,10 +88,10 @@ pub record Leading (n : ℕ) (sent : List Message) (made : List Named) (offers :
 
 -- what holds of member t, whose record is m
 pub record Stands (n : ℕ) (sent : List Message) (made : List Named) (offers : List ℕ) (t : ℕ) (m : MemberState) : Type 0 where
-  pub spoken : Spoken sent t (m .joined .0) (m .voted .0) (m .led .0)
-  pub leading : Leading n sent made offers t (m .led .0) (m .phase) (m .value) (m .source .0) (m .flags)
+  pub spoken : Spoken sent t (m .durable .joined .0) (m .durable .voted .0) (m .durable .led .0)
+  pub leading : Leading n sent made offers t (m .durable .led .0) (m .lead .phase) (m .lead .value) (m .lead .source .0) (m .lead .flags)
   -- V, if above 0, was proposed with W
-  pub vote-added : 0 < m .voted .0 → Added made (m .voted .0) (m .vote)
+  pub vote-added : 0 < m .durable .voted .0 → Added made (m .durable .voted .0) (m .durable .vote)
 
 -- a START or PROPOSE is sent by the leader of its round
 abbrev pub FromLeader : ℕ → Message → Type 0

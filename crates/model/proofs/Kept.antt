@@ -29,9 +29,9 @@ use Rattle.model.proofs.Senders.{sender, Own, own-step}
 
 pub record KeptMember (z : Sizes) (t : ℕ) (m : MemberState) : Type 0 where
   pub is-sound : sound m ≡ true
-  pub seven : length (m .flags) ≡ 7
-  pub number : m .me ≡ member-number t
-  pub size : m .n ≡ z .n
+  pub seven : length (m .lead .flags) ≡ 7
+  pub number : m .who .me ≡ member-number t
+  pub size : m .who .n ≡ z .n
 
 pub record KeptOffice (z : Sizes) (o : Office) : Type 0 where
   -- the office has N members
@@ -44,29 +44,29 @@ pub record KeptOffice (z : Sizes) (o : Office) : Type 0 where
   pub fits : length (o .sent) ≤ z .store
 
 -- a member that isn't idle leads a round of its own, in range, and B is below it
-pub leads-one : (z : Sizes) (t : ℕ) (m : MemberState) → KeptMember z t m → 1 ≤ m .phase → (eqb (m .led .0) 0 ≡ false) × MemberLeads m
+pub leads-one : (z : Sizes) (t : ℕ) (m : MemberState) → KeptMember z t m → 1 ≤ m .lead .phase → (eqb (m .durable .led .0) 0 ≡ false) × MemberLeads m
 leads-one z t m M h =
     let s : Sound m = parts m (M .is-sound) in
-    by-test (eqb (m .led .0) 0)
-    (λ e. absurd (omega (tests, and-left (eqb (m .phase) 0) _ (rw e at (s .lead)))))
+    by-test (eqb (m .durable .led .0) 0)
+    (λ e. absurd (omega (tests, and-left (eqb (m .lead .phase) 0) _ (rw e at (s .lead)))))
     (λ e. (e, leading-parts m s e))
 
-pub own-round : (z : Sizes) (t : ℕ) (m : MemberState) → KeptMember z t m → 1 ≤ m .phase → m .led .0 % z .n ≡ t
+pub own-round : (z : Sizes) (t : ℕ) (m : MemberState) → KeptMember z t m → 1 ≤ m .lead .phase → m .durable .led .0 % z .n ≡ t
 own-round z t m M h =
     let (e, l) = leads-one z t m M h in
-    let q : eqb (m .led .0 % z .n) t ≡ true = rw (M .size, M .number) at (l .leader) in
+    let q : eqb (m .durable .led .0 % z .n) t ≡ true = rw (M .size, M .number) at (l .leader) in
     omega tests
 
-pub led-ranged : (z : Sizes) (t : ℕ) (m : MemberState) → KeptMember z t m → 1 ≤ m .phase → out-of-range (m .led .0) ≡ false
+pub led-ranged : (z : Sizes) (t : ℕ) (m : MemberState) → KeptMember z t m → 1 ≤ m .lead .phase → out-of-range (m .durable .led .0) ≡ false
 led-ranged z t m M h =
     let (e, l) = leads-one z t m M h in
-    or-none e (not-true (above-range (m .led .0)) (l .ranged))
+    or-none e (not-true (above-range (m .durable .led .0)) (l .ranged))
 
-pub source-lower : (z : Sizes) (t : ℕ) (m : MemberState) → KeptMember z t m → 1 ≤ m .phase → m .source .0 < m .led .0
+pub source-lower : (z : Sizes) (t : ℕ) (m : MemberState) → KeptMember z t m → 1 ≤ m .lead .phase → m .lead .source .0 < m .durable .led .0
 source-lower z t m M h = let (e, l) = leads-one z t m M h in omega (tests, l .lower)
 
 -- V is at most J
-pub vote-lower : (z : Sizes) (t : ℕ) (m : MemberState) → KeptMember z t m → m .voted .0 ≤ m .joined .0
+pub vote-lower : (z : Sizes) (t : ℕ) (m : MemberState) → KeptMember z t m → m .durable .voted .0 ≤ m .durable .joined .0
 vote-lower z t m M = omega (tests, votes m (parts m (M .is-sound)) .ordered)
 
 -- what an event that gets 0 has passed

@@ -82,8 +82,8 @@ last-causes z o e =
 
 module _ (z : Sizes) (o : Office) (offers : List ℕ) (K : KeptOffice z o) (I : Invariant z o offers) where
   -- a message from the leader of its round
-  led : (t : ℕ) (m : MemberState) (M : KeptMember z t m) (r : Round) (s : Member) → r .0 % z .n ≡ s .0 → not (leads (m .n) s r) ≡ true → ⊥
-  led t m M r s h e = let l : leads (m .n) s r ≡ true = rw (M .size) (eq-eqb (r .0 % z .n) (s .0) h) in clash e (rw l refl)
+  led : (t : ℕ) (m : MemberState) (M : KeptMember z t m) (r : Round) (s : Member) → r .0 % z .n ≡ s .0 → not (leads (m .who .n) s r) ≡ true → ⊥
+  led t m M r s h e = let l : leads (m .who .n) s r ≡ true = rw (M .size) (eq-eqb (r .0 % z .n) (s .0) h) in clash e (rw l refl)
 
   -- a round is proposed with one value
   one-value : (r x y : ℕ) → Added (o .made) r x → Added (o .made) r y → x ≡ y
@@ -93,13 +93,13 @@ module _ (z : Sizes) (o : Office) (offers : List ℕ) (K : KeptOffice z o) (I : 
   same-vote : (t : ℕ) (m : MemberState) (S : Stands (z .n) (o .sent) (o .made) offers t m) (r : Round) (s : Member) (v : ℕ) → Propose r s v ∈ o .sent →
       out-of-range (r .0) ≡ false → other-vote m r v ≡ true → ⊥
   same-vote t m S r s v i f h =
-      let e : m .voted .0 ≡ r .0 = omega (tests, and-left (eqb (m .voted .0) (r .0)) (not (eqb (m .vote) v)) h) in
-      let pos : 0 < m .voted .0 = omega (tests, or-left (eqb (r .0) 0) (above-range (r .0)) f) in
-      let a : Added (o .made) (r .0) (m .vote) = rw e at (S .vote-added pos) in
+      let e : m .durable .voted .0 ≡ r .0 = omega (tests, and-left (eqb (m .durable .voted .0) (r .0)) (not (eqb (m .durable .vote) v)) h) in
+      let pos : 0 < m .durable .voted .0 = omega (tests, or-left (eqb (r .0) 0) (above-range (r .0)) f) in
+      let a : Added (o .made) (r .0) (m .durable .vote) = rw e at (S .vote-added pos) in
       omega (
         tests,
-        one-value (r .0) (m .vote) v a (I .backed (Propose r s v) i),
-        not-true (eqb (m .vote) v) (and-right (eqb (m .voted .0) (r .0)) (not (eqb (m .vote) v)) h),
+        one-value (r .0) (m .durable .vote) v a (I .backed (Propose r s v) i),
+        not-true (eqb (m .durable .vote) v) (and-right (eqb (m .durable .voted .0) (r .0)) (not (eqb (m .durable .vote) v)) h),
       )
 
   -- a JOIN or VOTE from a member

@@ -34,25 +34,25 @@ use Rattle.model.proofs.Counts.{Counts, counts-of, flag-set, no-flag, f
 module _ (z : Sizes) (o : Office) (offers : List ℕ) (I : Invariant z o offers) (t : ℕ) (m : MemberState) (M : KeptMember z t m)
     (S : Stands (z .n) (o .sent) (o .made) offers t m) where
   -- the member leads a round that passed 19
-  own-lead : (r : Round) → not (leads (m .n) (m .me) r) ≡ false → r .0 % z .n ≡ t
+  own-lead : (r : Round) → not (leads (m .who .n) (m .who .me) r) ≡ false → r .0 % z .n ≡ t
   own-lead r h =
-      let q : eqb (r .0 % z .n) t ≡ true = rw (M .size, M .number) at (not-false (leads (m .n) (m .me) r) h) in
+      let q : eqb (r .0 % z .n) t ≡ true = rw (M .size, M .number) at (not-false (leads (m .who .n) (m .who .me) r) h) in
       omega tests
 
-  own-number : m .me .0 ≡ t
+  own-number : m .who .me .0 ≡ t
   own-number = ap (λ s. s .0) (M .number)
 
   -- the leader's part, while only messages and offers are new
   leading-calm : (gs : List Message) (xs : List ℕ) →
-      Leading (z .n) (o .sent ++ gs) (o .made ++ []) (offers ++ xs) t (m .led .0) (m .phase) (m .value) (m .source .0) (m .flags)
+      Leading (z .n) (o .sent ++ gs) (o .made ++ []) (offers ++ xs) t (m .durable .led .0) (m .lead .phase) (m .lead .value) (m .lead .source .0) (m .lead .flags)
   leading-calm gs xs = leading-grows gs [] xs (λ a i. elim i [ ]) (λ h. counts-of z t m M h .own) (S .leading)
 
   pub start-new : (r : Round) (x : ℕ) → Passed (start-causes m r) → New z o offers t (start-row m r x) (x ∷ [])
   start-new r x (range, (leader, (above, end))) = record {
     stands = record {
-      spoken = spoken-quiet (o .sent) (Start r (m .me) ∷ []) t (m .joined .0) (m .voted .0) (m .led .0) (m .joined .0) (m .voted .0) (r .0)
-          (only (Reached (m .joined .0) (m .voted .0) (r .0)) (Start r (m .me)) (omega arith)) (omega arith) (omega arith) (omega tests) (S .spoken)
-          (only _ (Start r (m .me)) tt);
+      spoken = spoken-quiet (o .sent) (Start r (m .who .me) ∷ []) t (m .durable .joined .0) (m .durable .voted .0) (m .durable .led .0) (m .durable .joined .0) (m .durable .voted .0) (r .0)
+          (only (Reached (m .durable .joined .0) (m .durable .voted .0) (r .0)) (Start r (m .who .me)) (omega arith)) (omega arith) (omega arith) (omega tests) (S .spoken)
+          (only _ (Start r (m .who .me)) tt);
       leading = record {
         highest = λ s y b i e. omega (tests, S .leading .highest s y b (rw (append-nil (o .made)) at i) e);
         collects = λ p y b i. absurd (omega (tests, S .leading .highest (r .0) y b (rw (append-nil (o .made)) at i) (own-lead r leader)));
@@ -65,15 +65,15 @@ module _ (z : Sizes) (o : Office) (offers : List ℕ) (I : Invariant z o offers)
       };
       vote-added = λ h. added-grows [] (S .vote-added h);
     };
-    leaders = only (FromLeader (z .n)) (Start r (m .me)) (own-lead r leader ∙ sym own-number);
-    backed = only (Backed (o .made ++ [])) (Start r (m .me)) tt;
+    leaders = only (FromLeader (z .n)) (Start r (m .who .me)) (own-lead r leader ∙ sym own-number);
+    backed = only (Backed (o .made ++ [])) (Start r (m .who .me)) tt;
     names = λ a i. elim i [ ];
-    made-so = made-calm (Start r (m .me) ∷ []) (x ∷ []) (I .made-so);
+    made-so = made-calm (Start r (m .who .me) ∷ []) (x ∷ []) (I .made-so);
   }
 
   -- what holds of a JOIN with the member's vote and of one without
-  of-join : (r : Round) (P : Message → Type 0) → (0 < m .voted .0 → P (JoinVoted r (m .me) (m .voted) (m .vote))) → (m .voted .0 ≡ 0 → P (Join r (m .me))) → P (join-of m r)
-  of-join r P f g = by-test (ltb 0 (m .voted .0)) (λ h. rw h (f (omega tests))) (λ h. rw h (g (omega tests)))
+  of-join : (r : Round) (P : Message → Type 0) → (0 < m .durable .voted .0 → P (JoinVoted r (m .who .me) (m .durable .voted) (m .durable .vote))) → (m .durable .voted .0 ≡ 0 → P (Join r (m .who .me))) → P (join-of m r)
+  of-join r P f g = by-test (ltb 0 (m .durable .voted .0)) (λ h. rw h (f (omega tests))) (λ h. rw h (g (omega tests)))
 
   no-vote : (r : Round) (k : ℕ) → Voted (join-of m r ∷ []) k t → ⊥
   no-vote r k i =
@@ -82,9 +82,9 @@ module _ (z : Sizes) (o : Office) (offers : List ℕ) (I : Invariant z o offers)
   pub START-new : (r : Round) (s : Member) → Passed (START-causes m r s) → New z o offers t (START-row m r) []
   START-new r s (leader, (above, end)) = record {
     stands = record {
-      spoken = spoken-new (o .sent) (join-of m r ∷ []) t (m .joined .0) (m .voted .0) (m .led .0) (r .0) (m .voted .0) (m .led .0)
-          (only (Reached (r .0) (m .voted .0) (m .led .0)) (join-of m r)
-          (of-join r (Reached (r .0) (m .voted .0) (m .led .0)) (λ v. omega arith) (λ v. omega arith)))
+      spoken = spoken-new (o .sent) (join-of m r ∷ []) t (m .durable .joined .0) (m .durable .voted .0) (m .durable .led .0) (r .0) (m .durable .voted .0) (m .durable .led .0)
+          (only (Reached (r .0) (m .durable .voted .0) (m .durable .led .0)) (join-of m r)
+          (of-join r (Reached (r .0) (m .durable .voted .0) (m .durable .led .0)) (λ v. omega arith) (λ v. omega arith)))
           (omega tests) (omega arith) (omega arith) (S .spoken)
           (λ g r₁ k i j w low. only (λ x. k ≤ carried x) (join-of m r) (of-join r (λ x. k ≤ carried x) (λ v. lower k w) (λ v. omega (arith, lower k w))) g i)
           (λ g r₁ k i j w low. absurd (no-vote r k w));
@@ -98,30 +98,30 @@ module _ (z : Sizes) (o : Office) (offers : List ℕ) (I : Invariant z o offers)
   }
     where
       -- each vote was for a round at most V
-      lower : (k : ℕ) → Voted (o .sent ++ join-of m r ∷ []) k t → k ≤ m .voted .0
+      lower : (k : ℕ) → Voted (o .sent ++ join-of m r ∷ []) k t → k ≤ m .durable .voted .0
       lower k w =
           ⊎-elim (λ i. S .spoken .reached (Vote (round k) (member-number t)) i refl) (λ i. absurd (no-vote r k i)) (List·Memᴰ·append-cases (o .sent) w)
 
   pub PROPOSE-new : (r : Round) (s : Member) (v : ℕ) → Propose r s v ∈ o .sent → Passed (PROPOSE-causes m r s v) → New z o offers t (PROPOSE-row m r v) []
   PROPOSE-new r s v sent (leader, (past, (same, end))) =
-      let up : m .voted .0 ≤ m .joined .0 = vote-lower z t m M in
+      let up : m .durable .voted .0 ≤ m .durable .joined .0 = vote-lower z t m M in
       record {
         stands = record {
-          spoken = spoken-new (o .sent) (Vote r (m .me) ∷ []) t (m .joined .0) (m .voted .0) (m .led .0) (r .0) (r .0) (m .led .0)
-              (only (Reached (r .0) (r .0) (m .led .0)) (Vote r (m .me)) (omega arith))
+          spoken = spoken-new (o .sent) (Vote r (m .who .me) ∷ []) t (m .durable .joined .0) (m .durable .voted .0) (m .durable .led .0) (r .0) (r .0) (m .durable .led .0)
+              (only (Reached (r .0) (r .0) (m .durable .led .0)) (Vote r (m .who .me)) (omega arith))
               (omega tests) (omega tests) (omega arith) (S .spoken)
-              (λ g r₁ k i j w low. absurd (only (λ x. JoinOf r₁ t x → ⊥) (Vote r (m .me)) (λ x. x) g i j))
+              (λ g r₁ k i j w low. absurd (only (λ x. JoinOf r₁ t x → ⊥) (Vote r (m .who .me)) (λ x. x) g i j))
               (λ g r₁ k i j w low.
-              let e : Vote (round k) (member-number t) ≡ Vote r (m .me) = List·Memᴰ·eq-of-singleton w in
+              let e : Vote (round k) (member-number t) ≡ Vote r (m .who .me) = List·Memᴰ·eq-of-singleton w in
               let q : round k ≡ r = cc in
-              absurd (omega (tests, ap (λ x. x .0) q, join-reached r₁ t (m .joined .0) (m .voted .0) (m .led .0) g j (S .spoken .reached g i (join-sender r₁ t g j)))));
-          leading = leading-calm (Vote r (m .me) ∷ []) [];
+              absurd (omega (tests, ap (λ x. x .0) q, join-reached r₁ t (m .durable .joined .0) (m .durable .voted .0) (m .durable .led .0) g j (S .spoken .reached g i (join-sender r₁ t g j)))));
+          leading = leading-calm (Vote r (m .who .me) ∷ []) [];
           vote-added = λ h. added-grows [] (I .backed (Propose r s v) sent);
         };
-        leaders = only (FromLeader (z .n)) (Vote r (m .me)) tt;
-        backed = only (Backed (o .made ++ [])) (Vote r (m .me)) tt;
+        leaders = only (FromLeader (z .n)) (Vote r (m .who .me)) tt;
+        backed = only (Backed (o .made ++ [])) (Vote r (m .who .me)) tt;
         names = λ a i. elim i [ ];
-        made-so = made-calm (Vote r (m .me) ∷ []) [] (I .made-so);
+        made-so = made-calm (Vote r (m .who .me) ∷ []) [] (I .made-so);
       }
 
 -- JOINs and VOTEs counted; k is the member's record once the JOIN's vote is taken over
@@ -130,27 +130,27 @@ module _ (z : Sizes) (o : Office) (offers : List ℕ) (I : Invariant z o offers)
   pasts : Pasts (z .n) (o .sent)
   pasts i l = I .members i l .spoken .past
 
-  own-number-of : k .me .0 ≡ t
+  own-number-of : k .who .me .0 ≡ t
   own-number-of = ap (λ x. x .0) (C .number)
 
   -- one more flag, short of the quorum
-  counted-new : (k .phase ≡ 1 → Joined (o .sent) (k .led .0) (k .source .0) (s .0)) → (k .phase ≡ 2 → Voted (o .sent) (k .led .0) (s .0)) →
+  counted-new : (k .lead .phase ≡ 1 → Joined (o .sent) (k .durable .led .0) (k .lead .source .0) (s .0)) → (k .lead .phase ≡ 2 → Voted (o .sent) (k .durable .led .0) (s .0)) →
       New z o offers t (silent (counting k s)) []
   counted-new join vote =
-      let L : Leading (z .n) (o .sent ++ []) (o .made ++ []) (offers ++ []) t (k .led .0) (k .phase) (k .value) (k .source .0) (k .flags) =
+      let L : Leading (z .n) (o .sent ++ []) (o .made ++ []) (offers ++ []) t (k .durable .led .0) (k .lead .phase) (k .lead .value) (k .lead .source .0) (k .lead .flags) =
       leading-grows [] [] [] (λ a i. elim i [ ]) (λ h. C .own) (S .leading) in
       record {
         stands = record {
-          spoken = spoken-quiet (o .sent) [] t (k .joined .0) (k .voted .0) (k .led .0) (k .joined .0) (k .voted .0) (k .led .0)
+          spoken = spoken-quiet (o .sent) [] t (k .durable .joined .0) (k .durable .voted .0) (k .durable .led .0) (k .durable .joined .0) (k .durable .voted .0) (k .durable .led .0)
               (λ g i. elim i [ ]) (omega arith) (omega arith) (omega arith) (S .spoken) (λ g i. elim i [ ]);
           leading = record {
             highest = L .highest;
             collects = L .collects;
             proposed = L .proposed;
             undecided = L .undecided;
-            joins = λ p i h. flag-set (k .flags) (s .0) i h (λ e. rw e (joined-grows [] (join p))) (λ h. L .joins p i h);
+            joins = λ p i h. flag-set (k .lead .flags) (s .0) i h (λ e. rw e (joined-grows [] (join p))) (λ h. L .joins p i h);
             source-added = L .source-added;
-            votes = λ p i h. flag-set (k .flags) (s .0) i h (λ e. rw e (Memᴰ·append-left [] (vote p))) (λ h. L .votes p i h);
+            votes = λ p i h. flag-set (k .lead .flags) (s .0) i h (λ e. rw e (Memᴰ·append-left [] (vote p))) (λ h. L .votes p i h);
             value-offered = L .value-offered;
           };
           vote-added = λ h. added-grows [] (S .vote-added h);
@@ -162,86 +162,86 @@ module _ (z : Sizes) (o : Office) (offers : List ℕ) (I : Invariant z o offers)
       }
 
   -- the JOIN that makes the quorum
-  proposes-new : k .phase ≡ 1 → Joined (o .sent) (k .led .0) (k .source .0) (s .0) → complete (counting k s) ≡ true → suc (proposals (o .made)) < z .table →
-      New z o offers t (proposes (counting k s) (k .led)) []
+  proposes-new : k .lead .phase ≡ 1 → Joined (o .sent) (k .durable .led .0) (k .lead .source .0) (s .0) → complete (counting k s) ≡ true → suc (proposals (o .made)) < z .table →
+      New z o offers t (proposes (counting k s) (k .durable .led)) []
   proposes-new now join full row =
       record {
         stands = record {
-          spoken = spoken-quiet (o .sent) (Propose (k .led) (k .me) (k .value) ∷ []) t (k .joined .0) (k .voted .0) (k .led .0) (k .joined .0) (k .voted .0) (k .led .0)
-              (only (Reached (k .joined .0) (k .voted .0) (k .led .0)) (Propose (k .led) (k .me) (k .value)) (omega arith)) (omega arith) (omega arith) (omega arith) (S .spoken)
-              (only _ (Propose (k .led) (k .me) (k .value)) tt);
+          spoken = spoken-quiet (o .sent) (Propose (k .durable .led) (k .who .me) (k .lead .value) ∷ []) t (k .durable .joined .0) (k .durable .voted .0) (k .durable .led .0) (k .durable .joined .0) (k .durable .voted .0) (k .durable .led .0)
+              (only (Reached (k .durable .joined .0) (k .durable .voted .0) (k .durable .led .0)) (Propose (k .durable .led) (k .who .me) (k .lead .value)) (omega arith)) (omega arith) (omega arith) (omega arith) (S .spoken)
+              (only _ (Propose (k .durable .led) (k .who .me) (k .lead .value)) tt);
           leading = record {
-            highest = λ r y b i e. by-last (o .made) i (λ j. S .leading .highest r y b j e) (λ q. let w : r ≡ k .led .0 = cc in omega arith);
+            highest = λ r y b i e. by-last (o .made) i (λ j. S .leading .highest r y b j e) (λ q. let w : r ≡ k .durable .led .0 = cc in omega arith);
             collects = λ p. absurd (omega arith);
-            proposed = λ p q. in-last (o .made) (proposal (k .led .0) (k .value) (k .source .0));
+            proposed = λ p q. in-last (o .made) (proposal (k .durable .led .0) (k .lead .value) (k .lead .source .0));
             undecided = λ p y i. by-last (o .made) i (undecided-before y) (λ q. impossible (cc));
             joins = λ p. absurd (omega arith);
             source-added = λ p. absurd (omega arith);
             votes = λ p i h. clash h (no-flag i);
             value-offered = λ p q. Memᴰ·append-left [] (S .leading .value-offered (omega arith) (omega arith));
           };
-          vote-added = λ h. added-grows (proposal (k .led .0) (k .value) (k .source .0) ∷ []) (S .vote-added h);
+          vote-added = λ h. added-grows (proposal (k .durable .led .0) (k .lead .value) (k .lead .source .0) ∷ []) (S .vote-added h);
         };
-        leaders = only (FromLeader (z .n)) (Propose (k .led) (k .me) (k .value)) (C .own ∙ sym own-number-of);
-        backed = only (Backed (o .made ++ proposal (k .led .0) (k .value) (k .source .0) ∷ [])) (Propose (k .led) (k .me) (k .value))
-            (record { parent = k .source .0; is-made = in-last (o .made) (proposal (k .led .0) (k .value) (k .source .0)) });
+        leaders = only (FromLeader (z .n)) (Propose (k .durable .led) (k .who .me) (k .lead .value)) (C .own ∙ sym own-number-of);
+        backed = only (Backed (o .made ++ proposal (k .durable .led .0) (k .lead .value) (k .lead .source .0) ∷ [])) (Propose (k .durable .led) (k .who .me) (k .lead .value))
+            (record { parent = k .lead .source .0; is-made = in-last (o .made) (proposal (k .durable .led .0) (k .lead .value) (k .lead .source .0)) });
         names = λ a i. rw (List·Memᴰ·eq-of-singleton i) (C .own);
-        made-so = proposes-so z (o .sent) (o .made) offers (I .made-so) pasts meets (k .led .0) (k .value) (k .source .0) (C .ranged)
+        made-so = proposes-so z (o .sent) (o .made) offers (I .made-so) pasts meets (k .durable .led .0) (k .lead .value) (k .lead .source .0) (C .ranged)
             (S .leading .collects now) (C .lower) (S .leading .source-added now) quorum-joined (S .leading .value-offered (omega arith) (omega arith)) row
-            (Propose (k .led) (k .me) (k .value) ∷ []) [];
+            (Propose (k .durable .led) (k .who .me) (k .lead .value) ∷ []) [];
       }
     where
-      quorum-joined : Quorum (z .n) (join-quorum (z .n)) (Joined (o .sent) (k .led .0) (k .source .0))
-      quorum-joined = flagged-quorum z t k s (Joined (o .sent) (k .led .0) (k .source .0)) C (omega (arith, C .size)) full
-          (λ i h. flag-set (k .flags) (s .0) i h (λ e. rw e join) (S .leading .joins now i))
+      quorum-joined : Quorum (z .n) (join-quorum (z .n)) (Joined (o .sent) (k .durable .led .0) (k .lead .source .0))
+      quorum-joined = flagged-quorum z t k s (Joined (o .sent) (k .durable .led .0) (k .lead .source .0)) C (omega (arith, C .size)) full
+          (λ i h. flag-set (k .lead .flags) (s .0) i h (λ e. rw e join) (S .leading .joins now i))
 
       -- what isn't proposed isn't decided
-      undecided-before : (y : ℕ) → decision (k .led .0) y ∈ o .made → ⊥
+      undecided-before : (y : ℕ) → decision (k .durable .led .0) y ∈ o .made → ⊥
       undecided-before y i =
-          adds-elim (k .led .0) (calls (o .made))
-          (committed-added true (calls (o .made)) (I .made-so .properties) (k .led .0) (decision-call (o .made) i))
+          adds-elim (k .durable .led .0) (calls (o .made))
+          (committed-added true (calls (o .made)) (I .made-so .properties) (k .durable .led .0) (decision-call (o .made) i))
           (λ v p j. S .leading .collects now v p (call-proposal (o .made) j))
 
   -- the VOTE that makes the quorum
-  decides-new : k .phase ≡ 2 → Voted (o .sent) (k .led .0) (s .0) → complete (counting k s) ≡ true → New z o offers t (decides (counting k s) (k .led)) []
+  decides-new : k .lead .phase ≡ 2 → Voted (o .sent) (k .durable .led .0) (s .0) → complete (counting k s) ≡ true → New z o offers t (decides (counting k s) (k .durable .led)) []
   decides-new now vote full = record {
     stands = record {
-      spoken = spoken-quiet (o .sent) [] t (k .joined .0) (k .voted .0) (k .led .0) (k .joined .0) (k .voted .0) (k .led .0)
+      spoken = spoken-quiet (o .sent) [] t (k .durable .joined .0) (k .durable .voted .0) (k .durable .led .0) (k .durable .joined .0) (k .durable .voted .0) (k .durable .led .0)
           (λ g i. elim i [ ]) (omega arith) (omega arith) (omega arith) (S .spoken) (λ g i. elim i [ ]);
       leading = record {
         highest = λ r y b i e. by-last (o .made) i (λ j. S .leading .highest r y b j e) (λ q. impossible (cc));
         collects = λ p. absurd (omega arith);
-        proposed = λ p q. Memᴰ·append-left (decision (k .led .0) (k .value) ∷ []) follows;
+        proposed = λ p q. Memᴰ·append-left (decision (k .durable .led .0) (k .lead .value) ∷ []) follows;
         undecided = λ p. absurd (omega arith);
         joins = λ p. absurd (omega arith);
         source-added = λ p. absurd (omega arith);
         votes = λ p. absurd (omega arith);
         value-offered = λ p q. Memᴰ·append-left [] (S .leading .value-offered (omega arith) (omega arith));
       };
-      vote-added = λ h. added-grows (decision (k .led .0) (k .value) ∷ []) (S .vote-added h);
+      vote-added = λ h. added-grows (decision (k .durable .led .0) (k .lead .value) ∷ []) (S .vote-added h);
     };
     leaders = λ g i. elim i [ ];
     backed = λ g i. elim i [ ];
     names = λ a i. rw (List·Memᴰ·eq-of-singleton i) (C .own);
-    made-so = decides-so z (o .sent) (o .made) offers (I .made-so) pasts meets (k .led .0) (k .value) (k .source .0) (C .ranged)
+    made-so = decides-so z (o .sent) (o .made) offers (I .made-so) pasts meets (k .durable .led .0) (k .lead .value) (k .lead .source .0) (C .ranged)
         (S .leading .undecided now) follows quorum-voted [] [];
   }
     where
-      follows : proposal (k .led .0) (k .value) (k .source .0) ∈ o .made
+      follows : proposal (k .durable .led .0) (k .lead .value) (k .lead .source .0) ∈ o .made
       follows = S .leading .proposed (omega arith) (omega arith)
 
-      quorum-voted : Quorum (z .n) (vote-quorum (z .n)) (Voted (o .sent) (k .led .0))
-      quorum-voted = flagged-quorum z t k s (Voted (o .sent) (k .led .0)) C (omega (arith, C .size)) full
-          (λ i h. flag-set (k .flags) (s .0) i h (λ e. rw e vote) (S .leading .votes now i))
+      quorum-voted : Quorum (z .n) (vote-quorum (z .n)) (Voted (o .sent) (k .durable .led .0))
+      quorum-voted = flagged-quorum z t k s (Voted (o .sent) (k .durable .led .0)) C (omega (arith, C .size)) full
+          (λ i h. flag-set (k .lead .flags) (s .0) i h (λ e. rw e vote) (S .leading .votes now i))
 
-  pub JOIN-new : k .phase ≡ 1 → Joined (o .sent) (k .led .0) (k .source .0) (s .0) →
-      (proposes-one (JOIN-row k (k .led) s .named) ≡ true → suc (proposals (o .made)) < z .table) → New z o offers t (JOIN-row k (k .led) s) []
+  pub JOIN-new : k .lead .phase ≡ 1 → Joined (o .sent) (k .durable .led .0) (k .lead .source .0) (s .0) →
+      (proposes-one (JOIN-row k (k .durable .led) s .named) ≡ true → suc (proposals (o .made)) < z .table) → New z o offers t (JOIN-row k (k .durable .led) s) []
   JOIN-new now join row =
       by-test (complete (counting k s))
       (λ h. rw h (proposes-new now join h (row (rw h refl))))
       (λ h. rw h (counted-new (λ p. join) (λ p. absurd (omega arith))))
 
-  pub VOTE-new : k .phase ≡ 2 → Voted (o .sent) (k .led .0) (s .0) → New z o offers t (VOTE-row k (k .led) s) []
+  pub VOTE-new : k .lead .phase ≡ 2 → Voted (o .sent) (k .durable .led .0) (s .0) → New z o offers t (VOTE-row k (k .durable .led) s) []
   VOTE-new now vote =
       by-test (complete (counting k s))
       (λ h. rw h (decides-new now vote h))

@@ -26,9 +26,9 @@ sender (Vote r s) = s .0
 
 -- an outcome of member m
 pub record Own (m : MemberState) (u : Outcome) : Type 0 where
-  pub number : u .state .me ≡ m .me
-  pub size : u .state .n ≡ m .n
-  pub from : (g : Message) → g ∈ u .sent → sender g ≡ m .me .0
+  pub number : u .state .who .me ≡ m .who .me
+  pub size : u .state .who .n ≡ m .who .n
+  pub from : (g : Message) → g ∈ u .sent → sender g ≡ m .who .me .0
   pub one : length (u .sent) ≤ 1
 
 either : (m : MemberState) (b : Bool) (u v : Outcome) → Own m u → Own m v → Own m (cond b u v)
@@ -42,35 +42,35 @@ own-refused m k = record { number = refl; size = refl; from = λ g i. elim i [ ]
 pub only : (P : Message → Type 0) (x : Message) → P x → (g : Message) → g ∈ x ∷ [] → P g
 only P x h g i = rw (List·Memᴰ·eq-of-singleton i) h
 
-own-join : (m : MemberState) (r : Round) → sender (join-of m r) ≡ m .me .0
-own-join m r = pick (ltb 0 (m .voted .0))
+own-join : (m : MemberState) (r : Round) → sender (join-of m r) ≡ m .who .me .0
+own-join m r = pick (ltb 0 (m .durable .voted .0))
   where
-    pick : (b : Bool) → sender (cond b (JoinVoted r (m .me) (m .voted) (m .vote)) (Join r (m .me))) ≡ m .me .0
+    pick : (b : Bool) → sender (cond b (JoinVoted r (m .who .me) (m .durable .voted) (m .durable .vote)) (Join r (m .who .me))) ≡ m .who .me .0
     pick true = refl
     pick false = refl
 
-own-counted : (m k : MemberState) (s : Member) (full : Outcome) → k .me ≡ m .me → k .n ≡ m .n → Own m full → Own m (cond (complete (counting k s)) full (silent (counting k s)))
+own-counted : (m k : MemberState) (s : Member) (full : Outcome) → k .who .me ≡ m .who .me → k .who .n ≡ m .who .n → Own m full → Own m (cond (complete (counting k s)) full (silent (counting k s)))
 own-counted m k s full p q f =
     either m (complete (counting k s)) full (silent (counting k s)) f (record { number = p; size = q; from = λ g i. elim i [ ]; one = omega arith })
 
-own-JOIN : (m k : MemberState) (r : Round) (s : Member) → k .me ≡ m .me → k .n ≡ m .n →
+own-JOIN : (m k : MemberState) (r : Round) (s : Member) → k .who .me ≡ m .who .me → k .who .n ≡ m .who .n →
     Own m (cond (complete (counting k s)) (proposes (counting k s) r) (silent (counting k s)))
 own-JOIN m k r s p q =
     own-counted m k s (proposes (counting k s) r) p q
-    (record { number = p; size = q; from = only (λ g. sender g ≡ m .me .0) (Propose r (k .me) (k .value)) (rw p refl); one = omega arith })
+    (record { number = p; size = q; from = only (λ g. sender g ≡ m .who .me .0) (Propose r (k .who .me) (k .lead .value)) (rw p refl); one = omega arith })
 
-own-adopting : (m : MemberState) (b : Bool) (q : Round) (w : ℕ) → (cond b (adopted m q w) m .me ≡ m .me) × (cond b (adopted m q w) m .n ≡ m .n)
+own-adopting : (m : MemberState) (b : Bool) (q : Round) (w : ℕ) → (cond b (adopted m q w) m .who .me ≡ m .who .me) × (cond b (adopted m q w) m .who .n ≡ m .who .n)
 own-adopting m true q w = (refl, refl)
 own-adopting m false q w = (refl, refl)
 
 pub own-row : (m : MemberState) (e : Event) → Own m (row m e)
 unfolding row
-own-row m (start r offer) = record { number = refl; size = refl; from = only (λ g. sender g ≡ m .me .0) (Start r (m .me)) refl; one = omega arith }
-own-row m (deliver (Start r s)) = record { number = refl; size = refl; from = only (λ g. sender g ≡ m .me .0) (join-of m r) (own-join m r); one = omega arith }
+own-row m (start r offer) = record { number = refl; size = refl; from = only (λ g. sender g ≡ m .who .me .0) (Start r (m .who .me)) refl; one = omega arith }
+own-row m (deliver (Start r s)) = record { number = refl; size = refl; from = only (λ g. sender g ≡ m .who .me .0) (join-of m r) (own-join m r); one = omega arith }
 own-row m (deliver (Join r s)) = own-JOIN m m r s refl refl
 own-row m (deliver (JoinVoted r s q w)) =
-    let (p, c) = own-adopting m (ltb (m .source .0) (q .0)) q w in own-JOIN m (adopting m q w) r s p c
-own-row m (deliver (Propose r s v)) = record { number = refl; size = refl; from = only (λ g. sender g ≡ m .me .0) (Vote r (m .me)) refl; one = omega arith }
+    let (p, c) = own-adopting m (ltb (m .lead .source .0) (q .0)) q w in own-JOIN m (adopting m q w) r s p c
+own-row m (deliver (Propose r s v)) = record { number = refl; size = refl; from = only (λ g. sender g ≡ m .who .me .0) (Vote r (m .who .me)) refl; one = omega arith }
 own-row m (deliver (Vote r s)) =
     own-counted m m s (decides (counting m s) r) refl refl (record { number = refl; size = refl; from = λ g i. elim i [ ]; one = omega arith })
 

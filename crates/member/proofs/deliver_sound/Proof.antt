@@ -15,7 +15,7 @@ returns : tie.Need-returns
 returns c =
     let args = c .before .args in
     let pre′ = c .before .pre in
-    let seven : length (args .m .flags) ≡ 7 = simp length-map at (c .before .good .0 .1 .1 .1 .1 .1 .1 .1 .1 .1 .1 .1 .0 .1 .0 .1) in
+    let seven : length (args .m .lead .flags) ≡ 7 = simp length-map at (c .before .good .0 .1 .1 .1 .1 .0 .1 .1 .1 .1 .1 .0 .1 .0 .1) in
     record { equals = c .on-message .ensures; kept = rw (c .on-message .ensures) (step-kept (args .m) (deliver (args .g)) seven (pre′ .0) (pre′ .1)) }
 
 pub deliver-sound-spec : {M : Type 1} → statement M

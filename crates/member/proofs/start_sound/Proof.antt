@@ -15,7 +15,7 @@ returns : tie.Need-returns
 unfolding sound-step
 returns c =
     let args = c .before .args in
-    let seven : length (args .m .flags) ≡ 7 = simp length-map at (c .before .good .0 .1 .1 .1 .1 .1 .1 .1 .1 .1 .1 .1 .0 .1 .0 .1) in
+    let seven : length (args .m .lead .flags) ≡ 7 = simp length-map at (c .before .good .0 .1 .1 .1 .1 .0 .1 .1 .1 .1 .1 .0 .1 .0 .1) in
     record { equals = c .on-start-call .ensures; kept = rw (c .on-start-call .ensures) (step-kept (args .m) (start (args .r) (args .offer)) seven (c .before .pre) refl) }
 
 pub start-sound-spec : {M : Type 1} → statement M

@@ -19,7 +19,7 @@ returns c =
     rw (
       c .before .count-below .ensures,
       c .count-below2 .ensures,
-    ) (counts-agree (args .m .n) (args .m .flags) (c .before .before .before .before .pre))
+    ) (counts-agree (args .m .who .n) (args .m .lead .flags) (c .before .before .before .before .pre))
 
 pub flags-sound-spec : {M : Type 1} → statement M
 flags-sound-spec = tie.close (tie.spec cast-n count-below-requires count-below-requires-2 returns)

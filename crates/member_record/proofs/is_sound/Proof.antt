@@ -40,7 +40,7 @@ flags-sound-requires : tie.Need-flags-sound-requires
 flags-sound-requires c κs =
     let args = c .before .before .before .before .before .before .before .args in
     let number-sound = c .before .before .before .before .before .number-sound in
-    omega (arith, number-sizes (args .m .me) (args .m .n) (rw (number-sound .ensures) at (not-false (number-sound .result) (c .before .before .before .before .if1 .left))))
+    omega (arith, number-sizes (args .m .who .me) (args .m .who .n) (rw (number-sound .ensures) at (not-false (number-sound .result) (c .before .before .before .before .if1 .left))))
 
 returns-4 : tie.Need-returns-4
 unfolding sound
@@ -62,7 +62,7 @@ lead-sound-requires : tie.Need-lead-sound-requires
 lead-sound-requires c κs =
     let args = c .before .before .before .before .before .before .before .before .before .args in
     let number-sound = c .before .before .before .before .before .before .before .number-sound in
-    omega (arith, number-sizes (args .m .me) (args .m .n) (rw (number-sound .ensures) at (not-false (number-sound .result) (c .before .before .before .before .before .before .if1 .left))))
+    omega (arith, number-sizes (args .m .who .me) (args .m .who .n) (rw (number-sound .ensures) at (not-false (number-sound .result) (c .before .before .before .before .before .before .if1 .left))))
 
 returns-5 : tie.Need-returns-5
 unfolding sound

@@ -31,7 +31,7 @@ returns-2 c =
 -- where the first two tests fail, the last cause is left
 left : (c : tie.Else2) →
     let args = c .before .before .before .before .before .args in
-    first (start-causes (args .m) (args .r)) ≡ first (leb (args .r .0) (args .m .led .0) gives 20 ∷ [])
+    first (start-causes (args .m) (args .r)) ≡ first (leb (args .r .0) (args .m .durable .led .0) gives 20 ∷ [])
 left c =
     let a = c .before .before .before in
     rw (
