@@ -25,7 +25,7 @@ SmallOffers es = (e : Event) → e ∈ es → SmallOffer e
 
 pub record SoundMember (m : MemberState) : Type 0 where
   pub is-sound : sound m ≡ true
-  pub seven : length (m .flags) ≡ 7
+  pub seven : length (m .lead .flags) ≡ 7
 
 pub record SoundOffice (z : Sizes) (o : Office) : Type 0 where
   -- N members, each sound
