@@ -13,7 +13,7 @@ ghost use Rattle.tree.specs.Promises.{Called, PathGiven};
 ghost use Rattle.message.specs.Reading.{read};
 ghost use Rattle.play.specs.Lent.{as-lent};
 ghost use Rattle.play.specs.Promise.{Given};
-ghost use Rattle.exports.specs.Results.{answer-of, voteless, message-result, refused-result, read-result};
+ghost use Rattle.exports.specs.Results.{as-play-answer, voteless, message-result, refused-result, read-result};
 
 // With a refusal each count is 0.
 #[repr(C)]
@@ -33,7 +33,7 @@ pub extern "C" fn kalebasin_play(
     nodes: &mut [u64],
     answered: &mut [u8],
 ) -> PlayResult
-    ensures { λ r. ⌜ Given (now (list .entry)) (as-lent (now (messages .entry)) (now (nodes .entry)) (now (answered .entry))) (answer-of r)
+    ensures { λ r. ⌜ Given (now (list .entry)) (as-lent (now (messages .entry)) (now (nodes .entry)) (now (answered .entry))) (as-play-answer r)
         (as-lent (now (messages .exit)) (now (nodes .exit)) (now (answered .exit))) ⌝ }
 {
     let p = play::play(list, messages, nodes, answered);

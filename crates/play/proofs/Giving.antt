@@ -3,7 +3,7 @@
 use mathlib.Core.Path.{_≡_, refl, sym, ap, subst, _∙_}
 use mathlib.Core.Bool.{true, false, not}
 use mathlib.Core.List.{List, [], _++_}
-use Prim.Native.Nat.{ℕ, suc, _/_, _≤_, _<_}
+use Prim.Native.Nat.{ℕ, suc, _≤_, _<_}
 use native.Mathlib.Omega.{arith}
 use lib.ListN.{length, drop, replicate, length-replicate}
 use lib.Dec.{ltb}
@@ -29,6 +29,7 @@ use Rattle.play_store.specs.Rows.{store-sized, stored}
 use Rattle.play_store.proofs.Stored.{cleared}
 use Rattle.play.specs.declared.PlayAnswer.{PlayAnswer}
 use Rattle.play.specs.Lent.{Lent, as-lent}
+use Rattle.play.proofs.Running.{same-store-rows, same-rows}
 use Rattle.play.specs.Promise.{list-causes, play-number, refused-list, sizes-of, Ready, Ran, Given}
 
 -- what fresh answers says whether the length is that of a table
@@ -139,7 +140,9 @@ module _ {list : List ℕ} {L : Lent} (P : PassedList list L) where
     on-lent =
         let es = events-of list in
         let cleared-sizes = sizes-of list (cleared-lent L .memory) in
-        let e : cleared-sizes ≡ sizes-of list (L .memory) = λ i. record { n = members-of list; store = length-clear i / 28; table = length-fresh i / 4 } in
+        let store-rows-same = same-store-rows (cleared-lent L .memory .store) (L .memory .store) length-clear in
+        let rows-same = same-rows (cleared-lent L .memory .table) (L .memory .table) length-fresh in
+        let e : cleared-sizes ≡ sizes-of list (L .memory) = λ i. record { n = members-of list; store = store-rows-same i; table = rows-same i } in
         record {
           number-ok = W .number-ok;
           answers-are = subst (λ y. L′ .answers ≡ answers y (first-office (y .n)) es ++ drop (length es) (L .answers)) e (W .answers-are);

@@ -2,7 +2,7 @@
 use mathlib.Core.Path.{_≡_, refl, sym, ap, subst, _∙_}
 use mathlib.Core.Bool.{true, _&&_}
 use mathlib.Core.List.{List, [], _∷_, _++_, append-assoc, List·Memᴰ·head as here, List·Memᴰ·tail as there}
-use Prim.Native.Nat.{ℕ, zero, suc, _+_, _-_, _/_, _≤_, _<_}
+use Prim.Native.Nat.{ℕ, zero, suc, _+_, _-_, _≤_, _<_}
 use native.Mathlib.Omega.{arith}
 use native.Mathlib.Numerals.{add-one}
 use lib.ListN.{length, getD, set, take, drop, length-drop, length-set}
@@ -13,27 +13,27 @@ use Rattle.laws.specs.Tests.{by-test, and-left, and-right}
 use Rattle.numbers.specs.Numbers.{OK}
 use Rattle.xdr.specs.Words.{Bytes}
 use Rattle.tree_theory.specs.Machine.{after}
-use Rattle.tree_theory.specs.Table.{sized, table}
+use Rattle.tree_theory.specs.Table.{rows, sized, table}
 use Rattle.tree_theory.proofs.Trees.{sized-rows}
 use Rattle.member_record.specs.declared.MemberState.{MemberState}
 use Rattle.member_record.specs.Record.{fresh as fresh-member}
-use Rattle.model.specs.Model.{Sizes, Event, Office, at-member, member-number, fresh-members, first-office, answers, proposals}
+use Rattle.model.specs.Model.{Event, Office, at-member, member-number, fresh-members, first-office, answers, proposals}
 use Rattle.model.specs.Model.{after as ended-from}
 use Rattle.model.specs.Demand.{calls, ended}
 use Rattle.model.specs.Counts.{tree, zeros, decisions}
 use Rattle.model.proofs.Fold.{after-last, answers-last, length-answers, zeros-append}
 use Rattle.model.proofs.Sound.{ended-sound}
 use Rattle.play_events.specs.declared.EventRead.{EventRead}
-use Rattle.play_events.specs.declared.Head.{Head}
+use Rattle.play_events.specs.declared.ListHead.{ListHead}
 use Rattle.play_events.specs.List.{HEAD-BYTES, members-of, count-of, head-of, body, list-fits, exact, events-in, events-of, event-at, event-size, behind, rest}
 use Rattle.play_events.specs.Value.{model-event, ReadsEvent}
 use Rattle.play_events.proofs.Events.{events-suc, behind-suc, length-events, due-stands, offers-small, bytes-left}
-use Rattle.play_store.specs.Rows.{store-sized, stored}
+use Rattle.play_store.specs.Rows.{store-rows, store-sized, stored}
 use Rattle.play_effects.specs.declared.AfterEvent.{AfterEvent}
 use Rattle.play_effects.specs.declared.Tally.{Tally}
 use Rattle.play_effects.specs.Memory.{Memory}
 use Rattle.play_office.specs.declared.PlayedOffice.{PlayedOffice}
-use Rattle.play_office.specs.Represents.{RecordAt, MemorySizes, Represents, StepBefore, StepAfter, EventBefore, EventWorked, fresh-office, place-of}
+use Rattle.play_office.specs.Represents.{MemorySizes, Represents, StepBefore, StepAfter, EventBefore, EventWorked, fresh-office, place-of}
 use Rattle.play_office.proofs.Before.{default, place-below, allowed-seven, sent-few, proposals-few, decisions-few}
 use Rattle.play.specs.Lent.{Lent}
 use Rattle.play.specs.Promise.{sizes-of, one, Ready, Ran}
@@ -63,6 +63,12 @@ same-sized s t e h = rw (← e) h
 
 same-table : (s t : List ℕ) → length s ≡ length t → sized s ≡ true → sized t ≡ true
 same-table s t e h = rw (← e) h
+
+pub same-store-rows : (s t : List ℕ) → length s ≡ length t → store-rows s ≡ store-rows t
+same-store-rows s t e = rw e refl
+
+pub same-rows : (s t : List ℕ) → length s ≡ length t → rows s ≡ rows t
+same-rows s t e = rw e refl
 
 -- the model after k events of a list
 abbrev pub played-to : List ℕ → Memory → ℕ → Office
@@ -125,13 +131,13 @@ module _ {list : List ℕ} {L₀ : Lent} (D : Ready list L₀) where
         };
       }
 
-  pub running-first : Bytes list → {h : Head} {k : PlayedOffice} → h ≡ head-of list → k ≡ fresh-office (h .members) →
+  pub running-first : Bytes list → {h : ListHead} {k : PlayedOffice} → h ≡ head-of list → k ≡ fresh-office (h .members) →
       Running list L₀ (h .count) L₀ (k .members) (k .tally) 0 (h .begin) 0
   unfolding events-in behind answers zeros
   running-first b {h} {k} eh ek =
-      subst (λ (h : Head). Running list L₀ (h .count) L₀ (k .members) (k .tally) 0 (h .begin) 0) (sym eh)
+      subst (λ (h : ListHead). Running list L₀ (h .count) L₀ (k .members) (k .tally) 0 (h .begin) 0) (sym eh)
       (subst (λ (k : PlayedOffice). Running list L₀ (count-of list) L₀ (k .members) (k .tally) 0 HEAD-BYTES 0)
-      (sym (ek ∙ ap (λ (h : Head). fresh-office (h .members)) eh))
+      (sym (ek ∙ ap (λ (h : ListHead). fresh-office (h .members)) eh))
       (record {
         ready = D;
         bytes = b;
@@ -157,9 +163,9 @@ module _ {list : List ℕ} {L₀ : Lent} {count : ℕ} {L : Lent} {members : Lis
       record {
         allowed-size = D .members;
         store-length = same-sized (L₀ .memory .store) (L .memory .store) (sym (G .store-long)) (D .store-length);
-        store-is = ap (λ n. n / 28) (sym (G .store-long));
+        store-is = same-store-rows (L₀ .memory .store) (L .memory .store) (sym (G .store-long));
         table-length = same-table (L₀ .memory .table) (L .memory .table) (sym (G .table-long)) (D .table-length);
-        table-is = ap (λ n. n / 4) (sym (G .table-long));
+        table-is = same-rows (L₀ .memory .table) (L .memory .table) (sym (G .table-long));
       }
 
   abbrev before : StepBefore t (L .memory)
@@ -172,7 +178,9 @@ module _ {list : List ℕ} {L₀ : Lent} {count : ℕ} {L : Lent} {members : Lis
         o = ended z es;
         members = members;
         sizes = sizes;
-        sound = ended-sound z es (D .members) (offers-small k (body list) (bytes-left HEAD-BYTES list (G .bytes))) (sized-rows (L₀ .memory .table) (D .table-length));
+        sound =
+            ended-sound z es (D .members) (offers-small k (body list) (bytes-left HEAD-BYTES list (G .bytes)))
+            (sized-rows (L₀ .memory .table) (D .table-length));
         represents = G .represents;
       }
 
@@ -223,7 +231,8 @@ module _ {list : List ℕ} {L₀ : Lent} {count : ℕ} {L : Lent} {members : Lis
         let n = w .number in
         let answered₀ = L₀ .answers in
         let more : events-in (k + 1) (body list) ≡ es ++ e ∷ [] =
-        ap (λ n. events-in n (body list)) (add-one k) ∙ events-suc k (body list) ∙ ap (λ s. es ++ event-at s ∷ []) (sym (G .place)) ∙ ap (λ x. es ++ x ∷ []) (sym ee) in
+        ap (λ n. events-in n (body list)) (add-one k) ∙ events-suc k (body list) ∙ ap (λ s. es ++ event-at s ∷ []) (sym (G .place)) ∙
+        ap (λ x. es ++ x ∷ []) (sym ee) in
         let along : answers z o (events-in (k + 1) (body list)) ≡ A ++ n ∷ [] =
         ap (answers z o) more ∙ answers-last z o es e ∙ ap (λ n. A ++ n ∷ []) (sym (worked .number-is)) in
         let reached : played-to list (L₀ .memory) (k + 1) ≡ _ = ap (ended z) more ∙ after-last z o es e in
@@ -254,8 +263,8 @@ module _ {list : List ℕ} {L₀ : Lent} {count : ℕ} {L : Lent} {members : Lis
         }
 
   -- the same of what the turn read, and of its 1 or 0
-  pub running-next : k < count → {s : List ℕ} → s ≡ drop at list → {r : EventRead} → ReadsEvent s r → {i : ℕ} → i ≡ place-of (at-member (model-event (r .event))) →
-      (d : MemberState) {w : AfterEvent} {M′ : Memory} {n : ℕ} → n ≡ one (w .number) →
+  pub running-next : k < count → {s : List ℕ} → s ≡ drop at list → {r : EventRead} → ReadsEvent s r →
+      {i : ℕ} → i ≡ place-of (at-member (model-event (r .event))) → (d : MemberState) {w : AfterEvent} {M′ : Memory} {n : ℕ} → n ≡ one (w .number) →
       length (M′ .store) ≡ length (L .memory .store) → length (M′ .table) ≡ length (L .memory .table) →
       EventWorked t (getD members i d) (model-event (r .event)) (L .memory) w M′ →
       Running list L₀ count (record { memory = M′; answers = set (L .answers) k (w .number) }) (set members i (w .state)) (w .tally)

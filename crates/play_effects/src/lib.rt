@@ -10,7 +10,8 @@ ghost use Rattle.tree_theory.specs.Machine.{add, commit};
 ghost use Rattle.tree_theory.specs.Table.{sized, Tree};
 ghost use Rattle.message.specs.Fields.{in-range};
 ghost use Rattle.play_effects.specs.Memory.{in-memory};
-ghost use Rattle.play_effects.specs.Effects.{CountsFit, counted, refused-event, no-room-to-send, no-room-to-propose, proposal-number, SendEffect, ProposalEffect, DecisionEffect};
+ghost use Rattle.play_effects.specs.Effects.{CountsFit, counted, refused-event, no-room-to-send, no-room-to-propose, proposal-number};
+ghost use Rattle.play_effects.specs.Effects.{SendEffect, ProposalEffect, DecisionEffect};
 
 // N, and how many messages were sent, proposals and decisions made.
 pub struct Tally {

@@ -6,7 +6,7 @@ use lib.ListN.{length, drop}
 use lib.Dec.{leb, eqb}
 use Rattle.xdr.specs.Words.{word-at, hyper-at}
 use Rattle.model.specs.Model.{Event, start, deliver}
-use Rattle.play_events.specs.declared.Head.{Head}
+use Rattle.play_events.specs.declared.ListHead.{ListHead}
 
 -- the bytes of the head; the events begin behind it
 abbrev pub HEAD-BYTES : ℕ
@@ -18,7 +18,7 @@ members-of list = word-at list 0
 abbrev pub count-of : List ℕ → ℕ
 count-of list = word-at list 4
 
-abbrev pub head-of : List ℕ → Head
+abbrev pub head-of : List ℕ → ListHead
 head-of list = record { members = members-of list; count = count-of list; begin = HEAD-BYTES }
 
 abbrev pub body : List ℕ → List ℕ

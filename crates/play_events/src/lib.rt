@@ -1,4 +1,4 @@
-// Event lists (01, "Play"): the head, which is N and the event count, then the events. Head and events are read here alone.
+// Event lists (01, "Play"): the head, which is N and the event count, then the events. Both are read here alone.
 use ids::Member;
 use ids::Round;
 ghost use mathlib.Core.Path.{_≡_};
@@ -22,7 +22,7 @@ const START_BYTES: usize = 20;
 const DELIVER_BYTES: usize = 12;
 
 // N, the event count, and where the events begin.
-pub struct Head {
+pub struct ListHead {
     pub members: u32,
     pub count: u32,
     pub begin: usize,
@@ -48,11 +48,11 @@ pub struct EventRead {
 }
 
 // The head of a list.
-pub fn read_head(list: &[u8]) -> Head
+pub fn read_head(list: &[u8]) -> ListHead
     requires { ⌜ HEAD-BYTES ≤ length (now list) ⌝ }
     ensures { λ h. ⌜ h ≡ head-of (now (list .entry)) ⌝ }
 {
-    Head {
+    ListHead {
         members: xdr::word_at(list, 0),
         count: xdr::word_at(list, 4),
         begin: HEAD_BYTES,

@@ -17,7 +17,8 @@ use Rattle.message.specs.declared.Message.{Message}
 use Rattle.message.specs.Fields.{in-range}
 use Rattle.member_record.specs.declared.MemberState.{MemberState}
 use Rattle.member_rules.specs.declared.refusals.Refusal.{Refusal}
-use Rattle.member_rules.specs.declared.refusals.Refusal.the-variants.{NotSound, Field, RoundRange, NotLeader, NotAboveLed, Sender, MovedPast, OtherValue, NotAwaited, CountedAlready}
+use Rattle.member_rules.specs.declared.refusals.Refusal.the-variants.{NotSound, Field, RoundRange, NotLeader, NotAboveLed}
+use Rattle.member_rules.specs.declared.refusals.Refusal.the-variants.{Sender, MovedPast, OtherValue, NotAwaited, CountedAlready}
 use Rattle.member_rules.specs.Refusals.{refusal-number}
 use Rattle.member.specs.declared.Answer.{Answer}
 use Rattle.member.specs.declared.Answer.the-variants.{Sent, Proposed}
@@ -39,7 +40,8 @@ use Rattle.play_effects.specs.Memory.{Memory, in-memory}
 use Rattle.play_effects.specs.Effects.{counted, refused-event, accepted-event, no-room-to-send, no-room-to-propose, SendEffect, ProposalEffect, DecisionEffect}
 use Rattle.play_office.specs.Represents.{RecordAt, StepBefore, StepAfter, ModelStep, OutcomeBefore}
 use Rattle.play_office.proofs.Before.{nodes-held}
-use Rattle.play_office.proofs.Settling.{as-result, refused-after, accepted-after, refused-step, no-store-row, no-table-row, sent-one, proposed-one, silent-one}
+use Rattle.play_office.proofs.Settling.{refused-step, no-store-row, no-table-row, sent-one, proposed-one, silent-one}
+use Rattle.play_office.proofs.Settling.{as-result, refused-after, accepted-after}
 
 -- what a step that proposes, or decides, comes to
 abbrev pub proposing : MemberState → Message → ℕ → ℕ → ℕ → Outcome

@@ -81,7 +81,8 @@ module _ {t : Tally} {m : MemberState} {row k : ℕ} {M : Memory} (E : EventBefo
   pub no-message : k < t .n → t .sent ≤ row → StepAfter (E .before) (deliver row k) (place-of k) (refused-event m t NO-SUCH) M
   no-message a h =
       let R = E .before .represents in
-      no-such E (rw (lt-leb (E .before .z .n) k (omega (arith, R .slot .size)), le-leb (length (E .before .o .sent)) row (omega (arith, R .shared .sent-count))) refl)
+      let member = lt-leb (E .before .z .n) k (omega (arith, R .slot .size)) in
+      no-such E (rw (member, le-leb (length (E .before .o .sent)) row (omega (arith, R .shared .sent-count))) refl)
 
   module _ (h : row < t .sent) where
     pub row-within : 28 * row + 28 ≤ length (M .store)

@@ -8,7 +8,7 @@ use borrow.Author.Tests.{not-true, not-false}
 use denote.Ref.{now}
 use Rattle.tree_theory.specs.Table.{sized}
 use Rattle.member_record.specs.Record.{allowed}
-use Rattle.play_events.specs.declared.Head.{Head}
+use Rattle.play_events.specs.declared.ListHead.{ListHead}
 use Rattle.play_events.specs.List.{members-of, count-of, list-fits}
 use Rattle.play_store.specs.Rows.{store-sized}
 use Rattle.play.specs.Lent.{Lent, as-lent}
@@ -35,8 +35,11 @@ fourth-test c = c .before .before
 abbrev made-fresh : tie.After-number → tie.After-fresh
 made-fresh c = c .before .before .before
 
+abbrev store-back : tie.After-run-arg3 → tie.After-slice-known5
+store-back c = c .before .before .before
+
 abbrev cleared : tie.After-run-arg3 → tie.After-clear
-cleared c = c .before .before .before .before .before
+cleared c = store-back c .before .before
 
 abbrev was-run : tie.After-slice-known8 → tie.After-run
 was-run c = c .before .before .before .before .before .before
@@ -62,7 +65,7 @@ fitting : (c : tie.Else1) → list-fits (now (entry (c .before) .args .list)) �
 fitting c = sym (c .before .fits2 .ensures) ∙ not-false _ (c .if1 .left)
 
 members-read : (c : tie.After-is-allowed) → allowed (members-of (now (entry-2 c .args .list))) ≡ c .is-allowed .result
-members-read c = ap (λ (h : Head). allowed (h .members)) (sym (c .before .read-head .ensures)) ∙ sym (c .is-allowed .ensures)
+members-read c = ap (λ (h : ListHead). allowed (h .members)) (sym (c .before .read-head .ensures)) ∙ sym (c .is-allowed .ensures)
 
 few-members : (c : tie.Else2) → allowed (members-of (now (entry-2 (c .before) .args .list))) ≡ true
 few-members c = members-read (c .before) ∙ not-false _ (c .if2 .left)
@@ -71,7 +74,7 @@ whole-rows : (c : tie.Else3) → store-sized (now (entry-3 (c .before) .args .me
 whole-rows c = sym (c .before .has-store-length .ensures) ∙ not-false _ (c .if3 .left)
 
 count-read : (c : tie.After-read-head) → c .read-head .result .count ≡ count-of (now (entry (c .before .before) .args .list))
-count-read c = ap (λ (h : Head). h .count) (c .read-head .ensures)
+count-read c = ap (λ (h : ListHead). h .count) (c .read-head .ensures)
 
 enough : (c : tie.Else4) → count-of (now (entry-4 (c .before) .args .list)) ≤ length (now (entry-4 (c .before) .args .answered))
 enough c = omega (arith, count-read (second-test (c .before .before .before) .before .before))

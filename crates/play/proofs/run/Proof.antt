@@ -1,17 +1,17 @@
 -- `play::run` meets its contract: after k turns the memory represents the model after k events. Assumes nothing.
-use mathlib.Core.Path.{_≡_, sym, ap, _∙_}
-use Prim.Native.Nat.{_-_, _≤_, _<_}
+use mathlib.Core.Path.{sym, ap, _∙_}
+use Prim.Native.Nat.{_-_, _<_}
 use native.Mathlib.Omega.{arith}
 use borrow.Author.Needs.{needs}
 use denote.Ref.{now}
-use lib.ListN.{length, drop}
 use Rattle.laws.specs.Parts.{to-end}
-use Rattle.play_events.specs.List.{HEAD-BYTES, event-size}
+use Rattle.play_events.specs.List.{event-size}
 use Rattle.play_events.specs.Value.{model-event}
 use Rattle.model.specs.Model.{at-member}
 use Rattle.play_office.proofs.Before.{place-below}
 use Rattle.play.specs.Lent.{as-lent}
-use Rattle.play.proofs.Running.{Running, list-parts, bytes-of, running-first, event-before, due, at-next, few-events, answer-room, answer-small, running-next, counts-small, one-most, ran}
+use Rattle.play.proofs.Running.{Running, list-parts, bytes-of, running-first, event-before, due, at-next, few-events}
+use Rattle.play.proofs.Running.{answer-room, answer-small, running-next, counts-small, one-most, ran}
 use Rattle.play.proofs.run.Statement.{statement}
 use Rattle.play.proofs.run.Tie as tie
 
@@ -27,8 +27,11 @@ abbrev μ-loop : tie.MeasureT-loop
 abbrev entry : tie.After-read-head Inv-loop μ-loop → tie.After-shared-slice-known Inv-loop μ-loop
 entry c = c .before .before .before .before
 
+abbrev made-fresh : tie.After-tally Inv-loop μ-loop → tie.After-fresh-office Inv-loop μ-loop
+made-fresh c = c .before .before
+
 abbrev head : tie.After-tally Inv-loop μ-loop → tie.After-read-head Inv-loop μ-loop
-head c = c .before .before .before .before
+head c = made-fresh c .before .before
 
 -- a turn's start, from where its event is read; its place, from where it is worked; and these from where it is written down
 abbrev turn : tie.After-struct-known2 Inv-loop μ-loop → tie.In-loop Inv-loop μ-loop
@@ -60,7 +63,7 @@ loop-holds : tie.Need-loop-holds Inv-loop μ-loop
 loop-holds c =
     let s = entry (head c) in
     running-first (s .before .pre) (bytes-of (now (s .before .args .list)) (λ i. omega (arith, s .shared-slice-known .given i)))
-    (head c .read-head .ensures) (c .before .before .fresh-office .ensures)
+    (head c .read-head .ensures) (made-fresh c .fresh-office .ensures)
 
 sub-read-event : tie.Need-sub-read-event Inv-loop μ-loop
 sub-read-event c = omega (arith, c .before .loop .inv .at-within)

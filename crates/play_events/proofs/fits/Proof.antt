@@ -5,7 +5,7 @@ use native.Mathlib.Omega.{arith}
 use borrow.Author.Needs.{needs}
 use borrow.Author.Tests.{le-leb, lt-leb}
 use denote.Ref.{now}
-use Rattle.play_events.specs.declared.Head.{Head}
+use Rattle.play_events.specs.declared.ListHead.{ListHead}
 use Rattle.play_events.specs.List.{count-of, list-fits}
 use Rattle.play_events.proofs.fits.Statement.{statement}
 use Rattle.play_events.proofs.fits.Tie as tie
@@ -19,7 +19,7 @@ read-head-requires c κs = search needs
 
 -- the count that was read
 counted : (c : tie.After-read-head) → c .read-head .result .count ≡ count-of (now (c .before .before .before .args .list))
-counted c = ap (λ (h : Head). h .count) (c .read-head .ensures)
+counted c = ap (λ (h : ListHead). h .count) (c .read-head .ensures)
 
 returns-2 : tie.Need-returns-2
 unfolding list-fits

@@ -5,7 +5,8 @@ use Rattle.member_rules.specs.Refusals.{refusal-number}
 use Rattle.member_rules.proofs.Checks.{numbered}
 use Rattle.play_office.proofs.Before.{counts-fit, is-a-tree}
 use Rattle.play_office.proofs.Settling.{as-result}
-use Rattle.play_office.proofs.Arms.{by-answer, refusal-small, sent-ranged, answers-sent, answers-proposed, refuses, goes-silent, sends-go, proposes-go, decides-go}
+use Rattle.play_office.proofs.Arms.{by-answer, refusal-small, sent-ranged, answers-sent, answers-proposed}
+use Rattle.play_office.proofs.Arms.{refuses, goes-silent, sends-go, proposes-go, decides-go}
 use borrow.Author.Needs.{needs}
 use Rattle.play_office.proofs.settle.Statement.{statement}
 use Rattle.play_office.proofs.settle.Tie as tie

@@ -3,7 +3,7 @@ use mathlib.Core.Path.{ap}
 use native.Mathlib.Omega.{arith}
 use denote.Ref.{now}
 use borrow.Author.Needs.{needs}
-use Rattle.play_events.specs.declared.Head.{Head}
+use Rattle.play_events.specs.declared.ListHead.{ListHead}
 use Rattle.play.specs.Lent.{as-lent}
 use Rattle.play.proofs.Giving.{PassedList, taken-passed}
 use Rattle.play.proofs.Running.{list-parts}
@@ -61,7 +61,7 @@ part-write-answers-start c = search needs
 part-write-answers-end : tie.Need-part-write-answers-end
 part-write-answers-end c =
     let head = c .before .before in
-    omega (arith, passed-list (head .before) .room, ap (λ (h : Head). h .count) (head .read-head .ensures))
+    omega (arith, passed-list (head .before) .room, ap (λ (h : ListHead). h .count) (head .read-head .ensures))
 
 write-answers-requires : tie.Need-write-answers-requires
 write-answers-requires c κs = search needs

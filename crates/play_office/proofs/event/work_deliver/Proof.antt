@@ -13,12 +13,15 @@ entry c = c .before .before .before .before
 abbrev a-member : tie.Else2 → tie.Else1
 a-member c = c .before .before
 
--- the message fetched, from where the step is settled; and that from the end
+-- the message fetched, from where the step is settled; and that from the end, where the memory is back
 abbrev fetched : tie.After-settle-arg2 → tie.After-fetch
 fetched c = c .before .before .before
 
+abbrev store-back : tie.After-slice-known4 → tie.After-slice-known3
+store-back c = c .before .before
+
 abbrev settled : tie.After-slice-known4 → tie.After-settle
-settled c = c .before .before .before .before
+settled c = store-back c .before .before
 
 refused-event-requires : tie.Need-refused-event-requires
 refused-event-requires c κs = search needs

@@ -5,15 +5,18 @@ use borrow.Author.Needs.{needs}
 use Rattle.play_office.proofs.event.work_start.Statement.{statement}
 use Rattle.play_office.proofs.event.work_start.Tie as tie
 
--- the entry, from where the member is compared; the step, from where it is settled; and that from the end
+-- the entry, from where the member is compared; the step, from where it is settled; and that from the end, where the memory is back
 abbrev entry : tie.After-struct-known2 → tie.Start
 entry c = c .before .before .before .before
 
 abbrev stepped : tie.After-settle-arg2 → tie.After-start-sound
 stepped c = c .before .before
 
+abbrev store-back : tie.After-slice-known4 → tie.After-slice-known3
+store-back c = c .before .before
+
 abbrev settled : tie.After-slice-known4 → tie.After-settle
-settled c = c .before .before .before .before
+settled c = store-back c .before .before
 
 refused-event-requires : tie.Need-refused-event-requires
 refused-event-requires c κs = search needs
