@@ -1,55 +1,91 @@
--- What the check of a row's refusals says of the step: no refusal has number 0, so the check passed exactly if the causes come to 0. Assumes nothing.
-use mathlib.Core.Path.{_≡_, refl, sym, _∙_, ap}
-use mathlib.Core.Bool.{Bool, true, false, not}
-use mathlib.Core.List.{List}
+-- What the number of an event's check says of the move, and that the number of a refusal is a byte and not 0. Assumes nothing.
+use mathlib.Core.Path.{_≡_, refl, sym, subst, _∙_, ap}
+use mathlib.Core.Bool.{Bool, true, false, not, _&&_}
+use mathlib.Core.List.{List, [], _∷_}
 use Prim.Native.Nat.{ℕ, _<_}
-use borrow.Author.Tests.{not-true, not-false}
-use lib.Dec.{ltb}
-use Rattle.laws.specs.Tests.{tests, by-test}
+use native.Mathlib.Omega.{arith}
+use borrow.Author.Tests.{not-true, not-false, ne-eqb}
+use lib.Dec.{ltb, eqb}
+use Rattle.laws.specs.Tests.{tests, by-test, and-left, and-right}
 use Rattle.laws.specs.First.{Cause, first, passed}
 use Rattle.ids.specs.declared.Round.{Round}
 use Rattle.ids.specs.declared.Member.{Member}
+use Rattle.message.specs.declared.Message.the-variants.{Start, Join, JoinVoted, Propose, Vote}
+use Rattle.member_record.specs.declared.Who.{Who}
 use Rattle.member_record.specs.declared.MemberState.{MemberState}
-use Rattle.member_rules.specs.declared.refusals.Refusal.{Refusal}
-use Rattle.member_rules.specs.declared.refusals.Check.{Check}
-use Rattle.member_rules.specs.declared.refusals.Check.the-variants.{Pass, Refused}
 use Rattle.member_rules.specs.Causes.{count-causes}
-use Rattle.member_rules.specs.Refusals.{refusal-number, check-number}
-use Rattle.member_rules.proofs.Checks.{numbered}
 use Rattle.member_rules.specs.Changes.{adopting}
-use Rattle.member.specs.Table.{Outcome, refused, silent, unless, complete, at-quorum}
+use Rattle.member.specs.declared.Answer.{Answer}
+use Rattle.member.specs.declared.Answer.the-variants.{Refused}
+use Rattle.member.specs.declared.Move.{Move}
+use Rattle.member.specs.Answers.{answer-outcome, numbered-answer, MoveIs}
+use Rattle.member.specs.Kept.{Kept}
+use Rattle.member.specs.Table.{Outcome, refused, silent, unless, complete, completes, counted, Event, start, deliver, causes}
 
--- the causes, the record, what the row says, and the check
-module _ (cs : List Cause) (m : MemberState) (o : Outcome) (b : Check) (is : check-number b ≡ first cs) where
-  pub check-refused : (k : Refusal) → b ≡ Refused k → {t : Outcome} → t ≡ refused (refusal-number k) m → t ≡ unless cs m o
-  check-refused k h e =
-      let n : first cs ≡ refusal-number k = sym is ∙ ap check-number h in
-      rw (n, numbered k) e
+-- the causes, the record, what the row says, and the number
+module _ (cs : List Cause) (m : MemberState) (o : Outcome) {k : ℕ} (is : k ≡ first cs) where
+  pub check-refused : (k ≡ 0 → ⊥) → {t : Move} → MoveIs (refused k m) t → MoveIs (unless cs m o) t
+  check-refused nz e =
+      let n : first cs ≡ k = sym is in
+      record { equals = rw (n, ne-eqb k 0 nz) (e .equals); numbered = e .numbered }
 
-  pub check-passed : b ≡ Pass → {t : Outcome} → t ≡ o → t ≡ unless cs m o
-  check-passed h e =
-      let n : first cs ≡ 0 = sym is ∙ ap check-number h in
-      rw n e
+  pub check-passed : k ≡ 0 → {t : Move} → MoveIs o t → MoveIs (unless cs m o) t
+  check-passed z e =
+      let n : first cs ≡ 0 = sym is ∙ z in
+      record { equals = rw n (e .equals); numbered = e .numbered }
 
 -- a sender that passed is a member
-pub check-sender : (phase : ℕ) (m : MemberState) (r : Round) (s : Member) (b : Check) → check-number b ≡ first (count-causes phase m r s) → b ≡ Pass → s .0 < m .who .n
-check-sender phase m r s b e h =
-    let (t, rest) = passed (count-causes phase m r s) refl (sym e ∙ ap check-number h) in
+pub check-sender : (phase : ℕ) (m : MemberState) (r : Round) (s : Member) {k : ℕ} → k ≡ first (count-causes phase m r s) → k ≡ 0 → s .0 < m .who .n
+check-sender phase m r s e z =
+    let (t, rest) = passed (count-causes phase m r s) refl (sym e ∙ z) in
     omega tests
 
--- a count short of the quorum, and one that reaches it, by the test that the code makes on the record counted
-module _ (full : MemberState → Outcome) (m d : MemberState) (b : Bool) (same : d ≡ m) (is : b ≡ complete d) where
-  pub short : not b ≡ true → silent d ≡ at-quorum full m
+-- a record short of what its phase needs, and one that has it, by the test that the code makes on the record counted
+module _ (phase : ℕ) (r : Round) {m d : MemberState} {b : Bool} (same : d ≡ m) (is : b ≡ complete d) where
+  pub short : not b ≡ true → silent d ≡ counted phase m r
   short h =
-      let e : silent d ≡ at-quorum full d = rw (← is, not-true b h) refl in
-      e ∙ ap (λ k. at-quorum full k) same
+      let e : silent d ≡ counted phase d r = rw (← is, not-true b h) refl in
+      e ∙ ap (λ k. counted phase k r) same
 
-  pub reached : not b ≡ false → full d ≡ at-quorum full m
-  reached h =
-      let e : full d ≡ at-quorum full d = rw (← is, not-false b h) refl in
-      e ∙ ap (λ k. at-quorum full k) same
+  pub reached : not b ≡ false → {t : Move} → MoveIs (completes phase d r) t → MoveIs (counted phase m r) t
+  reached h q =
+      let e : completes phase d r ≡ counted phase d r = rw (← is, not-false b h) refl in
+      record { equals = q .equals ∙ e ∙ ap (λ k. counted phase k r) same; numbered = q .numbered }
 
--- a vote taken over leaves N
-pub adopting-size : (m : MemberState) (q : Round) (w : ℕ) → adopting m q w .who .n ≡ m .who .n
+-- a vote taken over leaves the group that says who the member is
+pub adopting-who : (m : MemberState) (q : Round) (w : ℕ) → adopting m q w .who ≡ m .who
 unfolding adopting
-adopting-size m q w = by-test (ltb (m .lead .source .0) (q .0)) (λ t. rw t refl) (λ t. rw t refl)
+adopting-who m q w = by-test (ltb (m .lead .source .0) (q .0)) (λ t. rw t refl) (λ t. rw t refl)
+
+-- each number is a byte
+abbrev all-bytes : List Cause → Bool
+all-bytes [] = true
+all-bytes (c ∷ cs) = ltb (c .number) 256 && all-bytes cs
+
+first-byte : (cs : List Cause) → all-bytes cs ≡ true → first cs < 256
+first-byte [] h = omega arith
+first-byte (c ∷ cs) h =
+    by-test (c .holds)
+    (λ t. rw t (omega (tests, and-left (ltb (c .number) 256) (all-bytes cs) h)))
+    (λ t. rw t (first-byte cs (and-right (ltb (c .number) 256) (all-bytes cs) h)))
+
+pub causes-byte : (m : MemberState) (e : Event) → first (causes m e) < 256
+unfolding causes
+causes-byte m e = first-byte (causes m e) (each e)
+  where
+    each : (e : Event) → all-bytes (causes m e) ≡ true
+    each (start r offer) = refl
+    each (deliver (Start r s)) = refl
+    each (deliver (Join r s)) = refl
+    each (deliver (JoinVoted r s q w)) = refl
+    each (deliver (Propose r s v)) = refl
+    each (deliver (Vote r s)) = refl
+
+-- the number of an answer that refuses is a byte, and not 0
+pub refused-byte : (m : MemberState) {a : Answer} {k : ℕ} → a ≡ Refused k → Kept (answer-outcome m a) → k < 256
+refused-byte m q K = subst (λ b. answer-outcome m b .number < 256) q (K .number-byte)
+
+pub refused-some : {a : Answer} {k : ℕ} → a ≡ Refused k → numbered-answer a ≡ true → k ≡ 0 → ⊥
+refused-some {a} {k} q h z =
+    let n : not (eqb k 0) ≡ true = subst (λ b. numbered-answer b ≡ true) q h in
+    absurd (omega (tests, not-true (eqb k 0) n))

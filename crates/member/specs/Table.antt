@@ -6,12 +6,13 @@ use lib.Dec.{eqb}
 use Rattle.laws.specs.First.{Cause, _gives_, first}
 use Rattle.ids.specs.declared.Round.{Round}
 use Rattle.ids.specs.declared.Member.{Member}
-use Rattle.quorum.specs.Quorum.{quorum}
+use Rattle.numbers.specs.Numbers.{NOT-SOUND, MESSAGE-FIELD}
 use Rattle.message.specs.declared.Message.{Message}
 use Rattle.message.specs.declared.Message.the-variants.{Start, Join, JoinVoted, Propose, Vote}
 use Rattle.message.specs.Fields.{in-range}
 use Rattle.member_record.specs.declared.MemberState.{MemberState}
-use Rattle.member_record.specs.Record.{flagged, sound, sound-number, fresh}
+use Rattle.member_record.specs.Phases.{COLLECTING, PROPOSED, needed}
+use Rattle.member_record.specs.Record.{flagged, sound}
 use Rattle.member_rules.specs.Causes.{start-causes, START-causes, count-causes, PROPOSE-causes}
 use Rattle.member_rules.specs.Changes.{leading, joining, join-of, counting, adopting, proposing, voting, deciding}
 
@@ -52,22 +53,14 @@ start-row m r offer = sends (leading m r offer) (Start r (m .who .me))
 abbrev pub START-row : MemberState → Round → Outcome
 START-row m r = sends (joining m r) (join-of m r)
 
--- at f+1 flags
+-- as many flags as the phase needs: f+1
 abbrev pub complete : MemberState → Bool
-complete m = eqb (flagged (m .lead .flags)) (quorum (m .who .n))
-
--- what happens at f+1 flags, and nothing more before
-abbrev pub at-quorum : (MemberState → Outcome) → MemberState → Outcome
-at-quorum full m = cond (complete m) (full m) (silent m)
+complete m = eqb (flagged (m .lead .flags)) (needed (m .who) (m .lead .phase))
 
 -- phase 2, flags cleared, sends PROPOSE(r, X), and the answer names r, X, B: add(r, X, B)
 abbrev pub proposes : MemberState → Round → Outcome
 proposes m r =
     record { number = 0; state = proposing m; sent = Propose r (m .who .me) (m .lead .value) ∷ []; named = proposal (r .0) (m .lead .value) (m .lead .source .0) }
-
--- JOIN r once its vote is taken over: flags the sender; at f+1 flags it proposes
-abbrev pub JOIN-row : MemberState → Round → Member → Outcome
-JOIN-row m r s = at-quorum (λ k. proposes k r) (counting m s)
 
 -- PROPOSE r, v: J = V = r, W = v; sends VOTE
 abbrev pub PROPOSE-row : MemberState → Round → ℕ → Outcome
@@ -77,9 +70,17 @@ PROPOSE-row m r v = sends (voting m r v) (Vote r (m .who .me))
 abbrev pub decides : MemberState → Round → Outcome
 decides m r = record { number = 0; state = deciding m; sent = []; named = decision (r .0) (m .lead .value) }
 
--- VOTE r: flags the sender; at f+1 flags it decides
-abbrev pub VOTE-row : MemberState → Round → Member → Outcome
-VOTE-row m r s = at-quorum (λ k. decides k r) (counting m s)
+-- what happens once the flags of a phase are complete
+abbrev pub completes : ℕ → MemberState → Round → Outcome
+completes phase m r = cond (eqb phase COLLECTING) (proposes m r) (decides m r)
+
+-- a record counted: at f+1 flags the phase is complete, and nothing more happens before
+abbrev pub counted : ℕ → MemberState → Round → Outcome
+counted phase m r = cond (complete m) (completes phase m r) (silent m)
+
+-- JOIN r, awaited while COLLECTING, its vote taken over before, and VOTE r, awaited once PROPOSED: flags the sender
+abbrev pub count-row : ℕ → MemberState → Round → Member → Outcome
+count-row phase m r s = counted phase (counting m s) r
 
 -- an event of a member
 pub data Event : Type 0 where
@@ -90,20 +91,20 @@ pub data Event : Type 0 where
 unfoldable pub causes : MemberState → Event → List Cause
 causes m (start r offer) = start-causes m r
 causes m (deliver (Start r s)) = START-causes m r s
-causes m (deliver (Join r s)) = count-causes 1 m r s
-causes m (deliver (JoinVoted r s q w)) = count-causes 1 m r s
+causes m (deliver (Join r s)) = count-causes COLLECTING m r s
+causes m (deliver (JoinVoted r s q w)) = count-causes COLLECTING m r s
 causes m (deliver (Propose r s v)) = PROPOSE-causes m r s v
-causes m (deliver (Vote r s)) = count-causes 2 m r s
+causes m (deliver (Vote r s)) = count-causes PROPOSED m r s
 
 -- the column "Else"
 unfoldable pub row : MemberState → Event → Outcome
-unfolding flagged quorum adopting
+unfolding flagged needed adopting
 row m (start r offer) = start-row m r offer
 row m (deliver (Start r s)) = START-row m r
-row m (deliver (Join r s)) = JOIN-row m r s
-row m (deliver (JoinVoted r s q w)) = JOIN-row (adopting m q w) r s
+row m (deliver (Join r s)) = count-row COLLECTING m r s
+row m (deliver (JoinVoted r s q w)) = count-row COLLECTING (adopting m q w) r s
 row m (deliver (Propose r s v)) = PROPOSE-row m r v
-row m (deliver (Vote r s)) = VOTE-row m r s
+row m (deliver (Vote r s)) = count-row PROPOSED m r s
 
 -- the step of a sound record at a message within its ranges
 unfoldable pub sound-step : MemberState → Event → Outcome
@@ -117,14 +118,10 @@ fitting (deliver g) = in-range g
 
 -- the rows "record" and "message": 17 not sound; 16 a field of the message out of range
 abbrev pub unfit : MemberState → Event → List Cause
-unfit m (start r offer) = not (sound m) gives 17 ∷ []
-unfit m (deliver g) = not (sound m) gives 17 ∷ not (in-range g) gives 16 ∷ []
+unfit m (start r offer) = not (sound m) gives NOT-SOUND ∷ []
+unfit m (deliver g) = not (sound m) gives NOT-SOUND ∷ not (in-range g) gives MESSAGE-FIELD ∷ []
 
 -- the step of any record at any event
 unfoldable pub step : MemberState → Event → Outcome
 unfolding sound sound-step
 step m e = unless (unfit m e) m (sound-step m e)
-
--- fresh: 17 if the number or N isn't allowed; the record then is not sound
-unfoldable pub fresh-step : Member → ℕ → Outcome
-fresh-step me n = unless (not (sound-number me n) gives 17 ∷ []) (fresh me n) (silent (fresh me n))

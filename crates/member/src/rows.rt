@@ -1,10 +1,13 @@
 // The rows of the member table of 01, "Members", for records that are sound.
 use crate::Answer;
-use crate::Step;
+use crate::Move;
 use ids::Member;
 use ids::Round;
+use member_record::COLLECTING;
 use member_record::MemberState;
+use member_record::PROPOSED;
 use member_record::count_flags;
+use member_record::needed;
 use member_rules::changes::adopting;
 use member_rules::changes::counting;
 use member_rules::changes::deciding;
@@ -13,60 +16,47 @@ use member_rules::changes::joining;
 use member_rules::changes::leading;
 use member_rules::changes::proposing;
 use member_rules::changes::voting;
-use member_rules::refusals::Check;
-use member_rules::refusals::Refusal;
 use member_rules::refusals::check_count;
 use member_rules::refusals::check_propose;
 use member_rules::refusals::check_start;
 use member_rules::refusals::check_start_call;
 use message::Message;
-use quorum::quorum_of;
 ghost use mathlib.Core.Path.{_≡_};
 ghost use Prim.Native.Nat.{_≤_, _<_};
 ghost use Rattle.member_rules.specs.Causes.{start-causes, START-causes, count-causes, PROPOSE-causes};
-ghost use Rattle.member_rules.specs.Refusals.{refusal-number};
-ghost use Rattle.member_rules.specs.Changes.{adopting};
-ghost use Rattle.member.specs.Table.{refused, sends, silent, unless, start-row, START-row, complete, proposes, JOIN-row, PROPOSE-row, decides, VOTE-row, deliver, sound-step};
-ghost use Rattle.member.specs.Answers.{outcome};
+ghost use Rattle.member.specs.Table.{refused, sends, silent, unless, start-row, START-row, complete, proposes, decides, completes};
+ghost use Rattle.member.specs.Table.{count-row, PROPOSE-row, deliver, sound-step};
+ghost use Rattle.member.specs.Answers.{MoveIs};
 
-// A refused step leaves the record as it was.
-pub fn refuse(m: MemberState, k: Refusal) -> Step
-    ensures { λ s. ⌜ outcome s ≡ refused (refusal-number k) m ⌝ }
+// A refusal leaves the record as it was.
+fn refuse(m: MemberState, number: u32) -> Move
+    requires { ⌜ 0 < number ⌝ }
+    ensures { λ t. ⌜ MoveIs (refused number m) t ⌝ }
 {
-    Step {
+    Move {
         state: m,
-        answer: Answer::Refused(k),
+        answer: Answer::Refused(number),
     }
 }
 
-// A step that sends a message.
-fn send(m: MemberState, g: Message) -> Step
-    ensures { λ s. ⌜ outcome s ≡ sends m g ⌝ }
+// A message is sent.
+fn send(m: MemberState, g: Message) -> Move
+    ensures { λ t. ⌜ MoveIs (sends m g) t ⌝ }
 {
-    Step {
+    Move {
         state: m,
         answer: Answer::Sent(g),
     }
 }
 
-// A step that sends and names nothing.
-pub fn accept(m: MemberState) -> Step
-    ensures { λ s. ⌜ outcome s ≡ silent m ⌝ }
-{
-    Step {
-        state: m,
-        answer: Answer::Done,
-    }
-}
-
 // start(r, offer).
-pub fn on_start_call(m: MemberState, r: Round, offer: u64) -> Step
+pub fn on_start_call(m: MemberState, r: Round, offer: u64) -> Move
     requires { ⌜ 1 ≤ m .who .n ⌝ }
-    ensures { λ s. ⌜ outcome s ≡ unless (start-causes m r) m (start-row m r offer) ⌝ }
+    ensures { λ t. ⌜ MoveIs (unless (start-causes m r) m (start-row m r offer)) t ⌝ }
 {
-    let check = check_start_call(m, r);
-    if let Check::Refused(k) = check {
-        return refuse(m, k);
+    let number = check_start_call(m, r);
+    if number != numbers::OK {
+        return refuse(m, number);
     }
     let me = m.who.me;
     send(
@@ -79,33 +69,34 @@ pub fn on_start_call(m: MemberState, r: Round, offer: u64) -> Step
 }
 
 // START r.
-fn on_start(m: MemberState, r: Round, s: Member) -> Step
+fn on_start(m: MemberState, r: Round, s: Member) -> Move
     requires { ⌜ 1 ≤ m .who .n ⌝ }
-    ensures { λ t. ⌜ outcome t ≡ unless (START-causes m r s) m (START-row m r) ⌝ }
+    ensures { λ t. ⌜ MoveIs (unless (START-causes m r s) m (START-row m r)) t ⌝ }
 {
-    let check = check_start(m, r, s);
-    if let Check::Refused(k) = check {
-        return refuse(m, k);
+    let number = check_start(m, r, s);
+    if number != numbers::OK {
+        return refuse(m, number);
     }
     send(joining(m, r), join_message(m, r))
 }
 
-// Whether the flags are the quorum.
+// Whether the flags are as many as the phase needs.
 fn is_complete(m: MemberState) -> bool
     requires { ⌜ 1 ≤ m .who .n ⌝ }
     ensures { λ b. ⌜ b ≡ complete m ⌝ }
 {
     let flags = m.lead.flags;
-    count_flags(flags) == quorum_of(m.who.n)
+    let who = m.who;
+    count_flags(flags) == needed(who, m.lead.phase)
 }
 
-// The quorum of joins: PROPOSE is sent, and the proposal named.
-fn propose(m: MemberState, r: Round) -> Step
-    ensures { λ s. ⌜ outcome s ≡ proposes m r ⌝ }
+// The joins are complete: PROPOSE is sent, and the proposal named.
+fn propose(m: MemberState, r: Round) -> Move
+    ensures { λ t. ⌜ MoveIs (proposes m r) t ⌝ }
 {
     let me = m.who.me;
     let source = m.lead.source;
-    Step {
+    Move {
         state: proposing(m),
         answer: Answer::Proposed {
             sent: Message::Propose {
@@ -120,50 +111,64 @@ fn propose(m: MemberState, r: Round) -> Step
     }
 }
 
-// A JOIN that is counted, its vote taken over before.
-fn count_join(m: MemberState, r: Round, s: Member) -> Step
+// The votes are complete: the decision is named.
+fn decide(m: MemberState, r: Round) -> Move
+    ensures { λ t. ⌜ MoveIs (decides m r) t ⌝ }
+{
+    Move {
+        state: deciding(m),
+        answer: Answer::Decided {
+            round: r,
+            value: m.lead.value,
+        },
+    }
+}
+
+// The flags of a phase are complete.
+fn end_phase(phase: u32, m: MemberState, r: Round) -> Move
+    ensures { λ t. ⌜ MoveIs (completes phase m r) t ⌝ }
+{
+    if phase == COLLECTING {
+        return propose(m, r);
+    }
+    decide(m, r)
+}
+
+// A JOIN or VOTE is counted; short of what the phase needs, nothing is sent or named.
+fn count(phase: u32, m: MemberState, r: Round, s: Member) -> Move
     requires { ⌜ (1 ≤ m .who .n) × (s .0 < 7) ⌝ }
-    ensures { λ t. ⌜ outcome t ≡ JOIN-row m r s ⌝ }
+    ensures { λ t. ⌜ MoveIs (count-row phase m r s) t ⌝ }
 {
     let counted = counting(m, s);
     if !is_complete(counted) {
-        return accept(counted);
+        return Move {
+            state: counted,
+            answer: Answer::Done,
+        };
     }
-    propose(counted, r)
+    end_phase(phase, counted, r)
 }
 
-// JOIN r without a vote.
-fn on_join(m: MemberState, r: Round, s: Member) -> Step
-    requires { ⌜ (1 ≤ m .who .n) × (m .who .n ≤ 7) ⌝ }
-    ensures { λ t. ⌜ outcome t ≡ unless (count-causes 1 m r s) m (JOIN-row m r s) ⌝ }
+// JOIN r or VOTE r, each awaited in its phase: where it isn't refused it is counted in `taken`, the record with the vote that a JOIN carries.
+fn on_count(phase: u32, m: MemberState, taken: MemberState, r: Round, s: Member) -> Move
+    requires { ⌜ (1 ≤ m .who .n) × (m .who .n ≤ 7) × (taken .who ≡ m .who) ⌝ }
+    ensures { λ t. ⌜ MoveIs (unless (count-causes phase m r s) m (count-row phase taken r s)) t ⌝ }
 {
-    let check = check_count(m, 1, r, s);
-    if let Check::Refused(k) = check {
-        return refuse(m, k);
+    let number = check_count(m, phase, r, s);
+    if number != numbers::OK {
+        return refuse(m, number);
     }
-    count_join(m, r, s)
-}
-
-// JOIN r with a vote for w in round q.
-fn on_join_voted(m: MemberState, r: Round, s: Member, q: Round, w: u64) -> Step
-    requires { ⌜ (1 ≤ m .who .n) × (m .who .n ≤ 7) ⌝ }
-    ensures { λ t. ⌜ outcome t ≡ unless (count-causes 1 m r s) m (JOIN-row (adopting m q w) r s) ⌝ }
-{
-    let check = check_count(m, 1, r, s);
-    if let Check::Refused(k) = check {
-        return refuse(m, k);
-    }
-    count_join(adopting(m, q, w), r, s)
+    count(phase, taken, r, s)
 }
 
 // PROPOSE r, v.
-fn on_propose(m: MemberState, r: Round, s: Member, v: u64) -> Step
+fn on_propose(m: MemberState, r: Round, s: Member, v: u64) -> Move
     requires { ⌜ 1 ≤ m .who .n ⌝ }
-    ensures { λ t. ⌜ outcome t ≡ unless (PROPOSE-causes m r s v) m (PROPOSE-row m r v) ⌝ }
+    ensures { λ t. ⌜ MoveIs (unless (PROPOSE-causes m r s v) m (PROPOSE-row m r v)) t ⌝ }
 {
-    let check = check_propose(m, r, s, v);
-    if let Check::Refused(k) = check {
-        return refuse(m, k);
+    let number = check_propose(m, r, s, v);
+    if number != numbers::OK {
+        return refuse(m, number);
     }
     let me = m.who.me;
     send(
@@ -175,62 +180,25 @@ fn on_propose(m: MemberState, r: Round, s: Member, v: u64) -> Step
     )
 }
 
-// The quorum of votes: the decision is named.
-fn decide(m: MemberState, r: Round) -> Step
-    ensures { λ s. ⌜ outcome s ≡ decides m r ⌝ }
-{
-    Step {
-        state: deciding(m),
-        answer: Answer::Decided {
-            round: r,
-            value: m.lead.value,
-        },
-    }
-}
-
-// A VOTE that is counted.
-fn count_vote(m: MemberState, r: Round, s: Member) -> Step
-    requires { ⌜ (1 ≤ m .who .n) × (s .0 < 7) ⌝ }
-    ensures { λ t. ⌜ outcome t ≡ VOTE-row m r s ⌝ }
-{
-    let counted = counting(m, s);
-    if !is_complete(counted) {
-        return accept(counted);
-    }
-    decide(counted, r)
-}
-
-// VOTE r.
-fn on_vote(m: MemberState, r: Round, s: Member) -> Step
-    requires { ⌜ (1 ≤ m .who .n) × (m .who .n ≤ 7) ⌝ }
-    ensures { λ t. ⌜ outcome t ≡ unless (count-causes 2 m r s) m (VOTE-row m r s) ⌝ }
-{
-    let check = check_count(m, 2, r, s);
-    if let Check::Refused(k) = check {
-        return refuse(m, k);
-    }
-    count_vote(m, r, s)
-}
-
 // Any message.
-pub fn on_message(m: MemberState, g: Message) -> Step
+pub fn on_message(m: MemberState, g: Message) -> Move
     requires { ⌜ (1 ≤ m .who .n) × (m .who .n ≤ 7) ⌝ }
-    ensures { λ t. ⌜ outcome t ≡ sound-step m (deliver g) ⌝ }
+    ensures { λ t. ⌜ MoveIs (sound-step m (deliver g)) t ⌝ }
 {
     match g {
         Message::Start { round, sender } => on_start(m, round, sender),
-        Message::Join { round, sender } => on_join(m, round, sender),
+        Message::Join { round, sender } => on_count(COLLECTING, m, m, round, sender),
         Message::JoinVoted {
             round,
             sender,
             voted,
             value,
-        } => on_join_voted(m, round, sender, voted, value),
+        } => on_count(COLLECTING, m, adopting(m, voted, value), round, sender),
         Message::Propose {
             round,
             sender,
             value,
         } => on_propose(m, round, sender, value),
-        Message::Vote { round, sender } => on_vote(m, round, sender),
+        Message::Vote { round, sender } => on_count(PROPOSED, m, m, round, sender),
     }
 }

@@ -7,6 +7,7 @@ use lib.Dec.{ltb}
 use Rattle.laws.specs.First.{Cause, _gives_}
 use Rattle.ids.specs.declared.Round.{Round}
 use Rattle.ids.specs.declared.Member.{Member}
+use Rattle.numbers.specs.Numbers.{NOT-SOUND, REPLY-SHORT}
 use Rattle.message.specs.Reading.{decoded, message-row}
 use Rattle.member_record.specs.declared.MemberState.{MemberState}
 use Rattle.member_record.specs.Record.{sound, sound-number}
@@ -15,7 +16,7 @@ use Rattle.member.specs.Table.{Outcome, unless, silent, start, deliver, sound-s
 
 -- 17 not sound; 18 a reply buffer of n bytes is under 28
 abbrev pub record-row : MemberState → ℕ → List Cause
-record-row m n = not (sound m) gives 17 ∷ ltb n 28 gives 18 ∷ []
+record-row m n = not (sound m) gives NOT-SOUND ∷ ltb n 28 gives REPLY-SHORT ∷ []
 
 -- a call with this reply buffer: that row, then further causes; else the step
 abbrev pub call : MemberState → List ℕ → List Cause → Outcome → Outcome
@@ -31,4 +32,4 @@ deliver-call m s old = call m old (message-row s) (sound-step m (deliver (decode
 
 -- fresh: 17 number or N, and the record stays
 unfoldable pub fresh-call : MemberState → Member → ℕ → Outcome
-fresh-call m me n = unless (not (sound-number me n) gives 17 ∷ []) m (silent (record-of.fresh me n))
+fresh-call m me n = unless (not (sound-number me n) gives NOT-SOUND ∷ []) m (silent (record-of.fresh me n))

@@ -18,20 +18,15 @@ ghost use Rattle.laws.specs.First.{first};
 ghost use Rattle.member_calls.specs.Reports.{Answers, Replies};
 ghost use Rattle.member_calls.specs.Calls.{record-row, fresh-call, start-call, deliver-call};
 
-// The causes of the row "record, then buffer".
-const NOT_SOUND: u32 = 17;
-
-const SHORT_BUFFER: u32 = 18;
-
 // Fresh: where the number or N isn't allowed, the old record stays.
 pub fn fresh_into(m: MemberState, me: Member, n: u32) -> Called
     ensures { λ c. ⌜ Answers (fresh-call m me n) (c .state) (c .report) ⌝ }
 {
     let fresh = blank(me, n);
     if !number_sound(me, n) {
-        return refuse(m, NOT_SOUND);
+        return refuse(m, numbers::NOT_SOUND);
     }
-    give(fresh, 0, 0, Round(0), 0, Round(0))
+    give(fresh, numbers::OK, 0, Round(0), 0, Round(0))
 }
 
 // The first number of the row "record, then buffer" whose cause holds, else 0. The buffer is asked for even where nothing would be sent.
@@ -41,12 +36,12 @@ fn record_number(m: MemberState, room: usize) -> u32
     let unsound = !is_sound(m);
     let short = room < LONGEST;
     if unsound {
-        return NOT_SOUND;
+        return numbers::NOT_SOUND;
     }
     if short {
-        return SHORT_BUFFER;
+        return numbers::REPLY_SHORT;
     }
-    0
+    numbers::OK
 }
 
 // start(r, offer).
@@ -54,7 +49,7 @@ pub fn start_into(m: MemberState, r: Round, offer: u64, reply: &mut [u8]) -> Cal
     ensures { λ c. ⌜ Replies (start-call m r offer (now (reply .entry))) (now (reply .entry)) (c .state) (c .report) (now (reply .exit)) ⌝ }
 {
     let number = record_number(m, reply.len());
-    if number != 0 {
+    if number != numbers::OK {
         return refuse(m, number);
     }
     tell(member::start_sound(m, r, offer), reply)
@@ -65,7 +60,7 @@ pub fn deliver_into(m: MemberState, bytes: &[u8], reply: &mut [u8]) -> Called
     ensures { λ c. ⌜ Replies (deliver-call m (now (bytes .entry)) (now (reply .entry))) (now (reply .entry)) (c .state) (c .report) (now (reply .exit)) ⌝ }
 {
     let number = record_number(m, reply.len());
-    if number != 0 {
+    if number != numbers::OK {
         return refuse(m, number);
     }
     let read = message_reader::read_message(bytes);

@@ -55,16 +55,13 @@ pub fn give(
     ensures { λ c. ⌜ c ≡ record { state = m; report = record { number = number; sent = sent; round = round; value = value; parent = parent } } ⌝ }
 {
     let report = Report {
-        number: number,
-        sent: sent,
-        round: round,
-        value: value,
-        parent: parent,
+        number,
+        sent,
+        round,
+        value,
+        parent,
     };
-    Called {
-        state: m,
-        report: report,
-    }
+    Called { state: m, report }
 }
 
 // Puts a message at the front of the reply, and answers its length.
@@ -89,12 +86,12 @@ pub fn tell(s: Step, reply: &mut [u8]) -> Called
     let answer = s.answer;
     let none = Round(0);
     match answer {
-        Answer::Refused(k) => refuse(m, member::number(k)),
+        Answer::Refused(number) => refuse(m, number),
         Answer::Sent(g) => {
             let n = send(g, reply);
-            give(m, 0, n, none, 0, none)
+            give(m, numbers::OK, n, none, 0, none)
         }
-        Answer::Done => give(m, 0, 0, none, 0, none),
+        Answer::Done => give(m, numbers::OK, 0, none, 0, none),
         Answer::Proposed {
             sent,
             round,
@@ -102,8 +99,8 @@ pub fn tell(s: Step, reply: &mut [u8]) -> Called
             parent,
         } => {
             let n = send(sent, reply);
-            give(m, 0, n, round, value, parent)
+            give(m, numbers::OK, n, round, value, parent)
         }
-        Answer::Decided { round, value } => give(m, 0, 0, round, value, none),
+        Answer::Decided { round, value } => give(m, numbers::OK, 0, round, value, none),
     }
 }

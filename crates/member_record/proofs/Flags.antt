@@ -13,7 +13,6 @@ use lib.Dec.{ltb, leb, eqb}
 use Rattle.laws.specs.Tests.{tests, by-test, or-cases, and-left, and-right, and-cases, same-test}
 use Rattle.ids.specs.declared.Member.{Member}
 use Rattle.quorum.specs.Count.{count, some}
-use Rattle.quorum.specs.Quorum.{quorum}
 use Rattle.quorum.proofs.Counts.{count-none, count-more, count-beyond, beyond-none, some-none, none-some}
 use Rattle.member_record.specs.Record.{allowed, sound-number, flag, flagged, flag-from, no-flags}
 
@@ -50,11 +49,6 @@ counts-agree n fs l =
 pub cleared-count : flagged no-flags ≡ 0
 unfolding flagged
 cleared-count = count-none (flag no-flags) 7 (λ s l. getD-replicate 7 s false false l)
-
--- no flag is short of any quorum
-pub cleared-short : (n : ℕ) → ltb (flagged no-flags) (quorum n) ≡ true
-unfolding quorum
-cleared-short n = rw cleared-count (omega tests)
 
 pub cleared-from : (n : ℕ) → not (some (flag-from n no-flags) 7) ≡ true
 cleared-from n =

@@ -6,76 +6,78 @@ use lib.Dec.{ltb, leb, eqb}
 use Rattle.laws.specs.Tests.{and-left, and-right}
 use Rattle.ids.specs.declared.Member.{Member}
 use Rattle.ids.specs.Ranges.{above-range}
+use Rattle.member_record.specs.declared.Durable.{Durable}
 use Rattle.member_record.specs.declared.MemberState.{MemberState}
 use Rattle.member_record.proofs.Flags.{number-sizes, cleared-from}
-use Rattle.member_record.specs.Record.{fresh, leads, sound, sound-number, sound-vote, sound-flags, sound-count, sound-leading, sound-lead}
+use Rattle.member_record.specs.Phases.{IDLE, DECIDED}
+use Rattle.member_record.specs.Record.{fresh, leads, sound, sound-number, sound-durable, sound-flags, sound-count, sound-leading, sound-lead}
 
 pub record Sound (m : MemberState) : Type 0 where
   pub number : sound-number (m .who .me) (m .who .n) ≡ true
-  pub phases : leb (m .lead .phase) 3 ≡ true
-  pub vote : sound-vote m ≡ true
-  pub flags : sound-flags m ≡ true
-  pub lead : sound-lead m ≡ true
+  pub phases : leb (m .lead .phase) DECIDED ≡ true
+  pub lasting : sound-durable (m .durable) ≡ true
+  pub flags : sound-flags (m .who) (m .lead) ≡ true
+  pub led : sound-lead m ≡ true
 
 pub parts : (m : MemberState) → sound m ≡ true → Sound m
 unfolding sound
 parts m h =
-    let a : (leb (m .lead .phase) 3 && (sound-vote m && (sound-flags m && sound-lead m))) ≡ true = and-right (sound-number (m .who .me) (m .who .n)) _ h in
-    let b : (sound-vote m && (sound-flags m && sound-lead m)) ≡ true = and-right (leb (m .lead .phase) 3) _ a in
-    let c : (sound-flags m && sound-lead m) ≡ true = and-right (sound-vote m) _ b in
+    let a : (leb (m .lead .phase) DECIDED && (sound-durable (m .durable) && (sound-flags (m .who) (m .lead) && sound-lead m))) ≡ true =
+    and-right (sound-number (m .who .me) (m .who .n)) _ h
+    in
+    let b : (sound-durable (m .durable) && (sound-flags (m .who) (m .lead) && sound-lead m)) ≡ true = and-right (leb (m .lead .phase) DECIDED) _ a in
+    let c : (sound-flags (m .who) (m .lead) && sound-lead m) ≡ true = and-right (sound-durable (m .durable)) _ b in
     record {
       number = and-left (sound-number (m .who .me) (m .who .n)) _ h;
-      phases = and-left (leb (m .lead .phase) 3) _ a;
-      vote = and-left (sound-vote m) _ b;
-      flags = and-left (sound-flags m) _ c;
-      lead = and-right (sound-flags m) (sound-lead m) c;
+      phases = and-left (leb (m .lead .phase) DECIDED) _ a;
+      lasting = and-left (sound-durable (m .durable)) _ b;
+      flags = and-left (sound-flags (m .who) (m .lead)) _ c;
+      led = and-right (sound-flags (m .who) (m .lead)) (sound-lead m) c;
     }
 
 pub whole : (m : MemberState) → Sound m → sound m ≡ true
 unfolding sound
-whole m s = rw (s .number, s .phases, s .vote, s .flags) (s .lead)
+whole m s = rw (s .number, s .phases, s .lasting, s .flags) (s .led)
 
 -- V ≤ J ≤ 1,000,000, and V = 0 only with W = 0
-pub record Votes (m : MemberState) : Type 0 where
-  pub ordered : leb (m .durable .voted .0) (m .durable .joined .0) ≡ true
-  pub ranged : not (above-range (m .durable .joined .0)) ≡ true
-  pub valued : (not (eqb (m .durable .voted .0) 0) || eqb (m .durable .vote) 0) ≡ true
+pub record Votes (d : Durable) : Type 0 where
+  pub ordered : leb (d .voted .0) (d .joined .0) ≡ true
+  pub ranged : not (above-range (d .joined .0)) ≡ true
+  pub valued : (not (eqb (d .voted .0) 0) || eqb (d .vote) 0) ≡ true
 
-pub votes : (m : MemberState) → Sound m → Votes m
-votes m s =
-    let a : (not (above-range (m .durable .joined .0)) && (not (eqb (m .durable .voted .0) 0) || eqb (m .durable .vote) 0)) ≡ true =
-    and-right (leb (m .durable .voted .0) (m .durable .joined .0)) _ (s .vote)
-    in
+pub votes : (d : Durable) → sound-durable d ≡ true → Votes d
+votes d s =
+    let a : (not (above-range (d .joined .0)) && (not (eqb (d .voted .0) 0) || eqb (d .vote) 0)) ≡ true = and-right (leb (d .voted .0) (d .joined .0)) _ s in
     record {
-      ordered = and-left (leb (m .durable .voted .0) (m .durable .joined .0)) _ (s .vote);
-      ranged = and-left (not (above-range (m .durable .joined .0))) _ a;
-      valued = and-right (not (above-range (m .durable .joined .0))) (not (eqb (m .durable .voted .0) 0) || eqb (m .durable .vote) 0) a;
+      ordered = and-left (leb (d .voted .0) (d .joined .0)) _ s;
+      ranged = and-left (not (above-range (d .joined .0))) _ a;
+      valued = and-right (not (above-range (d .joined .0))) (not (eqb (d .voted .0) 0) || eqb (d .vote) 0) a;
     }
 
 -- not idle, L ≤ 1,000,000, L mod N is the number, B < L, the count of the phase
 pub record Leading (m : MemberState) : Type 0 where
-  pub active : not (eqb (m .lead .phase) 0) ≡ true
+  pub active : not (eqb (m .lead .phase) IDLE) ≡ true
   pub ranged : not (above-range (m .durable .led .0)) ≡ true
   pub leader : leads (m .who .n) (m .who .me) (m .durable .led) ≡ true
   pub lower : ltb (m .lead .source .0) (m .durable .led .0) ≡ true
-  pub counted : sound-count m ≡ true
+  pub counted : sound-count (m .who) (m .lead) ≡ true
 
 pub leading-parts : (m : MemberState) → Sound m → eqb (m .durable .led .0) 0 ≡ false → Leading m
 leading-parts m s z =
-    let h : sound-leading m ≡ true = rw z at (s .lead) in
-    let a : (not (above-range (m .durable .led .0)) && (leads (m .who .n) (m .who .me) (m .durable .led) && (ltb (m .lead .source .0) (m .durable .led .0) && sound-count m))) ≡ true =
-    and-right (not (eqb (m .lead .phase) 0)) _ h
-    in
-    let b : (leads (m .who .n) (m .who .me) (m .durable .led) && (ltb (m .lead .source .0) (m .durable .led .0) && sound-count m)) ≡ true =
-    and-right (not (above-range (m .durable .led .0))) _ a
-    in
-    let c : (ltb (m .lead .source .0) (m .durable .led .0) && sound-count m) ≡ true = and-right (leads (m .who .n) (m .who .me) (m .durable .led)) _ b in
+    let h : sound-leading m ≡ true = rw z at (s .led) in
+    let lower = ltb (m .lead .source .0) (m .durable .led .0) in
+    let leader = leads (m .who .n) (m .who .me) (m .durable .led) in
+    let ranged = not (above-range (m .durable .led .0)) in
+    let counted = sound-count (m .who) (m .lead) in
+    let a : (ranged && (leader && (lower && counted))) ≡ true = and-right (not (eqb (m .lead .phase) IDLE)) _ h in
+    let b : (leader && (lower && counted)) ≡ true = and-right ranged _ a in
+    let c : (lower && counted) ≡ true = and-right leader _ b in
     record {
-      active = and-left (not (eqb (m .lead .phase) 0)) _ h;
-      ranged = and-left (not (above-range (m .durable .led .0))) _ a;
-      leader = and-left (leads (m .who .n) (m .who .me) (m .durable .led)) _ b;
-      lower = and-left (ltb (m .lead .source .0) (m .durable .led .0)) _ c;
-      counted = and-right (ltb (m .lead .source .0) (m .durable .led .0)) (sound-count m) c;
+      active = and-left (not (eqb (m .lead .phase) IDLE)) _ h;
+      ranged = and-left ranged _ a;
+      leader = and-left leader _ b;
+      lower = and-left lower _ c;
+      counted = and-right lower counted c;
     }
 
 pub leading-whole : (m : MemberState) → eqb (m .durable .led .0) 0 ≡ false → Leading m → sound-lead m ≡ true

@@ -1,2 +1,3 @@
 -- The meanings of the member record.
+pub mod Phases
 pub mod Record

@@ -8,10 +8,11 @@ use Rattle.ids.specs.declared.Round.{Round}
 use Rattle.ids.specs.declared.Member.{Member}
 use Rattle.ids.specs.Ranges.{above-range}
 use Rattle.quorum.specs.Count.{count, some}
-use Rattle.quorum.specs.Quorum.{quorum}
+use Rattle.member_record.specs.declared.Who.{Who}
 use Rattle.member_record.specs.declared.Durable.{Durable}
 use Rattle.member_record.specs.declared.Lead.{Lead}
 use Rattle.member_record.specs.declared.MemberState.{MemberState}
+use Rattle.member_record.specs.Phases.{IDLE, DECIDED, needed}
 
 -- a record with another group of what must last, or of leading
 abbrev pub with-durable : MemberState → Durable → MemberState
@@ -19,6 +20,10 @@ with-durable m d = record { who = m .who; durable = d; lead = m .lead }
 
 abbrev pub with-lead : MemberState → Lead → MemberState
 with-lead m l = record { who = m .who; durable = m .durable; lead = l }
+
+-- whether J, V, W or L differs
+abbrev pub changes-durable : Durable → Durable → Bool
+changes-durable d e = not (eqb (d .joined .0) (e .joined .0) && (eqb (d .voted .0) (e .voted .0) && (eqb (d .vote) (e .vote) && eqb (d .led .0) (e .led .0))))
 
 -- N is 3, 5 or 7
 abbrev pub allowed : ℕ → Bool
@@ -53,7 +58,7 @@ fresh me n =
     record {
       who = record { me = me; n = n };
       durable = record { joined = round 0; voted = round 0; vote = 0; led = round 0 };
-      lead = record { phase = 0; value = 0; source = round 0; flags = no-flags };
+      lead = record { phase = IDLE; value = 0; source = round 0; flags = no-flags };
     }
 
 -- N allowed, number < N
@@ -61,33 +66,36 @@ abbrev pub sound-number : Member → ℕ → Bool
 sound-number me n = allowed n && ltb (me .0) n
 
 -- V ≤ J ≤ 1,000,000, V = 0 only with W = 0
-abbrev pub sound-vote : MemberState → Bool
-sound-vote m = leb (m .durable .voted .0) (m .durable .joined .0) && (not (above-range (m .durable .joined .0)) && (not (eqb (m .durable .voted .0) 0) || eqb (m .durable .vote) 0))
+abbrev pub sound-durable : Durable → Bool
+sound-durable d = leb (d .voted .0) (d .joined .0) && (not (above-range (d .joined .0)) && (not (eqb (d .voted .0) 0) || eqb (d .vote) 0))
 
 -- flags from N on false
-abbrev pub sound-flags : MemberState → Bool
-sound-flags m = not (some (flag-from (m .who .n) (m .lead .flags)) 7)
+abbrev pub sound-flags : Who → Lead → Bool
+sound-flags w l = not (some (flag-from (w .n) (l .flags)) 7)
 
 -- L = 0: idle, X = B = 0 and no flag
-abbrev pub sound-idle : MemberState → Bool
-sound-idle m = eqb (m .lead .phase) 0 && (eqb (m .lead .value) 0 && (eqb (m .lead .source .0) 0 && eqb (flagged (m .lead .flags)) 0))
+abbrev pub sound-idle : Lead → Bool
+sound-idle l = eqb (l .phase) IDLE && (eqb (l .value) 0 && (eqb (l .source .0) 0 && eqb (flagged (l .flags)) 0))
 
 -- flags at most f in phases 1 and 2, exactly f+1 in phase 3
-abbrev pub sound-count : MemberState → Bool
-sound-count m = cond (eqb (m .lead .phase) 3) (eqb (flagged (m .lead .flags)) (quorum (m .who .n))) (ltb (flagged (m .lead .flags)) (quorum (m .who .n)))
+abbrev pub sound-count : Who → Lead → Bool
+sound-count w l =
+    cond (eqb (l .phase) DECIDED) (eqb (flagged (l .flags)) (needed w (l .phase))) (ltb (flagged (l .flags)) (needed w (l .phase)))
 
 -- else not idle, L ≤ 1,000,000, L mod N is the number, B < L
 abbrev pub sound-leading : MemberState → Bool
 sound-leading m =
-    not (eqb (m .lead .phase) 0) &&
-    (not (above-range (m .durable .led .0)) && (leads (m .who .n) (m .who .me) (m .durable .led) && (ltb (m .lead .source .0) (m .durable .led .0) && sound-count m)))
+    not (eqb (m .lead .phase) IDLE) &&
+    (not (above-range (m .durable .led .0)) &&
+    (leads (m .who .n) (m .who .me) (m .durable .led) &&
+    (ltb (m .lead .source .0) (m .durable .led .0) && sound-count (m .who) (m .lead))))
 
 -- idle exactly when L = 0
 abbrev pub sound-lead : MemberState → Bool
-sound-lead m = cond (eqb (m .durable .led .0) 0) (sound-idle m) (sound-leading m)
+sound-lead m = cond (eqb (m .durable .led .0) 0) (sound-idle (m .lead)) (sound-leading m)
 
 unfoldable pub sound : MemberState → Bool
-unfolding flagged quorum
+unfolding flagged needed
 sound m =
     sound-number (m .who .me) (m .who .n) &&
-    (leb (m .lead .phase) 3 && (sound-vote m && (sound-flags m && sound-lead m)))
+    (leb (m .lead .phase) DECIDED && (sound-durable (m .durable) && (sound-flags (m .who) (m .lead) && sound-lead m)))

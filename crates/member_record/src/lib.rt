@@ -1,13 +1,24 @@
 // The member record of 01, "Members": which records are sound, and the fresh record.
-use ids::LAST_ROUND;
 use ids::Member;
 use ids::Round;
+use ids::above_range;
 use ids::leader;
 use quorum::quorum_of;
 ghost use mathlib.Core.Path.{_≡_};
 ghost use Prim.Native.Nat.{_≤_};
 ghost use Rattle.quorum.specs.Count.{count};
-ghost use Rattle.member_record.specs.Record.{allowed, leads, flag, flagged, fresh, sound-number, sound-vote, sound-flags, sound-idle, sound-count, sound-leading, sound-lead, sound};
+ghost use Rattle.member_record.specs.Phases.{needed};
+ghost use Rattle.member_record.specs.Record.{changes-durable, allowed, leads, flag, flagged, fresh, sound-number};
+ghost use Rattle.member_record.specs.Record.{sound-durable, sound-flags, sound-idle, sound-count, sound-leading, sound-lead, sound};
+
+// The phases of a leader: it has led no round yet; it counts JOINs; it has proposed and counts VOTEs; it has decided.
+pub const IDLE: u32 = 0;
+
+pub const COLLECTING: u32 = 1;
+
+pub const PROPOSED: u32 = 2;
+
+pub const DECIDED: u32 = 3;
 
 // Which member of which office a record is.
 pub struct Who {
@@ -31,7 +42,7 @@ pub struct Durable {
 
 // What belongs to leading the round last led.
 pub struct Lead {
-    // 0 idle, 1 collecting, 2 proposed, 3 decided.
+    // IDLE, COLLECTING, PROPOSED or DECIDED.
     pub phase: u32,
     // X, the value to propose.
     pub value: u64,
@@ -46,6 +57,30 @@ pub struct MemberState {
     pub who: Who,
     pub durable: Durable,
     pub lead: Lead,
+}
+
+// Whether J, V, W or L differs.
+pub fn changes_durable(before: Durable, after: Durable) -> bool
+    ensures { λ b. ⌜ b ≡ changes-durable before after ⌝ }
+{
+    if before.joined.0 != after.joined.0 {
+        return true;
+    }
+    if before.voted.0 != after.voted.0 {
+        return true;
+    }
+    if before.vote != after.vote {
+        return true;
+    }
+    before.led.0 != after.led.0
+}
+
+// How many flags a phase needs to end, or ended with: the quorum of the office in each.
+pub fn needed(who: Who, phase: u32) -> u32
+    requires { ⌜ 1 ≤ who .n ⌝ }
+    ensures { λ k. ⌜ k ≡ needed who phase ⌝ }
+{
+    quorum_of(who.n)
 }
 
 // How many of the members below `to` are flagged.
@@ -84,7 +119,7 @@ pub fn blank(me: Member, n: u32) -> MemberState
         led: none,
     };
     let lead = Lead {
-        phase: 0,
+        phase: IDLE,
         value: 0,
         source: none,
         flags: [false; 7],
@@ -124,60 +159,60 @@ pub fn is_leader(n: u32, s: Member, r: Round) -> bool
 }
 
 // V is at most J, J at most the last round, and V is 0 only with W 0.
-fn vote_sound(m: MemberState) -> bool
-    ensures { λ b. ⌜ b ≡ sound-vote m ⌝ }
+fn durable_sound(d: Durable) -> bool
+    ensures { λ b. ⌜ b ≡ sound-durable d ⌝ }
 {
-    if m.durable.joined.0 < m.durable.voted.0 {
+    if d.joined.0 < d.voted.0 {
         return false;
     }
-    if LAST_ROUND < m.durable.joined.0 {
+    if above_range(d.joined.0 as u64) {
         return false;
     }
-    if m.durable.voted.0 == 0 {
-        return m.durable.vote == 0;
+    if d.voted.0 == 0 {
+        return d.vote == 0;
     }
     true
 }
 
 // Flags from N on are false: as many are counted below N as in all.
-fn flags_sound(m: MemberState) -> bool
-    requires { ⌜ m .who .n ≤ 7 ⌝ }
-    ensures { λ b. ⌜ b ≡ sound-flags m ⌝ }
+fn flags_sound(who: Who, l: Lead) -> bool
+    requires { ⌜ who .n ≤ 7 ⌝ }
+    ensures { λ b. ⌜ b ≡ sound-flags who l ⌝ }
 {
-    let n = m.who.n as usize;
-    let flags = m.lead.flags;
+    let n = who.n as usize;
+    let flags = l.flags;
     count_below(flags, n) == count_below(flags, 7)
 }
 
 // L is 0: idle, X and B are 0, no flag.
-fn idle_sound(m: MemberState) -> bool
-    ensures { λ b. ⌜ b ≡ sound-idle m ⌝ }
+fn idle_sound(l: Lead) -> bool
+    ensures { λ b. ⌜ b ≡ sound-idle l ⌝ }
 {
-    if m.lead.phase != 0 {
+    if l.phase != IDLE {
         return false;
     }
-    if m.lead.value != 0 {
+    if l.value != 0 {
         return false;
     }
-    if m.lead.source.0 != 0 {
+    if l.source.0 != 0 {
         return false;
     }
-    let flags = m.lead.flags;
+    let flags = l.flags;
     count_flags(flags) == 0
 }
 
-// Fewer flags than the quorum in phases 1 and 2, the quorum in phase 3.
-fn count_sound(m: MemberState) -> bool
-    requires { ⌜ 1 ≤ m .who .n ⌝ }
-    ensures { λ b. ⌜ b ≡ sound-count m ⌝ }
+// Fewer flags than needed while they are counted, as many once it is decided.
+fn count_sound(who: Who, l: Lead) -> bool
+    requires { ⌜ 1 ≤ who .n ⌝ }
+    ensures { λ b. ⌜ b ≡ sound-count who l ⌝ }
 {
-    let flags = m.lead.flags;
+    let flags = l.flags;
     let counted = count_flags(flags);
-    let needed = quorum_of(m.who.n);
-    if m.lead.phase == 3 {
-        return counted == needed;
+    let full = needed(who, l.phase);
+    if l.phase == DECIDED {
+        return counted == full;
     }
-    counted < needed
+    counted < full
 }
 
 // L isn't 0: not idle, L in range and led by this member, B below L.
@@ -185,21 +220,23 @@ fn leading_sound(m: MemberState) -> bool
     requires { ⌜ 1 ≤ m .who .n ⌝ }
     ensures { λ b. ⌜ b ≡ sound-leading m ⌝ }
 {
-    if m.lead.phase == 0 {
+    if m.lead.phase == IDLE {
         return false;
     }
-    if LAST_ROUND < m.durable.led.0 {
-        return false;
-    }
-    let me = m.who.me;
     let led = m.durable.led;
-    if !is_leader(m.who.n, me, led) {
+    if above_range(led.0 as u64) {
         return false;
     }
-    if m.durable.led.0 <= m.lead.source.0 {
+    let who = m.who;
+    let me = who.me;
+    if !is_leader(who.n, me, led) {
         return false;
     }
-    count_sound(m)
+    let lead = m.lead;
+    if led.0 <= lead.source.0 {
+        return false;
+    }
+    count_sound(who, lead)
 }
 
 // Idle exactly when L is 0.
@@ -207,8 +244,9 @@ fn lead_sound(m: MemberState) -> bool
     requires { ⌜ 1 ≤ m .who .n ⌝ }
     ensures { λ b. ⌜ b ≡ sound-lead m ⌝ }
 {
+    let lead = m.lead;
     if m.durable.led.0 == 0 {
-        return idle_sound(m);
+        return idle_sound(lead);
     }
     leading_sound(m)
 }
@@ -217,17 +255,20 @@ fn lead_sound(m: MemberState) -> bool
 pub fn is_sound(m: MemberState) -> bool
     ensures { λ b. ⌜ b ≡ sound m ⌝ }
 {
-    let me = m.who.me;
-    if !number_sound(me, m.who.n) {
+    let who = m.who;
+    let me = who.me;
+    let durable = m.durable;
+    let lead = m.lead;
+    if !number_sound(me, who.n) {
         return false;
     }
-    if 3 < m.lead.phase {
+    if DECIDED < lead.phase {
         return false;
     }
-    if !vote_sound(m) {
+    if !durable_sound(durable) {
         return false;
     }
-    if !flags_sound(m) {
+    if !flags_sound(who, lead) {
         return false;
     }
     lead_sound(m)

@@ -8,6 +8,7 @@ use Rattle.ids.specs.declared.Member.{Member}
 use Rattle.message.specs.declared.Message.{Message}
 use Rattle.message.specs.declared.Message.the-variants.{Join, JoinVoted}
 use Rattle.member_record.specs.declared.MemberState.{MemberState}
+use Rattle.member_record.specs.Phases.{COLLECTING, PROPOSED, DECIDED}
 use Rattle.member_record.specs.Record.{with-durable, with-lead, round, no-flags}
 
 -- L = r, phase 1, X = offer, B = 0, flags cleared
@@ -15,7 +16,7 @@ abbrev pub leading : MemberState → Round → ℕ → MemberState
 leading m r offer =
     with-lead
     (with-durable m (record { joined = m .durable .joined; voted = m .durable .voted; vote = m .durable .vote; led = r }))
-    (record { phase = 1; value = offer; source = round 0; flags = no-flags })
+    (record { phase = COLLECTING; value = offer; source = round 0; flags = no-flags })
 
 -- J = r
 abbrev pub joining : MemberState → Round → MemberState
@@ -39,7 +40,7 @@ adopting m q w = cond (ltb (m .lead .source .0) (q .0)) (adopted m q w) m
 
 -- phase 2, flags cleared
 abbrev pub proposing : MemberState → MemberState
-proposing m = with-lead m (record { phase = 2; value = m .lead .value; source = m .lead .source; flags = no-flags })
+proposing m = with-lead m (record { phase = PROPOSED; value = m .lead .value; source = m .lead .source; flags = no-flags })
 
 -- J = V = r, W = v
 abbrev pub voting : MemberState → Round → ℕ → MemberState
@@ -47,4 +48,4 @@ voting m r v = with-durable m (record { joined = r; voted = r; vote = v; led = m
 
 -- phase 3
 abbrev pub deciding : MemberState → MemberState
-deciding m = with-lead m (record { phase = 3; value = m .lead .value; source = m .lead .source; flags = m .lead .flags })
+deciding m = with-lead m (record { phase = DECIDED; value = m .lead .value; source = m .lead .source; flags = m .lead .flags })

@@ -1,4 +1,3 @@
--- The meanings of the refusals.
+-- The cells of the member table.
 pub mod Causes
-pub mod Refusals
 pub mod Changes

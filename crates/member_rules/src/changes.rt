@@ -1,9 +1,12 @@
 // What the events of the member table of 01, "Members", change of the record where they aren't refused, and the JOIN that is sent.
 use ids::Member;
 use ids::Round;
+use member_record::COLLECTING;
+use member_record::DECIDED;
 use member_record::Durable;
 use member_record::Lead;
 use member_record::MemberState;
+use member_record::PROPOSED;
 use message::Message;
 ghost use mathlib.Core.Path.{_≡_};
 ghost use Prim.Native.Nat.{_<_};
@@ -17,7 +20,7 @@ pub fn leading(m: MemberState, r: Round, offer: u64) -> MemberState
     let d = m.durable;
     let durable = Durable { led: r, ..d };
     let lead = Lead {
-        phase: 1,
+        phase: COLLECTING,
         value: offer,
         source: none,
         flags: [false; 7],
@@ -95,7 +98,7 @@ pub fn proposing(m: MemberState) -> MemberState
     let l = m.lead;
     let flags = [false; 7];
     let lead = Lead {
-        phase: 2,
+        phase: PROPOSED,
         flags,
         ..l
     };
@@ -121,6 +124,9 @@ pub fn deciding(m: MemberState) -> MemberState
     ensures { λ t. ⌜ t ≡ deciding m ⌝ }
 {
     let l = m.lead;
-    let lead = Lead { phase: 3, ..l };
+    let lead = Lead {
+        phase: DECIDED,
+        ..l
+    };
     MemberState { lead, ..m }
 }

@@ -1,4 +1,4 @@
-// The further refusals of the member table of 01, "Members": for each event, the first whose cause holds.
+// The further refusals of the member table of 01, "Members": for each event, the number of the first whose cause holds, else 0.
 use ids::Member;
 use ids::Round;
 use ids::in_range;
@@ -8,80 +8,59 @@ ghost use mathlib.Core.Path.{_≡_};
 ghost use Prim.Native.Nat.{_≤_};
 ghost use Rattle.laws.specs.First.{first};
 ghost use Rattle.member_rules.specs.Causes.{start-causes, START-causes, count-causes, other-vote, PROPOSE-causes};
-ghost use Rattle.member_rules.specs.Refusals.{check-number};
-
-// Why a step is refused; 01's numbers are in specs/Refusals.antt.
-pub enum Refusal {
-    NotSound,
-    Field,
-    RoundRange,
-    NotLeader,
-    NotAboveLed,
-    Sender,
-    MovedPast,
-    OtherValue,
-    NotAwaited,
-    CountedAlready,
-}
-
-// The first of an event's refusals whose cause holds, if there is one.
-pub enum Check {
-    Pass,
-    Refused(Refusal),
-}
 
 // The refusals of start(r, offer).
-pub fn check_start_call(m: MemberState, r: Round) -> Check
+pub fn check_start_call(m: MemberState, r: Round) -> u32
     requires { ⌜ 1 ≤ m .who .n ⌝ }
-    ensures { λ k. ⌜ check-number k ≡ first (start-causes m r) ⌝ }
+    ensures { λ k. ⌜ k ≡ first (start-causes m r) ⌝ }
 {
     if !in_range(r) {
-        return Check::Refused(Refusal::RoundRange);
+        return numbers::ROUND_RANGE;
     }
     let me = m.who.me;
     if !is_leader(m.who.n, me, r) {
-        return Check::Refused(Refusal::NotLeader);
+        return numbers::NOT_LEADER;
     }
     if r.0 <= m.durable.led.0 {
-        return Check::Refused(Refusal::NotAboveLed);
+        return numbers::NOT_ABOVE_LED;
     }
-    Check::Pass
+    numbers::OK
 }
 
 // The refusals of START r.
-pub fn check_start(m: MemberState, r: Round, s: Member) -> Check
+pub fn check_start(m: MemberState, r: Round, s: Member) -> u32
     requires { ⌜ 1 ≤ m .who .n ⌝ }
-    ensures { λ k. ⌜ check-number k ≡ first (START-causes m r s) ⌝ }
+    ensures { λ k. ⌜ k ≡ first (START-causes m r s) ⌝ }
 {
     if !is_leader(m.who.n, s, r) {
-        return Check::Refused(Refusal::Sender);
+        return numbers::WRONG_SENDER;
     }
     if r.0 <= m.durable.joined.0 {
-        return Check::Refused(Refusal::MovedPast);
+        return numbers::MOVED_PAST;
     }
-    Check::Pass
+    numbers::OK
 }
 
-// The refusals of JOIN r, awaited in phase 1, and of VOTE r, in phase 2.
-pub fn check_count(m: MemberState, phase: u32, r: Round, s: Member) -> Check
+// The refusals of JOIN r, awaited while COLLECTING, and of VOTE r, awaited once PROPOSED.
+pub fn check_count(m: MemberState, phase: u32, r: Round, s: Member) -> u32
     requires { ⌜ m .who .n ≤ 7 ⌝ }
-    ensures { λ k. ⌜ check-number k ≡ first (count-causes phase m r s) ⌝ }
+    ensures { λ k. ⌜ k ≡ first (count-causes phase m r s) ⌝ }
 {
     if m.who.n <= s.0 {
-        return Check::Refused(Refusal::Sender);
+        return numbers::WRONG_SENDER;
     }
     if r.0 != m.durable.led.0 {
-        return Check::Refused(Refusal::NotAwaited);
+        return numbers::NOT_AWAITED;
     }
     if m.lead.phase != phase {
-        return Check::Refused(Refusal::NotAwaited);
+        return numbers::NOT_AWAITED;
     }
     let at = s.0 as usize;
     let flags = m.lead.flags;
     if flags[at] {
-        return Check::Refused(Refusal::CountedAlready);
+        return numbers::COUNTED_ALREADY;
     }
-    Check::Pass
+    numbers::OK
 }
 
 // Whether the vote in round r went to another value.
@@ -95,18 +74,18 @@ fn voted_otherwise(m: MemberState, r: Round, v: u64) -> bool
 }
 
 // The refusals of PROPOSE r, v.
-pub fn check_propose(m: MemberState, r: Round, s: Member, v: u64) -> Check
+pub fn check_propose(m: MemberState, r: Round, s: Member, v: u64) -> u32
     requires { ⌜ 1 ≤ m .who .n ⌝ }
-    ensures { λ k. ⌜ check-number k ≡ first (PROPOSE-causes m r s v) ⌝ }
+    ensures { λ k. ⌜ k ≡ first (PROPOSE-causes m r s v) ⌝ }
 {
     if !is_leader(m.who.n, s, r) {
-        return Check::Refused(Refusal::Sender);
+        return numbers::WRONG_SENDER;
     }
     if r.0 < m.durable.joined.0 {
-        return Check::Refused(Refusal::MovedPast);
+        return numbers::MOVED_PAST;
     }
     if voted_otherwise(m, r, v) {
-        return Check::Refused(Refusal::OtherValue);
+        return numbers::ANOTHER_VALUE;
     }
-    Check::Pass
+    numbers::OK
 }

@@ -1,6 +1,6 @@
 -- A leader that counts JOINs or VOTEs: its flags with one more, and the quorum that they are when the count is complete. What a
 -- member said, with what it says now. Assumes nothing.
-use mathlib.Core.Path.{_≡_, _∙_}
+use mathlib.Core.Path.{_≡_, refl, _∙_}
 use mathlib.Core.Bool.{Bool, true, false, not}
 use mathlib.Core.List.{List, _++_, List·Memᴰ·append-cases}
 use mathlib.Core.Logic.{_≢_, ⊎-elim}
@@ -15,18 +15,20 @@ use Rattle.ids.specs.declared.Round.{Round}
 use Rattle.ids.specs.declared.Member.{Member}
 use Rattle.ids.specs.Ranges.{out-of-range}
 use Rattle.quorum.specs.Count.{count, some}
-use Rattle.quorum.specs.Quorum.{Quorum, quorum}
+use Rattle.quorum.specs.Quorum.{Quorum}
 use Rattle.message.specs.declared.Message.{Message}
 use Rattle.message.specs.declared.Message.the-variants.{Start, Join, JoinVoted, Propose, Vote}
 use Rattle.member_record.specs.declared.MemberState.{MemberState}
+use Rattle.member_record.specs.Phases.{COLLECTING, needed}
 use Rattle.member_record.specs.Record.{flag, flagged, flag-from, no-flags}
 use Rattle.member_rules.specs.Changes.{counting, adopted}
 use Rattle.member.specs.Table.{complete}
 use Rattle.member_record.proofs.Sound.{parts, sound-size}
 use Rattle.member_record.proofs.Flags.{counts-agree, set-from}
+use Rattle.member_record.proofs.Quorums.{needed-alike}
 use Rattle.model.specs.Model.{Sizes, member-number}
 use Rattle.model.proofs.Kept.{KeptMember, own-round, led-ranged, source-lower}
-use Rattle.model.proofs.Invariant.{JoinOf, carried, Voted, Reached, Spoken}
+use Rattle.model.proofs.Invariant.{office, JoinOf, carried, Voted, Reached, Spoken}
 use Rattle.model.proofs.Grows.{reached-rises}
 
 -- what soundness says of a member that isn't idle, its vote count apart
@@ -40,7 +42,7 @@ pub record Counts (z : Sizes) (t : ℕ) (m : MemberState) : Type 0 where
   pub small : m .who .n ≤ 7
   pub none-from : not (some (flag-from (m .who .n) (m .lead .flags)) 7) ≡ true
 
-pub counts-of : (z : Sizes) (t : ℕ) (m : MemberState) → KeptMember z t m → 1 ≤ m .lead .phase → Counts z t m
+pub counts-of : (z : Sizes) (t : ℕ) (m : MemberState) → KeptMember z t m → COLLECTING ≤ m .lead .phase → Counts z t m
 counts-of z t m M h = record {
   number = M .number;
   size = M .size;
@@ -80,12 +82,13 @@ no-flag s =
 
 -- a complete count is a quorum
 pub flagged-quorum : (z : Sizes) (t : ℕ) (m : MemberState) (s : Member) (P : ℕ → Type 0) → Counts z t m → s .0 < m .who .n → complete (counting m s) ≡ true →
-    ((i : ℕ) → flag (set (m .lead .flags) (s .0) true) i ≡ true → P i) → Quorum (z .n) (quorum (z .n)) P
+    ((i : ℕ) → flag (set (m .lead .flags) (s .0) true) i ≡ true → P i) → Quorum (z .n) (needed (office (z .n)) (m .lead .phase)) P
 unfolding flagged
 flagged-quorum z t m s P c low full f =
     let all : eqb (count (flag (set (m .lead .flags) (s .0) true)) (m .who .n)) (count (flag (set (m .lead .flags) (s .0) true)) 7) ≡ true =
     counts-agree (m .who .n) (set (m .lead .flags) (s .0) true) (c .small) ∙ set-from (m .lead .flags) (s .0) (c .seven) (omega (arith, c .small)) (m .who .n) low (c .none-from) in
-    rw (← (c .size)) (record { who = flag (set (m .lead .flags) (s .0) true); enough = omega tests; each = λ i l h. f i h })
+    let asked : needed (m .who) (m .lead .phase) ≡ needed (office (m .who .n)) (m .lead .phase) = needed-alike (m .who) (office (m .who .n)) (m .lead .phase) refl in
+    rw (← (c .size)) (record { who = flag (set (m .lead .flags) (s .0) true); enough = omega (tests, asked); each = λ i l h. f i h })
 
 -- neither a JOIN nor a VOTE
 abbrev pub Quiet : Message → Type 0

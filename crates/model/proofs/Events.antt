@@ -16,10 +16,11 @@ use Rattle.message.specs.declared.Message.{Message}
 use Rattle.message.specs.declared.Message.the-variants.{Start, Join, JoinVoted, Propose, Vote}
 use Rattle.message.specs.Fields.{in-range, head-in-range, vote-in-range}
 use Rattle.member_record.specs.declared.MemberState.{MemberState}
+use Rattle.member_record.specs.Phases.{COLLECTING, PROPOSED}
 use Rattle.member_record.specs.Record.{allowed, fresh, round}
 use Rattle.member_rules.specs.Causes.{START-causes, start-causes, count-causes, PROPOSE-causes, awaits}
 use Rattle.member_rules.specs.Changes.{adopted, adopting}
-use Rattle.member.specs.Table.{JOIN-row, causes, row}
+use Rattle.member.specs.Table.{count-row, causes, row}
 use Rattle.member.specs.Table.{deliver as delivers}
 use Rattle.model.specs.Model.{Sizes, Event, start, deliver, Office, member-number, first-office, member-at, message-at, at-member, outcome, proposes-one, proposals, answer, next, after, offer-of, offers-at, offered}
 use Rattle.model.specs.Demand.{calls, ended}
@@ -49,7 +50,7 @@ module _ (z : Sizes) (o : Office) (offers : List ℕ) (I : Invariant z o offers)
   adopting-cases P q w f g = by-test (ltb (m .lead .source .0) (q .0)) (λ h. rw h (f (omega tests))) (λ h. rw h (g (omega tests)))
 
   -- the member with the vote of a JOIN taken over
-  adopted-stands : (r : Round) (s : Member) (q : Round) (w : ℕ) → JoinVoted r s q w ∈ o .sent → m .lead .phase ≡ 1 → m .lead .source .0 < q .0 →
+  adopted-stands : (r : Round) (s : Member) (q : Round) (w : ℕ) → JoinVoted r s q w ∈ o .sent → m .lead .phase ≡ COLLECTING → m .lead .source .0 < q .0 →
       Stands (z .n) (o .sent) (o .made) offers t (adopted m q w)
   adopted-stands r s q w i now up = record {
     spoken = S .spoken;
@@ -69,8 +70,8 @@ module _ (z : Sizes) (o : Office) (offers : List ℕ) (I : Invariant z o offers)
 
   -- a JOIN of the round awaited, k being m or m with the vote taken over
   join-new : (g : Message) (r : Round) (s : Member) (k : MemberState) → g ∈ o .sent → JoinOf (k .durable .led .0) (s .0) g → carried g ≤ k .lead .source .0 →
-      leb (m .who .n) (s .0) ≡ false → k .lead .phase ≡ 1 → r ≡ k .durable .led → Counts z t k → Stands (z .n) (o .sent) (o .made) offers t k →
-      (proposes-one (JOIN-row k r s .named) ≡ true → suc (proposals (o .made)) < z .table) → New z o offers t (JOIN-row k r s) []
+      leb (m .who .n) (s .0) ≡ false → k .lead .phase ≡ COLLECTING → r ≡ k .durable .led → Counts z t k → Stands (z .n) (o .sent) (o .made) offers t k →
+      (proposes-one (count-row COLLECTING k r s .named) ≡ true → suc (proposals (o .made)) < z .table) → New z o offers t (count-row COLLECTING k r s) []
   join-new g r s k i join carries low now e C St =
       rw e (JOIN-new z o offers I meets t k C St s (omega (tests, M .size)) now (record { message = g; is-sent = i; is-join = join; at-most = carries }))
 
@@ -79,26 +80,26 @@ module _ (z : Sizes) (o : Office) (offers : List ℕ) (I : Invariant z o offers)
   unfolding causes row
   message-new (Start r s) i f c room = START-new z o offers I t m M S r s (passed (START-causes m r s) refl c)
   message-new (Join r s) i f c room =
-      let (sender, (await, rest)) = passed (count-causes 1 m r s) refl c in
-      let e : r ≡ m .durable .led = awaited-round 1 r await in
-      let now : m .lead .phase ≡ 1 = awaited-phase 1 r await in
+      let (sender, (await, rest)) = passed (count-causes COLLECTING m r s) refl c in
+      let e : r ≡ m .durable .led = awaited-round COLLECTING r await in
+      let now : m .lead .phase ≡ COLLECTING = awaited-phase COLLECTING r await in
       join-new (Join r s) r s m i (ap (λ x. x .0) e, refl) (omega arith) sender now e (counts-of z t m M (omega arith)) S room
   message-new (JoinVoted r s q w) i f c room =
-      let (sender, (await, rest)) = passed (count-causes 1 m r s) refl c in
-      let e : r ≡ m .durable .led = awaited-round 1 r await in
-      let now : m .lead .phase ≡ 1 = awaited-phase 1 r await in
+      let (sender, (await, rest)) = passed (count-causes COLLECTING m r s) refl c in
+      let e : r ≡ m .durable .led = awaited-round COLLECTING r await in
+      let now : m .lead .phase ≡ COLLECTING = awaited-phase COLLECTING r await in
       let C : Counts z t m = counts-of z t m M (omega arith) in
       let below : q .0 < m .durable .led .0 = omega (tests, and-right (leb 1 (q .0)) (ltb (q .0) (r .0)) (and-right (head-in-range r s) (vote-in-range r q) f), ap (λ x. x .0) e) in
-      adopting-cases (λ k. (proposes-one (JOIN-row k r s .named) ≡ true → suc (proposals (o .made)) < z .table) → New z o offers t (JOIN-row k r s) []) q w
+      adopting-cases (λ k. (proposes-one (count-row COLLECTING k r s .named) ≡ true → suc (proposals (o .made)) < z .table) → New z o offers t (count-row COLLECTING k r s) []) q w
       (λ up. join-new (JoinVoted r s q w) r s (adopted m q w) i (ap (λ x. x .0) e, refl) (omega arith) sender now e
       (counts-adopted z t m q w below C) (adopted-stands r s q w i now up))
       (λ down. join-new (JoinVoted r s q w) r s m i (ap (λ x. x .0) e, refl) (omega arith) sender now e C S)
       room
   message-new (Propose r s v) i f c room = PROPOSE-new z o offers I t m M S r s v i (passed (PROPOSE-causes m r s v) refl c)
   message-new (Vote r s) i f c room =
-      let (sender, (await, rest)) = passed (count-causes 2 m r s) refl c in
-      let e : r ≡ m .durable .led = awaited-round 2 r await in
-      let now : m .lead .phase ≡ 2 = awaited-phase 2 r await in
+      let (sender, (await, rest)) = passed (count-causes PROPOSED m r s) refl c in
+      let e : r ≡ m .durable .led = awaited-round PROPOSED r await in
+      let now : m .lead .phase ≡ PROPOSED = awaited-phase PROPOSED r await in
       rw e (VOTE-new z o offers I meets t m (counts-of z t m M (omega arith)) S s (omega (tests, M .size)) now (subst (λ x. Vote x s ∈ o .sent) e i))
 
 module _ (z : Sizes) (ok : allowed (z .n) ≡ true) where

@@ -5,23 +5,29 @@ use mathlib.Core.Bool.{Bool, true}
 use mathlib.Core.List.{List}
 use Prim.Native.Nat.{ℕ, _<_, _≤_, _%_}
 use Rattle.laws.specs.Lists.{_∈_}
-use Rattle.quorum.specs.Quorum.{Quorum, quorum}
+use Rattle.quorum.specs.Quorum.{Quorum}
 use Rattle.tree_theory.specs.Properties.{Properties, InRange}
 use Rattle.message.specs.declared.Message.{Message}
 use Rattle.message.specs.declared.Message.the-variants.{Start, Join, JoinVoted, Propose, Vote}
+use Rattle.member_record.specs.declared.Who.{Who}
 use Rattle.member_record.specs.declared.MemberState.{MemberState}
+use Rattle.member_record.specs.Phases.{COLLECTING, PROPOSED, DECIDED, needed}
 use Rattle.member_record.specs.Record.{flag, round}
 use Rattle.member.specs.Table.{Named, proposal, decision}
 use Rattle.model.specs.Model.{Sizes, Office, member-number, member-at, proposals}
 use Rattle.model.specs.Demand.{calls}
 use Rattle.model.proofs.Senders.{sender}
 
+-- an office of n, in the eyes of one of its members
+abbrev pub office : ℕ → Who
+office n = record { me = member-number 0; n = n }
+
 -- joins needed and votes needed
 abbrev pub join-quorum : ℕ → ℕ
-join-quorum n = quorum n
+join-quorum n = needed (office n) COLLECTING
 
 abbrev pub vote-quorum : ℕ → ℕ
-vote-quorum n = quorum n
+vote-quorum n = needed (office n) PROPOSED
 
 -- a JOIN of round r by s, with or without a vote
 abbrev pub JoinOf : ℕ → ℕ → Message → Type 0
@@ -75,16 +81,16 @@ pub record Leading (n : ℕ) (sent : List Message) (made : List Named) (offers :
   pub highest : (r x b : ℕ) → proposal r x b ∈ made → r % n ≡ t → r ≤ led
   -- while it collects, no proposal of L was made; when it has proposed or decided, that of X and B was; while it has only
   -- proposed, L was not decided
-  pub collects : phase ≡ 1 → (x b : ℕ) → proposal led x b ∈ made → ⊥
-  pub proposed : 2 ≤ phase → phase ≤ 3 → proposal led value source ∈ made
-  pub undecided : phase ≡ 2 → (x : ℕ) → decision led x ∈ made → ⊥
+  pub collects : phase ≡ COLLECTING → (x b : ℕ) → proposal led x b ∈ made → ⊥
+  pub proposed : PROPOSED ≤ phase → phase ≤ DECIDED → proposal led value source ∈ made
+  pub undecided : phase ≡ PROPOSED → (x : ℕ) → decision led x ∈ made → ⊥
   -- while it collects, each flagged member sent a JOIN of L whose vote is at most B, and B, if above 0, was proposed with X
-  pub joins : phase ≡ 1 → (s : ℕ) → flag flags s ≡ true → Joined sent led source s
-  pub source-added : phase ≡ 1 → 0 < source → Added made source value
+  pub joins : phase ≡ COLLECTING → (s : ℕ) → flag flags s ≡ true → Joined sent led source s
+  pub source-added : phase ≡ COLLECTING → 0 < source → Added made source value
   -- while it has only proposed, each flagged member sent a VOTE of L
-  pub votes : phase ≡ 2 → (s : ℕ) → flag flags s ≡ true → Voted sent led s
+  pub votes : phase ≡ PROPOSED → (s : ℕ) → flag flags s ≡ true → Voted sent led s
   -- X was offered
-  pub value-offered : 1 ≤ phase → phase ≤ 3 → value ∈ offers
+  pub value-offered : COLLECTING ≤ phase → phase ≤ DECIDED → value ∈ offers
 
 -- what holds of member t, whose record is m
 pub record Stands (n : ℕ) (sent : List Message) (made : List Named) (offers : List ℕ) (t : ℕ) (m : MemberState) : Type 0 where

@@ -48,7 +48,7 @@ pub leads-one : (z : Sizes) (t : ℕ) (m : MemberState) → KeptMember z t m →
 leads-one z t m M h =
     let s : Sound m = parts m (M .is-sound) in
     by-test (eqb (m .durable .led .0) 0)
-    (λ e. absurd (omega (tests, and-left (eqb (m .lead .phase) 0) _ (rw e at (s .lead)))))
+    (λ e. absurd (omega (tests, and-left (eqb (m .lead .phase) 0) _ (rw e at (s .led)))))
     (λ e. (e, leading-parts m s e))
 
 pub own-round : (z : Sizes) (t : ℕ) (m : MemberState) → KeptMember z t m → 1 ≤ m .lead .phase → m .durable .led .0 % z .n ≡ t
@@ -67,7 +67,7 @@ source-lower z t m M h = let (e, l) = leads-one z t m M h in omega (tests, l .lo
 
 -- V is at most J
 pub vote-lower : (z : Sizes) (t : ℕ) (m : MemberState) → KeptMember z t m → m .durable .voted .0 ≤ m .durable .joined .0
-vote-lower z t m M = omega (tests, votes m (parts m (M .is-sound)) .ordered)
+vote-lower z t m M = omega (tests, votes (m .durable) (parts m (M .is-sound) .lasting) .ordered)
 
 -- what an event that gets 0 has passed
 pub record Accepted (z : Sizes) (o : Office) (e : Event) : Type 0 where

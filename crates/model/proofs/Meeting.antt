@@ -11,6 +11,7 @@ use Rattle.laws.specs.Lists.{_∈_, by-last, every-snoc, none-any}
 use Rattle.ids.specs.Ranges.{out-of-range}
 use Rattle.quorum.specs.Quorum.{Quorum}
 use Rattle.quorum.proofs.Meet.{wider, both, of-odd}
+use Rattle.member_record.specs.Phases.{needed}
 use Rattle.tree_theory.specs.Machine.{Call, add, commit, crosses}
 use Rattle.tree_theory.specs.Properties.{round-of, adds, commits, edge-crosses}
 use Rattle.tree_theory.proofs.Calls.{Next, grow, adds-intro, adds-with-intro}
@@ -25,6 +26,7 @@ use Rattle.model.proofs.Grows.{added-grows, joined-grows}
 
 -- joins and votes needed are more than N together, in every office of 2f+1
 pub odd-meets : (n f : ℕ) → n ≡ 2 * f + 1 → n < join-quorum n + vote-quorum n
+unfolding needed
 odd-meets n f e = omega (arith, of-odd n f e)
 
 -- the sizes allowed are of this kind

@@ -17,10 +17,11 @@ use Rattle.tree_theory.proofs.Calls.{adds-elim, committed-added}
 use Rattle.message.specs.declared.Message.{Message}
 use Rattle.message.specs.declared.Message.the-variants.{Start, Join, JoinVoted, Propose, Vote}
 use Rattle.member_record.specs.declared.MemberState.{MemberState}
+use Rattle.member_record.specs.Phases.{COLLECTING, PROPOSED}
 use Rattle.member_record.specs.Record.{leads, round}
 use Rattle.member_rules.specs.Causes.{start-causes, START-causes, PROPOSE-causes}
 use Rattle.member_rules.specs.Changes.{leading, join-of, counting}
-use Rattle.member.specs.Table.{proposal, decision, silent, start-row, START-row, complete, proposes, JOIN-row, PROPOSE-row, decides, VOTE-row}
+use Rattle.member.specs.Table.{proposal, decision, silent, start-row, START-row, complete, proposes, decides, count-row, PROPOSE-row}
 use Rattle.model.specs.Model.{Sizes, Office, member-number, proposals, proposes-one}
 use Rattle.model.specs.Demand.{calls}
 use Rattle.model.proofs.Made.{decision-call, call-proposal}
@@ -134,7 +135,7 @@ module _ (z : Sizes) (o : Office) (offers : List ℕ) (I : Invariant z o offers)
   own-number-of = ap (λ x. x .0) (C .number)
 
   -- one more flag, short of the quorum
-  counted-new : (k .lead .phase ≡ 1 → Joined (o .sent) (k .durable .led .0) (k .lead .source .0) (s .0)) → (k .lead .phase ≡ 2 → Voted (o .sent) (k .durable .led .0) (s .0)) →
+  counted-new : (k .lead .phase ≡ COLLECTING → Joined (o .sent) (k .durable .led .0) (k .lead .source .0) (s .0)) → (k .lead .phase ≡ PROPOSED → Voted (o .sent) (k .durable .led .0) (s .0)) →
       New z o offers t (silent (counting k s)) []
   counted-new join vote =
       let L : Leading (z .n) (o .sent ++ []) (o .made ++ []) (offers ++ []) t (k .durable .led .0) (k .lead .phase) (k .lead .value) (k .lead .source .0) (k .lead .flags) =
@@ -162,7 +163,7 @@ module _ (z : Sizes) (o : Office) (offers : List ℕ) (I : Invariant z o offers)
       }
 
   -- the JOIN that makes the quorum
-  proposes-new : k .lead .phase ≡ 1 → Joined (o .sent) (k .durable .led .0) (k .lead .source .0) (s .0) → complete (counting k s) ≡ true → suc (proposals (o .made)) < z .table →
+  proposes-new : k .lead .phase ≡ COLLECTING → Joined (o .sent) (k .durable .led .0) (k .lead .source .0) (s .0) → complete (counting k s) ≡ true → suc (proposals (o .made)) < z .table →
       New z o offers t (proposes (counting k s) (k .durable .led)) []
   proposes-new now join full row =
       record {
@@ -192,8 +193,8 @@ module _ (z : Sizes) (o : Office) (offers : List ℕ) (I : Invariant z o offers)
       }
     where
       quorum-joined : Quorum (z .n) (join-quorum (z .n)) (Joined (o .sent) (k .durable .led .0) (k .lead .source .0))
-      quorum-joined = flagged-quorum z t k s (Joined (o .sent) (k .durable .led .0) (k .lead .source .0)) C (omega (arith, C .size)) full
-          (λ i h. flag-set (k .lead .flags) (s .0) i h (λ e. rw e join) (S .leading .joins now i))
+      quorum-joined = rw (← now) (flagged-quorum z t k s (Joined (o .sent) (k .durable .led .0) (k .lead .source .0)) C (omega (arith, C .size)) full
+          (λ i h. flag-set (k .lead .flags) (s .0) i h (λ e. rw e join) (S .leading .joins now i)))
 
       -- what isn't proposed isn't decided
       undecided-before : (y : ℕ) → decision (k .durable .led .0) y ∈ o .made → ⊥
@@ -203,7 +204,7 @@ module _ (z : Sizes) (o : Office) (offers : List ℕ) (I : Invariant z o offers)
           (λ v p j. S .leading .collects now v p (call-proposal (o .made) j))
 
   -- the VOTE that makes the quorum
-  decides-new : k .lead .phase ≡ 2 → Voted (o .sent) (k .durable .led .0) (s .0) → complete (counting k s) ≡ true → New z o offers t (decides (counting k s) (k .durable .led)) []
+  decides-new : k .lead .phase ≡ PROPOSED → Voted (o .sent) (k .durable .led .0) (s .0) → complete (counting k s) ≡ true → New z o offers t (decides (counting k s) (k .durable .led)) []
   decides-new now vote full = record {
     stands = record {
       spoken = spoken-quiet (o .sent) [] t (k .durable .joined .0) (k .durable .voted .0) (k .durable .led .0) (k .durable .joined .0) (k .durable .voted .0) (k .durable .led .0)
@@ -231,17 +232,17 @@ module _ (z : Sizes) (o : Office) (offers : List ℕ) (I : Invariant z o offers)
       follows = S .leading .proposed (omega arith) (omega arith)
 
       quorum-voted : Quorum (z .n) (vote-quorum (z .n)) (Voted (o .sent) (k .durable .led .0))
-      quorum-voted = flagged-quorum z t k s (Voted (o .sent) (k .durable .led .0)) C (omega (arith, C .size)) full
-          (λ i h. flag-set (k .lead .flags) (s .0) i h (λ e. rw e vote) (S .leading .votes now i))
+      quorum-voted = rw (← now) (flagged-quorum z t k s (Voted (o .sent) (k .durable .led .0)) C (omega (arith, C .size)) full
+          (λ i h. flag-set (k .lead .flags) (s .0) i h (λ e. rw e vote) (S .leading .votes now i)))
 
-  pub JOIN-new : k .lead .phase ≡ 1 → Joined (o .sent) (k .durable .led .0) (k .lead .source .0) (s .0) →
-      (proposes-one (JOIN-row k (k .durable .led) s .named) ≡ true → suc (proposals (o .made)) < z .table) → New z o offers t (JOIN-row k (k .durable .led) s) []
+  pub JOIN-new : k .lead .phase ≡ COLLECTING → Joined (o .sent) (k .durable .led .0) (k .lead .source .0) (s .0) →
+      (proposes-one (count-row COLLECTING k (k .durable .led) s .named) ≡ true → suc (proposals (o .made)) < z .table) → New z o offers t (count-row COLLECTING k (k .durable .led) s) []
   JOIN-new now join row =
       by-test (complete (counting k s))
       (λ h. rw h (proposes-new now join h (row (rw h refl))))
       (λ h. rw h (counted-new (λ p. join) (λ p. absurd (omega arith))))
 
-  pub VOTE-new : k .lead .phase ≡ 2 → Voted (o .sent) (k .durable .led .0) (s .0) → New z o offers t (VOTE-row k (k .durable .led) s) []
+  pub VOTE-new : k .lead .phase ≡ PROPOSED → Voted (o .sent) (k .durable .led .0) (s .0) → New z o offers t (count-row PROPOSED k (k .durable .led) s) []
   VOTE-new now vote =
       by-test (complete (counting k s))
       (λ h. rw h (decides-new now vote h))

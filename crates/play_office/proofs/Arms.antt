@@ -14,17 +14,13 @@ use Rattle.ids.specs.declared.Round.{Round}
 use Rattle.tree_theory.specs.Machine.{Call, add, commit, step}
 use Rattle.tree_theory.specs.Table.{rows, table}
 use Rattle.message.specs.declared.Message.{Message}
-use Rattle.message.specs.Fields.{in-range}
 use Rattle.member_record.specs.declared.MemberState.{MemberState}
-use Rattle.member_rules.specs.declared.refusals.Refusal.{Refusal}
-use Rattle.member_rules.specs.declared.refusals.Refusal.the-variants.{NotSound, Field, RoundRange, NotLeader, NotAboveLed}
-use Rattle.member_rules.specs.declared.refusals.Refusal.the-variants.{Sender, MovedPast, OtherValue, NotAwaited, CountedAlready}
-use Rattle.member_rules.specs.Refusals.{refusal-number}
 use Rattle.member.specs.declared.Answer.{Answer}
 use Rattle.member.specs.declared.Answer.the-variants.{Sent, Proposed}
 use Rattle.member.specs.declared.Step.{Step}
 use Rattle.member.specs.Answers.{answer-outcome}
 use Rattle.member.specs.Answers.{outcome as step-outcome}
+use Rattle.member.specs.Kept.{Kept}
 use Rattle.member.specs.Table.{Outcome, refused, sends, silent, nothing, proposal, decision}
 use Rattle.member.proofs.Keeping.{step-kept}
 use Rattle.model.specs.Model.{Sizes, Event, Office, at-member, event-of, member-at, sends-one, outcome, proposals, taken}
@@ -50,27 +46,14 @@ proposing m g r x b = record { number = 0; state = m; sent = g ∷ []; named = p
 abbrev pub deciding : MemberState → ℕ → ℕ → Outcome
 deciding m r x = record { number = 0; state = m; sent = []; named = decision r x }
 
--- a refusal's number is a byte
-pub refusal-small : (k : Refusal) → refusal-number k < 256
-refusal-small NotSound = omega arith
-refusal-small Field = omega arith
-refusal-small RoundRange = omega arith
-refusal-small NotLeader = omega arith
-refusal-small NotAboveLed = omega arith
-refusal-small Sender = omega arith
-refusal-small MovedPast = omega arith
-refusal-small OtherValue = omega arith
-refusal-small NotAwaited = omega arith
-refusal-small CountedAlready = omega arith
-
 -- the step taken, by its answer
 pub by-answer : {z : Sizes} {o : Office} {e : Event} {i : ℕ} (s : Step) {b : Answer} → s .answer ≡ b →
     ModelStep z o e i (step-outcome s) → ModelStep z o e i (answer-outcome (s .state) b)
 by-answer {z} {o} {e} {i} s q T = subst (λ b. ModelStep z o e i (answer-outcome (s .state) b)) q T
 
--- what a step sends is within its ranges
-pub sent-ranged : {t : Tally} {m : MemberState} {u : Outcome} {M : Memory} → OutcomeBefore t m u M → (g : Message) → g ∈ u .sent → in-range g ≡ true
-sent-ranged F g n =
+-- what a step sends is within its ranges, and its number is a byte
+pub step-keeps : {t : Tally} {m : MemberState} {u : Outcome} {M : Memory} → OutcomeBefore t m u M → Kept u
+step-keeps F =
     let z = F .before .z in
     let o = F .before .o in
     let K = F .before .sound in
@@ -78,8 +61,7 @@ sent-ranged F g n =
     let k = at-member (F .e) in
     let was = K .each k (T .member) in
     let same = T .equals ∙ step-is-sound z o (K .ranged) (F .e) (was .is-sound) (T .there) in
-    step-kept (member-at z o k) (event-of o (F .e)) (was .seven) (was .is-sound) (event-fits z o (K .ranged) (F .e) (T .there)) .sent-in-range g
-    (subst (λ (v : Outcome). g ∈ v .sent) same n)
+    rw same (step-kept (member-at z o k) (event-of o (F .e)) (was .seven) (was .is-sound) (event-fits z o (K .ranged) (F .e) (T .there)))
 
 -- the message of an answer that sends one
 pub answers-sent : (m : MemberState) {a : Answer} {g : Message} → a ≡ Sent g → g ∈ answer-outcome m a .sent

@@ -12,9 +12,6 @@ use Rattle.laws.specs.First.{first, _gives_}
 use Rattle.numbers.specs.Numbers.{TABLE-FULL, STORE-FULL, no-row-left}
 use Rattle.tree_theory.specs.Table.{table}
 use Rattle.member_record.specs.declared.MemberState.{MemberState}
-use Rattle.member.specs.declared.Answer.{Answer}
-use Rattle.member.specs.declared.Answer.the-variants.{Refused, Sent, Done, Proposed, Decided}
-use Rattle.member.specs.Answers.{answer-outcome}
 use Rattle.member.specs.Table.{Outcome}
 use Rattle.model.specs.Model.{Sizes, Event, Office, at-member, sends-one, proposes-one, proposals, event-causes, answer, made-by, taken, next}
 use Rattle.model.specs.Counts.{tree, decisions}
@@ -25,14 +22,6 @@ use Rattle.play_effects.specs.declared.Tally.{Tally}
 use Rattle.play_effects.specs.Memory.{Memory}
 use Rattle.play_effects.specs.Effects.{counted, refused-event, accepted-event}
 use Rattle.play_office.specs.Represents.{RecordAt, Represents, StepBefore, StepAfter, ModelStep}
-
--- the record stands beside every answer
-pub state-of : (m : MemberState) (a : Answer) → answer-outcome m a .state ≡ m
-state-of m (Refused k) = refl
-state-of m (Sent g) = refl
-state-of m Done = refl
-state-of m (Proposed g r x b) = refl
-state-of m (Decided r x) = refl
 
 -- a record put back where it was
 set-same : (ms : List MemberState) (i : ℕ) (m : MemberState) → RecordAt ms i m → set ms i m ≡ ms

@@ -5,6 +5,7 @@ use ids::Member;
 use member::Answer;
 use member::Step;
 use member_record::MemberState;
+use member_record::blank;
 use play_effects::AfterEvent;
 use play_effects::Tally;
 use play_effects::decide;
@@ -12,8 +13,9 @@ use play_effects::propose;
 use play_effects::refused_event;
 use play_effects::send;
 ghost use mathlib.Core.Path.{_≡_};
+ghost use mathlib.Core.Bool.{true};
 ghost use Rattle.member_record.specs.Record.{fresh};
-ghost use Rattle.member.specs.Answers.{outcome};
+ghost use Rattle.member.specs.Answers.{outcome, numbered-answer};
 ghost use Rattle.model.specs.Model.{member-number};
 ghost use Rattle.play_effects.specs.Memory.{in-memory};
 ghost use Rattle.play_office.specs.Represents.{OutcomeBefore, OutcomeSettled, fresh-office};
@@ -28,8 +30,7 @@ pub struct PlayedOffice {
 fn fresh_member(k: u32, n: u32) -> MemberState
     ensures { λ m. ⌜ m ≡ fresh (member-number k) n ⌝ }
 {
-    let s = member::fresh(Member(k), n);
-    s.state
+    blank(Member(k), n)
 }
 
 // Fresh members, nothing sent and nothing made.
@@ -64,14 +65,14 @@ pub fn settle(
     messages: &mut [u8],
     nodes: &mut [u64],
 ) -> AfterEvent
-    requires { ⌜ OutcomeBefore tally m (outcome s) (in-memory (now messages) (now nodes)) ⌝ }
+    requires { ⌜ OutcomeBefore tally m (outcome s) (in-memory (now messages) (now nodes)) × (numbered-answer (s .answer) ≡ true) ⌝ }
     ensures { λ w. ⌜ OutcomeSettled tally m (outcome s) (in-memory (now (messages .entry)) (now (nodes .entry))) w
         (in-memory (now (messages .exit)) (now (nodes .exit))) ⌝ }
 {
     let state = s.state;
     let a = s.answer;
     match a {
-        Answer::Refused(k) => refused_event(m, tally, member::number(k)),
+        Answer::Refused(k) => refused_event(m, tally, k),
         Answer::Done => AfterEvent {
             state,
             tally,

@@ -3,20 +3,24 @@ use mathlib.Core.Path.{_≡_}
 use native.Mathlib.Omega.{arith}
 use lib.ListN.{length, length-map}
 use Rattle.member_record.proofs.Sound.{sound-size}
-use Rattle.member.proofs.Keeping.{step-kept}
 use Rattle.member.specs.Table.{deliver}
+use Rattle.member.proofs.Keeping.{stepped, step-kept}
+use borrow.Author.Needs.{needs}
 use Rattle.member.proofs.deliver_sound.Statement.{statement}
 use Rattle.member.proofs.deliver_sound.Tie as tie
 
 on-message-requires : tie.Need-on-message-requires
 on-message-requires c κs = let (low, high) = sound-size (c .args .m) (c .pre .0) in (omega arith, high)
 
+step-of-requires : tie.Need-step-of-requires
+step-of-requires c κs = search needs
+
 returns : tie.Need-returns
 returns c =
-    let args = c .before .args in
-    let pre′ = c .before .pre in
-    let seven : length (args .m .lead .flags) ≡ 7 = simp length-map at (c .before .good .0 .1 .1 .1 .1 .0 .1 .1 .1 .1 .1 .0 .1 .0 .1) in
-    record { equals = c .on-message .ensures; kept = rw (c .on-message .ensures) (step-kept (args .m) (deliver (args .g)) seven (pre′ .0) (pre′ .1)) }
+    let entry = c .before .before in
+    let args = entry .args in
+    let seven : length (args .m .lead .flags) ≡ 7 = simp length-map at (entry .good .0 .1 .1 .1 .1 .0 .1 .1 .1 .1 .1 .0 .1 .0 .1) in
+    stepped (args .m) (deliver (args .g)) (c .step-of .ensures) (c .before .on-message .ensures) (step-kept (args .m) (deliver (args .g)) seven (entry .pre .0) (entry .pre .1))
 
 pub deliver-sound-spec : {M : Type 1} → statement M
-deliver-sound-spec = tie.close (tie.spec on-message-requires returns)
+deliver-sound-spec = tie.close (tie.spec on-message-requires step-of-requires returns)

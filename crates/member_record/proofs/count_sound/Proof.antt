@@ -7,14 +7,14 @@ use Rattle.member_record.proofs.count_sound.Tie as tie
 count-flags-requires : tie.Need-count-flags-requires
 count-flags-requires c κs = search needs
 
-quorum-of-requires : tie.Need-quorum-of-requires
-quorum-of-requires c κs = search needs
+needed-requires : tie.Need-needed-requires
+needed-requires c κs = search needs
 
 returns : tie.Need-returns
-returns c = simp (eq-eqb _ _ (c .if1 .taken), c .before .before .before .count-flags .ensures, c .before .before .quorum-of .ensures)
+returns c = let b = c .before .before in simp (eq-eqb _ _ (c .if1 .taken), b .before .count-flags .ensures, b .needed .ensures)
 
 returns-2 : tie.Need-returns-2
-returns-2 c = simp (ne-eqb _ _ (c .if1 .left), c .before .before .before .count-flags .ensures, c .before .before .quorum-of .ensures)
+returns-2 c = let b = c .before .before in simp (ne-eqb _ _ (c .if1 .left), b .before .count-flags .ensures, b .needed .ensures)
 
 pub count-sound-spec : {M : Type 1} → statement M
-count-sound-spec = tie.close (tie.spec count-flags-requires quorum-of-requires returns returns-2)
+count-sound-spec = tie.close (tie.spec count-flags-requires needed-requires returns returns-2)

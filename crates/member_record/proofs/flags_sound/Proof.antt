@@ -15,11 +15,12 @@ count-below-requires-2 c κs = search needs
 
 returns : tie.Need-returns
 returns c =
-    let args = c .before .before .before .before .args in
+    let entry = c .before .before .before .before in
+    let args = entry .args in
     rw (
       c .before .count-below .ensures,
       c .count-below2 .ensures,
-    ) (counts-agree (args .m .who .n) (args .m .lead .flags) (c .before .before .before .before .pre))
+    ) (counts-agree (args .who .n) (args .l .flags) (entry .pre))
 
 pub flags-sound-spec : {M : Type 1} → statement M
 flags-sound-spec = tie.close (tie.spec cast-n count-below-requires count-below-requires-2 returns)

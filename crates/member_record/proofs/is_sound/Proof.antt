@@ -1,7 +1,12 @@
 -- `member_record::is_sound` meets its contract: each return goes by the tests that led there; an allowed N is 3 to 7. Assumes nothing.
+use mathlib.Core.Path.{_≡_, sym, _∙_}
+use mathlib.Core.Bool.{Bool, true, _&&_}
+use Prim.Native.Nat.{_≤_}
+use lib.Dec.{leb}
 use borrow.Author.Tests.{le-leb, lt-leb, not-true, not-false}
 use native.Mathlib.Omega.{arith}
-use Rattle.member_record.specs.Record.{sound}
+use Rattle.member_record.specs.Phases.{DECIDED}
+use Rattle.member_record.specs.Record.{sound, sound-number, sound-durable, sound-flags, sound-lead}
 use Rattle.member_record.proofs.Flags.{number-sizes}
 use borrow.Author.Needs.{needs}
 use Rattle.member_record.proofs.is_sound.Statement.{statement}
@@ -14,71 +19,48 @@ returns : tie.Need-returns
 unfolding sound
 returns c = rw (← c .before .number-sound .ensures, not-true (c .before .number-sound .result) (c .if1 .taken))
 
+-- where the first test fails, and then each of the next, what is known and what is left
+numbered : (c : tie.Else1) → let m = c .before .before .before .before .before .before .args .m in sound-number (m .who .me) (m .who .n) ≡ true
+numbered c = sym (c .before .number-sound .ensures) ∙ not-false (c .before .number-sound .result) (c .if1 .left)
+
 returns-2 : tie.Need-returns-2
 unfolding sound
-returns-2 c =
-    let number-sound = c .before .before .before .number-sound in
-    rw (← number-sound .ensures, not-false (number-sound .result) (c .before .before .if1 .left), lt-leb _ _ (c .if2 .taken))
+returns-2 c = rw (numbered (c .before .before), lt-leb _ _ (c .if2 .taken))
 
-vote-sound-requires : tie.Need-vote-sound-requires
-vote-sound-requires c κs = search needs
+left : (c : tie.Else2) →
+    let m = c .before .before .before .before .before .before .before .before .args .m in
+    sound m ≡ (sound-durable (m .durable) && (sound-flags (m .who) (m .lead) && sound-lead m))
+unfolding sound
+left c = rw (numbered (c .before .before), le-leb _ _ (c .if2 .left))
+
+durable-sound-requires : tie.Need-durable-sound-requires
+durable-sound-requires c κs = search needs
 
 returns-3 : tie.Need-returns-3
-unfolding sound
-returns-3 c =
-    let number-sound = c .before .before .before .before .before .number-sound in
-    let vote-sound = c .before .vote-sound in
-    rw (
-      ← number-sound .ensures,
-      not-false (number-sound .result) (c .before .before .before .before .if1 .left),
-      le-leb _ _ (c .before .before .if2 .left),
-      ← vote-sound .ensures,
-      not-true (vote-sound .result) (c .if3 .taken),
-    )
+returns-3 c = rw (left (c .before .before), ← c .before .durable-sound .ensures, not-true (c .before .durable-sound .result) (c .if3 .taken))
+
+left-2 : (c : tie.Else3) →
+    let m = c .before .before .before .before .before .before .before .before .before .before .args .m in
+    (sound m ≡ (sound-flags (m .who) (m .lead) && sound-lead m)) × (1 ≤ m .who .n) × (m .who .n ≤ 7)
+left-2 c =
+    let b = c .before .before in
+    let m = b .before .before .before .before .before .before .before .before .args .m in
+    let (own, low, high) = number-sizes (m .who .me) (m .who .n) (numbered (b .before .before)) in
+    (rw (left b, ← c .before .durable-sound .ensures, not-false (c .before .durable-sound .result) (c .if3 .left)), omega arith, high)
 
 flags-sound-requires : tie.Need-flags-sound-requires
-flags-sound-requires c κs =
-    let args = c .before .before .before .before .before .before .before .args in
-    let number-sound = c .before .before .before .before .before .number-sound in
-    omega (arith, number-sizes (args .m .who .me) (args .m .who .n) (rw (number-sound .ensures) at (not-false (number-sound .result) (c .before .before .before .before .if1 .left))))
+flags-sound-requires c κs = left-2 c .2
 
 returns-4 : tie.Need-returns-4
-unfolding sound
-returns-4 c =
-    let number-sound = c .before .before .before .before .before .before .before .number-sound in
-    let vote-sound = c .before .before .before .vote-sound in
-    let flags-sound = c .before .flags-sound in
-    rw (
-      ← number-sound .ensures,
-      not-false (number-sound .result) (c .before .before .before .before .before .before .if1 .left),
-      le-leb _ _ (c .before .before .before .before .if2 .left),
-      ← vote-sound .ensures,
-      not-false (vote-sound .result) (c .before .before .if3 .left),
-      ← flags-sound .ensures,
-      not-true (flags-sound .result) (c .if4 .taken),
-    )
+returns-4 c = rw (left-2 (c .before .before) .0, ← c .before .flags-sound .ensures, not-true (c .before .flags-sound .result) (c .if4 .taken))
 
 lead-sound-requires : tie.Need-lead-sound-requires
-lead-sound-requires c κs =
-    let args = c .before .before .before .before .before .before .before .before .before .args in
-    let number-sound = c .before .before .before .before .before .before .before .number-sound in
-    omega (arith, number-sizes (args .m .who .me) (args .m .who .n) (rw (number-sound .ensures) at (not-false (number-sound .result) (c .before .before .before .before .before .before .if1 .left))))
+lead-sound-requires c κs = left-2 (c .before .before) .1
 
 returns-5 : tie.Need-returns-5
-unfolding sound
 returns-5 c =
-    let number-sound = c .before .before .before .before .before .before .before .before .number-sound in
-    let vote-sound = c .before .before .before .before .vote-sound in
-    let flags-sound = c .before .before .flags-sound in
-    rw (
-      ← number-sound .ensures,
-      not-false (number-sound .result) (c .before .before .before .before .before .before .before .if1 .left),
-      le-leb _ _ (c .before .before .before .before .before .if2 .left),
-      ← vote-sound .ensures,
-      not-false (vote-sound .result) (c .before .before .before .if3 .left),
-      ← flags-sound .ensures,
-      not-false (flags-sound .result) (c .before .if4 .left),
-    ) (c .lead-sound .ensures)
+    let d = c .before in
+    rw (left-2 (d .before .before) .0, ← d .before .flags-sound .ensures, not-false (d .before .flags-sound .result) (d .if4 .left)) (c .lead-sound .ensures)
 
 pub is-sound-spec : {M : Type 1} → statement M
 is-sound-spec =
@@ -87,7 +69,7 @@ is-sound-spec =
     number-sound-requires
     returns
     returns-2
-    vote-sound-requires
+    durable-sound-requires
     returns-3
     flags-sound-requires
     returns-4

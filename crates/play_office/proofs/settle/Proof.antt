@@ -1,11 +1,8 @@
 -- `crate::settle` meets its contract: each answer of the member is one arm, and each arm one law. Assumes nothing.
-use mathlib.Core.Path.{_≡_}
-use Rattle.laws.specs.Tests.{tests}
-use Rattle.member_rules.specs.Refusals.{refusal-number}
-use Rattle.member_rules.proofs.Checks.{numbered}
+use Rattle.member.proofs.Checks.{refused-byte, refused-some}
 use Rattle.play_office.proofs.Before.{counts-fit, is-a-tree}
 use Rattle.play_office.proofs.Settling.{as-result}
-use Rattle.play_office.proofs.Arms.{by-answer, refusal-small, sent-ranged, answers-sent, answers-proposed}
+use Rattle.play_office.proofs.Arms.{by-answer, step-keeps, answers-sent, answers-proposed}
 use Rattle.play_office.proofs.Arms.{refuses, goes-silent, sends-go, proposes-go, decides-go}
 use borrow.Author.Needs.{needs}
 use Rattle.play_office.proofs.settle.Statement.{statement}
@@ -16,7 +13,7 @@ abbrev entry : tie.After-state → tie.Start
 entry c = c .before .before .before
 
 -- the answer of each arm, from where its effect is called; and that from the end
-abbrev refused-arm : tie.After-number → tie.After-a
+abbrev refused-arm : tie.After-refused-event → tie.After-a
 refused-arm c = c .before .before
 
 abbrev sent-arm : tie.After-send-arg → tie.After-a2
@@ -40,9 +37,6 @@ decided c = c .before .before
 enum-known-a : tie.Need-enum-known-a
 enum-known-a c = search needs
 
-number-requires : tie.Need-number-requires
-number-requires c κs = search needs
-
 refused-event-requires : tie.Need-refused-event-requires
 refused-event-requires c κs = search needs
 
@@ -54,34 +48,34 @@ enum-known-a-2 c = search needs
 
 send-requires : tie.Need-send-requires
 send-requires c κs =
-    let F = entry (sent-arm c .before .before) .pre in
-    (counts-fit (F .before), sent-ranged F _ (answers-sent _ (sent-arm c .a2 .given .1)))
+    let F = entry (sent-arm c .before .before) .pre .0 in
+    (counts-fit (F .before), step-keeps F .sent-in-range _ (answers-sent _ (sent-arm c .a2 .given .1)))
 
 enum-known-a-3 : tie.Need-enum-known-a-3
 enum-known-a-3 c = search needs
 
 propose-requires : tie.Need-propose-requires
 propose-requires c κs =
-    let F = entry (proposed-arm c .before .before) .pre in
-    (counts-fit (F .before), sent-ranged F _ (answers-proposed _ (proposed-arm c .a3 .given .1)), F .before .sizes .table-length, is-a-tree (F .before))
+    let F = entry (proposed-arm c .before .before) .pre .0 in
+    (counts-fit (F .before), step-keeps F .sent-in-range _ (answers-proposed _ (proposed-arm c .a3 .given .1)), F .before .sizes .table-length, is-a-tree (F .before))
 
 enum-known-a-4 : tie.Need-enum-known-a-4
 enum-known-a-4 c = search needs
 
 decide-requires : tie.Need-decide-requires
 decide-requires c κs =
-    let F = entry (decided-arm c .before .before) .pre in
+    let F = entry (decided-arm c .before .before) .pre .0 in
     (counts-fit (F .before), F .before .sizes .table-length, is-a-tree (F .before))
 
 returns : tie.Need-returns
 returns c =
     λ F.
-    let arm = refused-arm (c .before) in
-    let s = entry (arm .before .before) .args .s in
-    let k = arm .a .given .0 .0 in
-    let n : c .before .number .result ≡ refusal-number k = c .before .number .ensures in
+    let arm = refused-arm c in
+    let is = arm .a .given .1 in
+    let start = entry (arm .before .before) in
+    let s = start .args .s in
     as-result (F .before) _ (c .refused-event .ensures)
-    (rw n (refuses (F .before) (F .record-at) (by-answer s (arm .a .given .1) (F .step)) (λ q. omega (tests, numbered k)) (refusal-small k)))
+    (refuses (F .before) (F .record-at) (by-answer s is (F .step)) (refused-some is (start .pre .1)) (refused-byte (s .state) is (step-keeps F)))
 
 returns-2 : tie.Need-returns-2
 returns-2 c =
@@ -126,7 +120,6 @@ settle-spec =
     tie.close
     (tie.spec
     enum-known-a
-    number-requires
     refused-event-requires
     enum-told
     enum-known-a-2

@@ -8,9 +8,6 @@ use Rattle.member_calls.proofs.reply.tell.Tie as tie
 enum-known-answer : tie.Need-enum-known-answer
 enum-known-answer c = search needs
 
-number-requires : tie.Need-number-requires
-number-requires c κs = search needs
-
 refuse-requires : tie.Need-refuse-requires
 refuse-requires c κs = search needs
 
@@ -50,7 +47,7 @@ give-requires-4 c κs = search needs
 
 returns : tie.Need-returns
 returns c =
-    rw (c .before .before .before .answer .given .1, ← c .before .number .ensures) (record { answers = c .refuse .ensures; reply = refl })
+    rw (c .before .before .answer .given .1) (record { answers = c .refuse .ensures; reply = refl })
 
 same-length : tie.Need-same-length
 same-length c = search needs
@@ -79,7 +76,6 @@ tell-spec =
     tie.close
     (tie.spec
     enum-known-answer
-    number-requires
     refuse-requires
     enum-known-answer-2
     send-requires

@@ -3,6 +3,7 @@ use mathlib.Core.Path.{_≡_, sym, _∙_}
 use mathlib.Core.List.{[], _∷_}
 use borrow.Author.Tests.{lt-ltb, le-ltb}
 use Rattle.laws.specs.First.{_gives_, first}
+use Rattle.numbers.specs.Numbers.{ANOTHER-VALUE}
 use Rattle.member_rules.specs.Causes.{other-vote, PROPOSE-causes}
 use Rattle.member_rules.proofs.Checks.{denied}
 use borrow.Author.Needs.{needs}
@@ -26,7 +27,7 @@ voted-otherwise-requires c κs = search needs
 -- where the first two tests fail, the last cause is left
 left : (c : tie.Else2) →
     let args = c .before .before .before .before .before .args in
-    first (PROPOSE-causes (args .m) (args .r) (args .s) (args .v)) ≡ first (other-vote (args .m) (args .r) (args .v) gives 23 ∷ [])
+    first (PROPOSE-causes (args .m) (args .r) (args .s) (args .v)) ≡ first (other-vote (args .m) (args .r) (args .v) gives ANOTHER-VALUE ∷ [])
 left c =
     let b = c .before .before .before in
     rw (denied (b .before .is-leader .ensures) (b .if1 .left), le-ltb _ _ (c .if2 .left))

@@ -5,6 +5,7 @@ use lib.Dec.{leb}
 use borrow.Author.Tests.{le-leb, lt-leb}
 use Rattle.laws.specs.First.{_gives_, first}
 use Rattle.ids.specs.Ranges.{out-of-range}
+use Rattle.numbers.specs.Numbers.{NOT-ABOVE-LED}
 use Rattle.member_rules.specs.Causes.{start-causes}
 use Rattle.member_rules.proofs.Checks.{denied, held}
 use borrow.Author.Needs.{needs}
@@ -31,7 +32,7 @@ returns-2 c =
 -- where the first two tests fail, the last cause is left
 left : (c : tie.Else2) →
     let args = c .before .before .before .before .before .args in
-    first (start-causes (args .m) (args .r)) ≡ first (leb (args .r .0) (args .m .durable .led .0) gives 20 ∷ [])
+    first (start-causes (args .m) (args .r)) ≡ first (leb (args .r .0) (args .m .durable .led .0) gives NOT-ABOVE-LED ∷ [])
 left c =
     let a = c .before .before .before in
     rw (

@@ -52,7 +52,8 @@ settle-requires c κs =
     let f = fetched c in
     let test = f .before .before in
     let E = entry (a-member test .before) .pre in
-    to-settle E (step-deliver E (test .if2 .left) (a-member test .if1 .left) (f .fetch .ensures) (c .before .before .deliver-sound .ensures))
+    let taken = c .before .before .deliver-sound .ensures in
+    (to-settle E (step-deliver E (test .if2 .left) (a-member test .if1 .left) (f .fetch .ensures) taken), taken .numbered)
 
 same-length : tie.Need-same-length
 same-length c = search needs

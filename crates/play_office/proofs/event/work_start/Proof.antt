@@ -31,7 +31,7 @@ settle-requires : tie.Need-settle-requires
 settle-requires c κs =
     let s = stepped c in
     let E = entry (s .before .before) .pre in
-    to-settle E (step-start E (s .before .if1 .left) (s .start-sound .ensures))
+    (to-settle E (step-start E (s .before .if1 .left) (s .start-sound .ensures)), s .start-sound .ensures .numbered)
 
 same-length : tie.Need-same-length
 same-length c = search needs
