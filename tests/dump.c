@@ -1,17 +1,15 @@
-/* Reads lines of bytes in hex, decodes each as a message by the code that an XDR compiler made of xdr/messages.x, and prints it as
-   the program message_cases does. */
-#include <stdio.h>
-#include <string.h>
+/* Reads lines of bytes in hex and decodes each by the code that an XDR compiler made of xdr/messages.x: as a message, which is printed as the
+   program message_cases does, or with the argument `list` as a list of events, which is printed in the rig's notation. */
+#include "hex.h"
 #include "messages.h"
+#include <string.h>
 
-static size_t bytes_of(const char *hex, char *out, size_t room) {
-    size_t n = 0;
-    unsigned b;
-    while (n < room && sscanf(hex + 2 * n, "%2x", &b) == 1) out[n++] = (char)b;
-    return n;
-}
+/* Room for the longest list, of 1,000 events of 20 bytes, and some more. */
+enum { ROOM = 8 + 20 * 1000 + 100 };
 
-static void show(const message *m) {
+static char line[2 * ROOM + 2], data[ROOM], again[ROOM];
+
+static void show_message(const message *m) {
     static const char *const names[] = {"", "START", "JOIN", "PROPOSE", "VOTE"};
     message_head h = m->kind == JOIN ? m->message_u.join.head : m->kind == PROPOSE ? m->message_u.propose.head : m->message_u.start;
     printf("%s %u %u ", names[m->kind], h.round, h.sender);
@@ -21,18 +19,39 @@ static void show(const message *m) {
     printf("\n");
 }
 
-int main(void) {
-    char line[256], data[64];
+static void show_list(const event_list *l) {
+    printf("n=%u", l->members);
+    for (unsigned i = 0; i < l->events.events_len; i++) {
+        const event *e = &l->events.events_val[i];
+        const round_start *s = &e->event_u.start;
+        if (e->kind == ROUND_START) printf(" s(%u,%u,%llu)", s->member, s->round, (unsigned long long)s->offer);
+        else printf(" d(%u,%u)", e->event_u.deliver.message, e->event_u.deliver.member);
+    }
+    printf("\n");
+}
+
+/* Whether the bytes are wholly of the type and encode to themselves. */
+static int decoded(xdrproc_t type, void *into, size_t n) {
+    XDR from, to;
+    xdrmem_create(&from, data, (unsigned)n, XDR_DECODE);
+    if (!type(&from, into) || xdr_getpos(&from) != n) return 0;
+    xdrmem_create(&to, again, ROOM, XDR_ENCODE);
+    return type(&to, into) && xdr_getpos(&to) == n && !memcmp(data, again, n);
+}
+
+int main(int count, char **arguments) {
+    int lists = count > 1 && !strcmp(arguments[1], "list");
     while (fgets(line, sizeof line, stdin)) {
-        XDR x;
-        message m;
+        message m = {0};
+        event_list l = {0};
         char *hex = strtok(line, " \n");
-        size_t n = bytes_of(hex, data, sizeof data);
-        memset(&m, 0, sizeof m);
-        xdrmem_create(&x, data, (unsigned)n, XDR_DECODE);
-        printf("%s ", hex);
-        if (xdr_message(&x, &m) && xdr_getpos(&x) == n) show(&m);
+        size_t n = hex ? bytes_of(hex, data, ROOM) : 0;
+        if (lists && decoded((xdrproc_t)xdr_event_list, &l, n)) show_list(&l);
+        else if (lists) printf("no list\n");
+        else if (printf("%s ", hex), decoded((xdrproc_t)xdr_message, &m, n)) show_message(&m);
         else printf("no message\n");
+        xdr_free((xdrproc_t)xdr_event_list, (char *)&l);
+        xdr_free((xdrproc_t)xdr_message, (char *)&m);
     }
     return 0;
 }

@@ -1,4 +1,5 @@
-/* Calls each function of kalebasin.h and expects what document 01 says: its rehearsal, a message, a tree of two rounds, and refusals. */
+/* Calls each function of kalebasin.h and expects what document 01 says: its rehearsal, a message, a tree of two rounds, and refusals; slices of
+   no elements, also null ones, and bytes at odd addresses. */
 #include "kalebasin.h"
 #include <stdio.h>
 #include <string.h>
@@ -43,17 +44,17 @@ static int play(void) {
     EXPECT(r.number == 0 && r.accepted == 14 && r.messages == 10 && r.proposals == 2 && r.decisions == 1);
     EXPECT(!memcmp(answers, want_answers, sizeof answers) && !memcmp(table, want_table, sizeof table));
     r = kalebasin_play(list, length - 1, store, sizeof store, table, 16, answers, sizeof answers);
-    EXPECT(r.number == 26 && !r.accepted && !r.messages && !r.proposals && !r.decisions);
+    EXPECT(r.number == KALEBASIN_LIST_SHAPE && !r.accepted && !r.messages && !r.proposals && !r.decisions);
     return 0;
 }
 
 static int read_message(void) {
     static const uint8_t join[28] = {0, 0, 0, 2, 0, 0, 0, 9, 0, 0, 0, 3, 0, 0, 0, 1, 0, 0, 0, 8, 1, 2, 3, 4, 5, 6, 7, 8};
     KalebasinMessageResult r = kalebasin_read_message(join, 28);
-    EXPECT(r.number == 0 && r.kind == 2 && r.round == 9 && r.sender == 3);
+    EXPECT(r.number == 0 && r.kind == KALEBASIN_JOIN && r.round == 9 && r.sender == 3);
     EXPECT(r.present == 1 && r.voted == 8 && r.value == 0x0102030405060708);
     r = kalebasin_read_message(join, 27);
-    EXPECT(r.number == 14 && !r.kind && !r.round && !r.sender && !r.present && !r.voted && !r.value);
+    EXPECT(r.number == KALEBASIN_MESSAGE_LENGTH && !r.kind && !r.round && !r.sender && !r.present && !r.voted && !r.value);
     return 0;
 }
 
@@ -70,6 +71,52 @@ static int tree(void) {
     return 0;
 }
 
+/* Slices of no elements, with a pointer that mustn't be followed: null, or one to memory that isn't there. */
+static int nothing(uint64_t *nowhere) {
+    static const uint8_t no_events[8] = {0, 0, 0, 3};
+    static const uint8_t one_event[20] = {0, 0, 0, 3, 0, 0, 0, 1, 0, 0, 0, 2};
+    uint8_t *none = (uint8_t *)nowhere, store[28], answers[1];
+    uint64_t table[4], out[1];
+    EXPECT(kalebasin_play(none, 0, store, 28, table, 4, answers, 1).number == KALEBASIN_LIST_SHAPE);
+    EXPECT(kalebasin_play(no_events, 8, none, 0, table, 4, answers, 1).number == KALEBASIN_STORE_OR_ANSWERS);
+    EXPECT(kalebasin_play(no_events, 8, store, 28, nowhere, 0, answers, 1).number == KALEBASIN_TABLE_LENGTH);
+    EXPECT(kalebasin_play(one_event, 20, store, 28, table, 4, none, 0).number == KALEBASIN_STORE_OR_ANSWERS);
+    EXPECT(kalebasin_play(no_events, 8, store, 28, table, 4, none, 0).number == KALEBASIN_OK);
+    EXPECT(table[0] == 0 && table[1] == 0 && table[2] == 0 && table[3] == KALEBASIN_COMMITTED);
+    EXPECT(kalebasin_play(none, 0, none, 0, nowhere, 0, none, 0).number == KALEBASIN_LIST_SHAPE);
+    EXPECT(kalebasin_read_message(none, 0).number == KALEBASIN_MESSAGE_LENGTH);
+    EXPECT(kalebasin_tree_fresh(nowhere, 0) == KALEBASIN_TABLE_LENGTH);
+    EXPECT(kalebasin_tree_add(nowhere, 0, 1, 5, 0) == KALEBASIN_TABLE_LENGTH);
+    EXPECT(kalebasin_tree_commit(nowhere, 0, 1) == KALEBASIN_TABLE_LENGTH);
+    EXPECT(kalebasin_tree_path(nowhere, 0, 0, out, 1).number == KALEBASIN_TABLE_LENGTH);
+    EXPECT(kalebasin_tree_path(table, 4, 0, nowhere, 0).number == KALEBASIN_PATH_TOO_LONG);
+    return 0;
+}
+
+/* The rehearsal's list, a store, answers and a message, each at an odd address. */
+static int odd_addresses(void) {
+    static _Alignas(8) uint8_t odd_list[401], odd_store[28 * 20 + 1], odd_answers[16], odd_message[13];
+    uint64_t table[16];
+    static const uint8_t vote[12] = {0, 0, 0, 4, 0, 0, 0, 9, 0, 0, 0, 2};
+    memcpy(odd_list + 1, list, length), memcpy(odd_message + 1, vote, 12);
+    KalebasinPlayResult r = kalebasin_play(odd_list + 1, length, odd_store + 1, 28 * 20, table, 16, odd_answers + 1, 15);
+    EXPECT(r.number == 0 && r.accepted == 14 && r.messages == 10 && r.proposals == 2 && r.decisions == 1);
+    KalebasinMessageResult m = kalebasin_read_message(odd_message + 1, 12);
+    EXPECT(m.number == 0 && m.kind == KALEBASIN_VOTE && m.round == 9 && m.sender == 2);
+    return 0;
+}
+
+/* Every number up to the last has words of its own; those behind it share the last. */
+static int causes(void) {
+    const char *none = kalebasin_cause(UINT32_MAX);
+    for (uint32_t a = 0; a <= KALEBASIN_STORE_FULL; a++) {
+        EXPECT(strcmp(kalebasin_cause(a), none));
+        for (uint32_t b = 0; b < a; b++) EXPECT(strcmp(kalebasin_cause(a), kalebasin_cause(b)));
+    }
+    EXPECT(!strcmp(kalebasin_cause(KALEBASIN_STORE_FULL + 1), none));
+    return 0;
+}
+
 int main(void) {
-    return play() || read_message() || tree();
+    return play() || read_message() || tree() || nothing(NULL) || nothing((uint64_t *)8) || odd_addresses() || causes();
 }

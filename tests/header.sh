@@ -3,22 +3,9 @@
 # and for nothing else, so for no heap. It needs a C compiler and nm, which .ci/run installs where they are missing.
 cd "$(dirname "$0")/.." || exit 2
 . tests/archive.bash
+. tests/check.bash
 work=$(mktemp -d)
 trap 'rm -rf "$work"' EXIT
-passed=0
-failed=0
-
-# Counts a command; where it fails, says what that means.
-check() {
-    local what=$1
-    shift
-    if "$@"; then
-        passed=$((passed + 1))
-    else
-        echo "header: $what"
-        failed=$((failed + 1))
-    fi
-}
 
 # A C program over the header calls each function.
 fits() {
@@ -34,5 +21,4 @@ asks_for_memory_functions_alone() {
 
 check "host/include/kalebasin.h and the archive differ" fits
 check "the archive asks for the functions above" asks_for_memory_functions_alone
-echo "$passed passed, $failed failed"
-[ "$failed" -eq 0 ]
+told

@@ -1,21 +1,57 @@
 #!/usr/bin/env bash
-# The host package over the proved core: builds the archive and runs cargo's tests, among them the comparison of the core with the
-# second implementation.
+# The host packages over the proved core. Where there is no archive they check, clippy has nothing to say, and all of their pages can be made.
+# With it: a package that depends on the library alone, and cargo's tests, among them the comparison of the core with the second implementation.
+# It needs cargo and clippy, which .ci/run installs where they are missing.
 cd "$(dirname "$0")/.." || exit 2
 . tests/archive.bash
-out=$(mktemp)
-trap 'rm -f "$out"' EXIT
+. tests/cargo.bash
+work=$(mktemp -d)
+trap 'rm -rf "$work"' EXIT
+passed=0
+failed=0
+
+# Counts a command; where it fails, shows what it said.
+check() {
+    local what=$1
+    shift
+    if "$@" >"$work/said" 2>&1; then
+        passed=$((passed + 1))
+    else
+        cat "$work/said"
+        echo "host: $what"
+        failed=$((failed + 1))
+    fi
+}
+
+# A command of cargo with an empty folder for the archive.
+without_archive() {
+    (cd host && KALEBASIN_LIB=$work cargo "$@")
+}
+
+pages() {
+    RUSTDOCFLAGS="-D warnings" without_archive doc --offline
+}
+
+# A package elsewhere that depends on the library alone, as a vault does.
+vault() {
+    mkdir -p "$work/vault/src" && cp host/kalebasin/examples/office.rs "$work/vault/src/main.rs" &&
+        printf '%s\n' '[package]' 'name = "vault"' 'edition = "2021"' '[dependencies]' "kalebasin.path = \"$PWD/host/kalebasin\"" >"$work/vault/Cargo.toml" &&
+        (cd "$work/vault" && cargo run --offline --quiet | tee "$work/told") && [ "$(tail -n 1 "$work/told")" = "2 proposals, 0 decisions" ]
+}
+
+check "cargo check fails without the archive" without_archive check --offline
+check "clippy warns" without_archive clippy --offline --all-targets -- -D warnings
+check "clippy warns of the packages without the core" without_archive clippy --offline --all-targets --no-default-features -- -D warnings
+check "the pages can't be made without the archive" pages
 if ! built; then
     echo "host: the archive of the exports wasn't built"
-    echo "0 passed, 1 failed"
+    echo "$passed passed, $((failed + 1)) failed"
     exit 1
 fi
-(cd host && cargo test --release --offline --no-fail-fast) 2>&1 | tee "$out"
-status=${PIPESTATUS[0]}
-read -r passed failed < <(awk '/^test result: / { p += $4; f += $6 } END { print p + 0, f + 0 }' "$out")
-if [ "$failed" -eq 0 ] && { [ "$status" -ne 0 ] || [ "$passed" -eq 0 ]; }; then
-    echo "host: cargo's tests didn't run to their end"
-    failed=1
-fi
+check "a package that depends on the library alone fails" vault
+
+cargo_tests --no-fail-fast
+passed=$((passed + ran))
+failed=$((failed + wrong))
 echo "$passed passed, $failed failed"
 [ "$failed" -eq 0 ]

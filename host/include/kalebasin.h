@@ -1,41 +1,20 @@
 /* The C functions of the archive libexports.a: play, the message reader and the calls of the tree, for x86-64.
+ * docs/REFERENCE.md says more of each of them, of the bytes and of the numbers.
  *
- * A slice is a pointer and a count of elements. The pointer isn't null, also where the count is 0. What is lent for
- * writing overlaps nothing else. Nothing is kept after a call, and nothing is allocated.
+ * Linking: after `rt staticlib exports`,
  *
- * Each number is 0 for OK, or one of these. A call gives the first that applies, in the order noted at the call; it then
- * changes nothing, and every other field of its result is 0.
+ *     cc -Ihost/include PROGRAM.c target/staticlib/libexports.a
  *
- *    1  the table's length isn't a multiple of 4 words from 4 to 1,024
- *    2  the table isn't a tree
- *    3  the round is 0 or above 1,000,000
- *    4  the round is present already
- *    5  the parent is absent
- *    6  the parent isn't below the round
- *    7  the value isn't the parent's
- *    8  the edge crosses a COMMITTED node
- *    9  the table has no free row
- *   10  the round is absent
- *   11  the round is COMMITTED already
- *   12  the round is GHOST
- *   13  the slice is too short for the path
- *   14  the message's length isn't that of its kind
- *   15  the message's kind isn't 1 to 4
- *   16  a field of the message is out of range
- *   17  the member record isn't sound
- *   18  the reply buffer is under 28 bytes
- *   19  the member isn't the leader of the round
- *   20  the round isn't above the one the member led last
- *   21  the sender is no member, or doesn't lead the round
- *   22  the member has moved past the round
- *   23  the member has voted for another value in the round
- *   24  the message isn't awaited
- *   25  the sender is counted already
- *   26  the count is above 1,000, or bytes, count and kinds don't match exactly
- *   27  the number of members isn't 3, 5 or 7
- *   28  the store isn't 1 to 2,000 whole rows of 28 bytes, or there are too few answer bytes
- *   29  there is no such member or no such message
- *   30  the store is full
+ * The archive asks for functions of <string.h> that copy, fill or compare memory, and for nothing else.
+ *
+ * A slice is a pointer and a count of elements (bytes or 64-bit words). Bytes may start at any address; table and out
+ * start at a multiple of 8. Where the count is 0 the pointer isn't followed and may be null. The call then answers as it
+ * does to any slice of no elements: 26 to a list, 28 to a store, 1 to a table, 14 to a message, 13 to out; and no answer
+ * bytes are enough for a list of no events. What is lent for writing overlaps nothing else. Nothing is kept after a call,
+ * and nothing is allocated.
+ *
+ * Each number is 0 for OK, or a refusal. A call gives the first refusal that applies, in the order noted at the call; it
+ * then changes nothing, and every other field of its result is 0.
  */
 #ifndef KALEBASIN_H
 #define KALEBASIN_H
@@ -46,6 +25,87 @@
 #ifdef __cplusplus
 extern "C" {
 #endif
+
+enum KalebasinNumber {
+    KALEBASIN_OK = 0,
+    KALEBASIN_TABLE_LENGTH = 1,
+    KALEBASIN_NOT_A_TREE = 2,
+    KALEBASIN_ROUND_RANGE = 3,
+    KALEBASIN_ROUND_PRESENT = 4,
+    KALEBASIN_PARENT_ABSENT = 5,
+    KALEBASIN_PARENT_NOT_BELOW = 6,
+    KALEBASIN_VALUE_DIFFERS = 7,
+    KALEBASIN_CROSSES_COMMITTED = 8,
+    KALEBASIN_NO_FREE_ROW = 9,
+    KALEBASIN_ROUND_ABSENT = 10,
+    KALEBASIN_IS_COMMITTED = 11,
+    KALEBASIN_IS_GHOST = 12,
+    KALEBASIN_PATH_TOO_LONG = 13,
+    KALEBASIN_MESSAGE_LENGTH = 14,
+    KALEBASIN_MESSAGE_KIND = 15,
+    KALEBASIN_MESSAGE_FIELD = 16,
+    KALEBASIN_RECORD_UNSOUND = 17,
+    KALEBASIN_REPLY_TOO_SHORT = 18,
+    KALEBASIN_NOT_LEADER = 19,
+    KALEBASIN_NOT_ABOVE_LED = 20,
+    KALEBASIN_SENDER = 21,
+    KALEBASIN_MOVED_PAST = 22,
+    KALEBASIN_ANOTHER_VALUE = 23,
+    KALEBASIN_NOT_AWAITED = 24,
+    KALEBASIN_COUNTED_ALREADY = 25,
+    KALEBASIN_LIST_SHAPE = 26,
+    KALEBASIN_OFFICE_SIZE = 27,
+    KALEBASIN_STORE_OR_ANSWERS = 28,
+    KALEBASIN_NO_MEMBER_OR_MESSAGE = 29,
+    KALEBASIN_STORE_FULL = 30
+};
+
+/* The cause of a number in words; never null. */
+static inline const char *kalebasin_cause(uint32_t number) {
+    switch (number) {
+    case KALEBASIN_OK: return "OK";
+    case KALEBASIN_TABLE_LENGTH: return "the table's length isn't a multiple of 4 words from 4 to 1,024";
+    case KALEBASIN_NOT_A_TREE: return "the table isn't a tree";
+    case KALEBASIN_ROUND_RANGE: return "the round is 0 or above 1,000,000";
+    case KALEBASIN_ROUND_PRESENT: return "the round is present already";
+    case KALEBASIN_PARENT_ABSENT: return "the parent is absent";
+    case KALEBASIN_PARENT_NOT_BELOW: return "the parent isn't below the round";
+    case KALEBASIN_VALUE_DIFFERS: return "the value isn't the parent's";
+    case KALEBASIN_CROSSES_COMMITTED: return "the edge crosses a COMMITTED node";
+    case KALEBASIN_NO_FREE_ROW: return "the table has no free row";
+    case KALEBASIN_ROUND_ABSENT: return "the round is absent";
+    case KALEBASIN_IS_COMMITTED: return "the round is COMMITTED already";
+    case KALEBASIN_IS_GHOST: return "the round is GHOST";
+    case KALEBASIN_PATH_TOO_LONG: return "the slice is too short for the path";
+    case KALEBASIN_MESSAGE_LENGTH: return "the message's length isn't that of its kind";
+    case KALEBASIN_MESSAGE_KIND: return "the message's kind isn't 1 to 4";
+    case KALEBASIN_MESSAGE_FIELD: return "a field of the message is out of range";
+    case KALEBASIN_RECORD_UNSOUND: return "the member record isn't sound";
+    case KALEBASIN_REPLY_TOO_SHORT: return "the reply buffer is under 28 bytes";
+    case KALEBASIN_NOT_LEADER: return "the member isn't the leader of the round";
+    case KALEBASIN_NOT_ABOVE_LED: return "the round isn't above the one the member led last";
+    case KALEBASIN_SENDER: return "the sender is no member, or doesn't lead the round";
+    case KALEBASIN_MOVED_PAST: return "the member has moved past the round";
+    case KALEBASIN_ANOTHER_VALUE: return "the member has voted for another value in the round";
+    case KALEBASIN_NOT_AWAITED: return "the message isn't awaited";
+    case KALEBASIN_COUNTED_ALREADY: return "the sender is counted already";
+    case KALEBASIN_LIST_SHAPE: return "the count is above 1,000, or bytes, count and kinds don't match exactly";
+    case KALEBASIN_OFFICE_SIZE: return "the number of members isn't 3, 5 or 7";
+    case KALEBASIN_STORE_OR_ANSWERS: return "the store isn't 1 to 2,000 whole rows of 28 bytes, or there are too few answer bytes";
+    case KALEBASIN_NO_MEMBER_OR_MESSAGE: return "there is no such member or no such message";
+    case KALEBASIN_STORE_FULL: return "the store is full";
+    default: return "no refusal has this number";
+    }
+}
+
+/* A row of the store in bytes, and a row of a table in words. */
+enum { KALEBASIN_STORE_ROW = 28, KALEBASIN_TABLE_ROW = 4 };
+
+/* The status of a table's row; a free row is all 0. */
+enum { KALEBASIN_ADDED = 1, KALEBASIN_GHOST = 2, KALEBASIN_COMMITTED = 3 };
+
+/* The kind of a message. */
+enum { KALEBASIN_START = 1, KALEBASIN_JOIN = 2, KALEBASIN_PROPOSE = 3, KALEBASIN_VOTE = 4 };
 
 typedef struct {
     uint32_t number;
@@ -60,8 +120,7 @@ typedef struct {
  * list:    XDR words, high byte first: N, the count, then for each event 1, member, round, offer (8 bytes),
  *          or 2, message number, member.
  * store:   1 to 2,000 rows of 28 bytes. It is cleared; message k, from 0, stands at the front of row k.
- * table:   1 to 256 rows of 4 words. It is made fresh; a row is round, parent, value, status (1 ADDED, 2 GHOST,
- *          3 COMMITTED), all 0 where it is free.
+ * table:   1 to 256 rows of 4 words: round, parent, value, status. It is made fresh before the first event.
  * answers: at least a byte for each event, which gets 0, 3, 9, 19, 20, 22, 24, 25, 29 or 30; bytes behind them stay.
  */
 KalebasinPlayResult kalebasin_play(const uint8_t *list, size_t list_len,
@@ -71,7 +130,7 @@ KalebasinPlayResult kalebasin_play(const uint8_t *list, size_t list_len,
 
 typedef struct {
     uint32_t number;
-    uint32_t kind;    /* 1 START, 2 JOIN, 3 PROPOSE, 4 VOTE */
+    uint32_t kind;
     uint32_t round;
     uint32_t sender;
     uint32_t present; /* JOIN: 1 if it tells a vote */
@@ -79,8 +138,8 @@ typedef struct {
     uint64_t value;   /* PROPOSE: the value; JOIN that tells a vote: its value */
 } KalebasinMessageResult;
 
-/* Reads one message, neither more nor fewer bytes. 14 (under 4 bytes), 15, 14, 16. A field that the kind doesn't have
- * is 0. */
+/* Reads one message, neither more nor fewer bytes. 14 (under 4 bytes), 15, 14 (wrong length; a JOIN: under 16 bytes), 16
+ * (presence), 14 (a JOIN: wrong length), 16 (other fields). A field that the kind doesn't have is 0. */
 KalebasinMessageResult kalebasin_read_message(const uint8_t *bytes, size_t len);
 
 /* Makes a table fresh: the root 0, 0, 0, 3 and zeros. 1. */

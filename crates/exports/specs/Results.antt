@@ -4,10 +4,9 @@ use Rattle.ids.specs.declared.Round.{Round}
 use Rattle.ids.specs.declared.Member.{Member}
 use Rattle.message.specs.declared.Message.{Message}
 use Rattle.message.specs.declared.Message.the-variants.{Start, Join, JoinVoted, Propose, Vote}
-use Rattle.message.specs.declared.Fault.{Fault}
 use Rattle.message.specs.declared.Read.{Read}
 use Rattle.message.specs.declared.Read.the-variants.{Got, Refused}
-use Rattle.message.specs.Reading.{fault-number}
+use Rattle.message.specs.Layout.{START-KIND, JOIN-KIND, PROPOSE-KIND, VOTE-KIND}
 use Rattle.play.specs.declared.PlayAnswer.{PlayAnswer}
 use Rattle.exports.specs.declared.PlayResult.{PlayResult}
 use Rattle.exports.specs.declared.MessageResult.{MessageResult}
@@ -20,18 +19,17 @@ as-play-answer r = record { number = r .number; accepted = r .accepted; messages
 abbrev pub voteless : ℕ → Round → Member → ℕ → MessageResult
 voteless kind r s v = record { number = 0; kind = kind; round = r .0; sender = s .0; present = 0; voted = 0; value = v }
 
--- kinds 1 START, 2 JOIN, 3 PROPOSE, 4 VOTE
 abbrev pub message-result : Message → MessageResult
-message-result (Start r s) = voteless 1 r s 0
-message-result (Join r s) = voteless 2 r s 0
-message-result (JoinVoted r s q w) = record { number = 0; kind = 2; round = r .0; sender = s .0; present = 1; voted = q .0; value = w }
-message-result (Propose r s v) = voteless 3 r s v
-message-result (Vote r s) = voteless 4 r s 0
+message-result (Start r s) = voteless START-KIND r s 0
+message-result (Join r s) = voteless JOIN-KIND r s 0
+message-result (JoinVoted r s q w) = record { number = 0; kind = JOIN-KIND; round = r .0; sender = s .0; present = 1; voted = q .0; value = w }
+message-result (Propose r s v) = voteless PROPOSE-KIND r s v
+message-result (Vote r s) = voteless VOTE-KIND r s 0
 
 -- with a refusal all but its number is 0
-abbrev pub refused-result : Fault → MessageResult
-refused-result f = record { number = fault-number f; kind = 0; round = 0; sender = 0; present = 0; voted = 0; value = 0 }
+abbrev pub refused-result : ℕ → MessageResult
+refused-result n = record { number = n; kind = 0; round = 0; sender = 0; present = 0; voted = 0; value = 0 }
 
 abbrev pub read-result : Read → MessageResult
 read-result (Got m) = message-result m
-read-result (Refused f) = refused-result f
+read-result (Refused n) = refused-result n

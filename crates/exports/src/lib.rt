@@ -2,15 +2,18 @@
 // a pointer and a count of elements. A number is 0 for OK, else 01's refusal.
 use ids::Member;
 use ids::Round;
-use message::Fault;
+use message::JOIN_KIND;
 use message::Message;
+use message::PROPOSE_KIND;
 use message::Read;
+use message::START_KIND;
+use message::VOTE_KIND;
 ghost use mathlib.Core.Path.{_≡_};
 ghost use mathlib.Core.Bool.{true};
 ghost use Rattle.tree_theory.specs.Machine.{add, commit};
 ghost use Rattle.tree_theory.specs.Table.{fresh-number, fresh-table};
-ghost use Rattle.tree.specs.Promises.{Called, PathGiven};
-ghost use Rattle.message.specs.Reading.{read};
+ghost use Rattle.tree.specs.Promises.{CalledOnTable, PathGiven};
+ghost use Rattle.message.specs.Reading.{reading};
 ghost use Rattle.play.specs.Lent.{as-lent};
 ghost use Rattle.play.specs.Promise.{Given};
 ghost use Rattle.exports.specs.Results.{as-play-answer, voteless, message-result, refused-result, read-result};
@@ -80,8 +83,8 @@ fn message_result(m: Message) -> MessageResult
     ensures { λ r. ⌜ r ≡ message-result m ⌝ }
 {
     match m {
-        Message::Start { round, sender } => voteless(1, round, sender, 0),
-        Message::Join { round, sender } => voteless(2, round, sender, 0),
+        Message::Start { round, sender } => voteless(START_KIND, round, sender, 0),
+        Message::Join { round, sender } => voteless(JOIN_KIND, round, sender, 0),
         Message::JoinVoted {
             round,
             sender,
@@ -89,7 +92,7 @@ fn message_result(m: Message) -> MessageResult
             value,
         } => MessageResult {
             number: 0,
-            kind: 2,
+            kind: JOIN_KIND,
             round: round.0,
             sender: sender.0,
             present: 1,
@@ -100,17 +103,17 @@ fn message_result(m: Message) -> MessageResult
             round,
             sender,
             value,
-        } => voteless(3, round, sender, value),
-        Message::Vote { round, sender } => voteless(4, round, sender, 0),
+        } => voteless(PROPOSE_KIND, round, sender, value),
+        Message::Vote { round, sender } => voteless(VOTE_KIND, round, sender, 0),
     }
 }
 
 // A refusal's number alone.
-fn refused_result(f: Fault) -> MessageResult
-    ensures { λ r. ⌜ r ≡ refused-result f ⌝ }
+fn refused_result(number: u32) -> MessageResult
+    ensures { λ r. ⌜ r ≡ refused-result number ⌝ }
 {
     MessageResult {
-        number: message::number(f),
+        number,
         kind: 0,
         round: 0,
         sender: 0,
@@ -123,12 +126,12 @@ fn refused_result(f: Fault) -> MessageResult
 // Reads one message, neither more nor fewer bytes.
 #[no_mangle]
 pub extern "C" fn kalebasin_read_message(s: &[u8]) -> MessageResult
-    ensures { λ r. ⌜ r ≡ read-result (read (now (s .entry))) ⌝ }
+    ensures { λ r. ⌜ r ≡ read-result (reading (now (s .entry))) ⌝ }
 {
     let m = message_reader::read_message(s);
     match m {
         Read::Got(m) => message_result(m),
-        Read::Refused(f) => refused_result(f),
+        Read::Refused(number) => refused_result(number),
     }
 }
 
@@ -138,23 +141,23 @@ pub extern "C" fn kalebasin_tree_fresh(nodes: &mut [u64]) -> u32
     ensures number { λ n. ⌜ n ≡ fresh-number (now (nodes .entry)) ⌝ }
     ensures left { λ _. ⌜ now (nodes .exit) ≡ fresh-table (now (nodes .entry)) ⌝ }
 {
-    tree::fresh(nodes).number()
+    tree::fresh(nodes)
 }
 
 // add(round, value, parent).
 #[no_mangle]
 pub extern "C" fn kalebasin_tree_add(nodes: &mut [u64], round: u32, value: u64, parent: u32) -> u32
-    ensures { λ n. ⌜ Called true (now (nodes .entry)) (add round value parent) n (now (nodes .exit)) ⌝ }
+    ensures { λ n. ⌜ CalledOnTable true (now (nodes .entry)) (add round value parent) n (now (nodes .exit)) ⌝ }
 {
-    tree::add(nodes, Round(round), value, Round(parent)).number()
+    tree::add(nodes, Round(round), value, Round(parent))
 }
 
 // commit(round).
 #[no_mangle]
 pub extern "C" fn kalebasin_tree_commit(nodes: &mut [u64], round: u32) -> u32
-    ensures { λ n. ⌜ Called true (now (nodes .entry)) (commit round) n (now (nodes .exit)) ⌝ }
+    ensures { λ n. ⌜ CalledOnTable true (now (nodes .entry)) (commit round) n (now (nodes .exit)) ⌝ }
 {
-    tree::commit(nodes, Round(round)).number()
+    tree::commit(nodes, Round(round))
 }
 
 // With a refusal the count is 0.
@@ -171,7 +174,7 @@ pub extern "C" fn kalebasin_tree_path(nodes: &[u64], round: u32, out: &mut [u64]
 {
     let a = tree::path(nodes, Round(round), out);
     PathResult {
-        number: a.number(),
-        count: a.count() as u32,
+        number: a.number,
+        count: a.count as u32,
     }
 }

@@ -17,7 +17,14 @@ module _ {ℓ} {A : Type ℓ} where
   written-on l u w at mid end p q h =
       let head = take at l ++ u in
       let size : length head ≡ mid = rw (length-append (take at l) u, length-take-le at l (omega arith)) p in
-      rw (take-at head (drop mid l) mid size, ← q, ← drop-drop (length w) mid (head ++ drop mid l), drop-at head (drop mid l) mid size, drop-drop (length w) mid l, append-assoc (take at l) u w)
+      rw (
+        take-at head (drop mid l) mid size,
+        ← q,
+        ← drop-drop (length w) mid (head ++ drop mid l),
+        drop-at head (drop mid l) mid size,
+        drop-drop (length w) mid l,
+        append-assoc (take at l) u w,
+      )
 
   -- what is written over a part leaves the list as long as it was
   pub written-length : (l u : List A) (at end : ℕ) → at + length u ≡ end → end ≤ length l → length (take at l ++ u ++ drop end l) ≡ length l

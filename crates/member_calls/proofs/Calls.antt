@@ -9,11 +9,10 @@ use borrow.Author.Tests.{le-ltb, not-false}
 use Rattle.laws.specs.Tests.{tests, by-test}
 use Rattle.laws.specs.First.{Cause, first, passed}
 use Rattle.message.specs.declared.Message.{Message}
-use Rattle.message.specs.declared.Fault.{Fault}
-use Rattle.message.specs.declared.Fault.the-variants.{Length, Kind, Field}
+use Rattle.message.specs.Layout.{longest}
 use Rattle.message.specs.declared.Read.the-variants.{Got, Refused}
-use Rattle.message.specs.Reading.{fault-number, read-number, message-row, decoded, read}
-use Rattle.message.proofs.RoundTrip.{read-numbered, got}
+use Rattle.message.specs.Reading.{message-row, decoded, reading}
+use Rattle.message.proofs.RoundTrip.{refused-read, got}
 use Rattle.member_record.specs.declared.MemberState.{MemberState}
 use Rattle.member_record.specs.Record.{sound}
 use Rattle.member.specs.Table.{Outcome, refused, unless, deliver, sound-step}
@@ -21,7 +20,7 @@ use Rattle.member_calls.specs.Calls.{record-row, call, deliver-call}
 
 -- the row's number, as the code has it
 module _ (m : MemberState) (old : List ℕ) (k : ℕ) (row : k ≡ first (record-row m (length old))) where
-  pub passing : k ≡ 0 → (sound m ≡ true) × (28 ≤ length old)
+  pub passing : k ≡ 0 → (sound m ≡ true) × (longest ≤ length old)
   passing z =
       let (is-sound, (room, end)) = passed (record-row m (length old)) refl (sym row ∙ z) in
       (not-false (sound m) is-sound, omega tests)
@@ -29,7 +28,7 @@ module _ (m : MemberState) (old : List ℕ) (k : ℕ) (row : k ≡ first (record
   pub refusing : (cs : List Cause) (o : Outcome) → (k ≡ 0 → ⊥) → call m old cs o ≡ refused k m
   refusing cs o nz =
       by-test (sound m)
-      (λ t. by-test (ltb (length old) 28)
+      (λ t. by-test (ltb (length old) longest)
       (λ s. rw (row, t, s))
       (λ s. absurd (nz (row ∙ rw (t, s)))))
       (λ t. rw (row, t))
@@ -37,24 +36,18 @@ module _ (m : MemberState) (old : List ℕ) (k : ℕ) (row : k ≡ first (record
   pub further : (cs : List Cause) (o : Outcome) → k ≡ 0 → call m old cs o ≡ unless cs m o
   further cs o z =
       let (is-sound, room) = passing z in
-      rw (is-sound, le-ltb (length old) 28 room)
-
--- no fault has number 0
-fault-numbered : (f : Fault) → eqb (fault-number f) 0 ≡ false
-fault-numbered Length = refl
-fault-numbered Kind = refl
-fault-numbered Field = refl
+      rw (is-sound, le-ltb (length old) longest room)
 
 module _ (m : MemberState) (s old : List ℕ) (k : ℕ) (row : k ≡ first (record-row m (length old))) (z : k ≡ 0) where
   -- bytes that are no message
-  pub unread : (f : Fault) → read s ≡ Refused f → deliver-call m s old ≡ refused (fault-number f) m
+  pub unread : (n : ℕ) → reading s ≡ Refused n → deliver-call m s old ≡ refused n m
   unfolding deliver-call
-  unread f e =
-      let number : first (message-row s) ≡ fault-number f = sym (read-numbered s) ∙ ap read-number e in
-      further m old k row (message-row s) (sound-step m (deliver (decoded s))) z ∙ rw (number, fault-numbered f)
+  unread n e =
+      let (number, nonzero) = refused-read s n e in
+      further m old k row (message-row s) (sound-step m (deliver (decoded s))) z ∙ rw (number, nonzero)
 
   -- bytes that are
-  pub read-as : (g : Message) → read s ≡ Got g → deliver-call m s old ≡ sound-step m (deliver g)
+  pub read-as : (g : Message) → reading s ≡ Got g → deliver-call m s old ≡ sound-step m (deliver g)
   unfolding deliver-call
   read-as g e =
       let (none, same, ranged) = got s g e in

@@ -3,20 +3,20 @@ use mathlib.Core.Bool.{not}
 use mathlib.Core.List.{List, [], _∷_, _++_}
 use Prim.Native.Nat.{ℕ}
 use lib.ListN.{length}
-use lib.Dec.{ltb}
 use Rattle.laws.specs.First.{Cause, _gives_}
 use Rattle.ids.specs.declared.Round.{Round}
 use Rattle.ids.specs.declared.Member.{Member}
 use Rattle.numbers.specs.Numbers.{NOT-SOUND, REPLY-SHORT}
 use Rattle.message.specs.Reading.{decoded, message-row}
+use Rattle.message.specs.Writing.{short-buffer}
 use Rattle.member_record.specs.declared.MemberState.{MemberState}
 use Rattle.member_record.specs.Record.{sound, sound-number}
 use Rattle.member_record.specs.Record as record-of
 use Rattle.member.specs.Table.{Outcome, unless, silent, start, deliver, sound-step}
 
--- 17 not sound; 18 a reply buffer of n bytes is under 28
+-- 17 not sound; 18 a reply buffer of n bytes has no room for the longest message
 abbrev pub record-row : MemberState → ℕ → List Cause
-record-row m n = not (sound m) gives NOT-SOUND ∷ ltb n 28 gives REPLY-SHORT ∷ []
+record-row m n = not (sound m) gives NOT-SOUND ∷ short-buffer n gives REPLY-SHORT ∷ []
 
 -- a call with this reply buffer: that row, then further causes; else the step
 abbrev pub call : MemberState → List ℕ → List Cause → Outcome → Outcome

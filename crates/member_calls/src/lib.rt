@@ -65,7 +65,7 @@ pub fn deliver_into(m: MemberState, bytes: &[u8], reply: &mut [u8]) -> Called
     }
     let read = message_reader::read_message(bytes);
     match read {
-        Read::Refused(f) => refuse(m, message::number(f)),
+        Read::Refused(number) => refuse(m, number),
         Read::Got(g) => tell(member::deliver_sound(m, g), reply),
     }
 }

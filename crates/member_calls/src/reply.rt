@@ -4,13 +4,13 @@ use member::Answer;
 use member::Step;
 use member_record::MemberState;
 use message::Message;
-use message::Written;
 ghost use mathlib.Core.Path.{_≡_};
 ghost use mathlib.Core.Bool.{true};
 ghost use mathlib.Core.List.{[], _∷_};
 ghost use Prim.Native.Nat.{_≤_};
 ghost use lib.ListN.{length};
 ghost use Rattle.message.specs.Fields.{in-range};
+ghost use Rattle.message.specs.Layout.{longest};
 ghost use Rattle.member.specs.Table.{refused};
 ghost use Rattle.member.specs.Answers.{outcome};
 ghost use Rattle.member.specs.Kept.{Kept};
@@ -66,20 +66,16 @@ pub fn give(
 
 // Puts a message at the front of the reply, and answers its length.
 fn send(g: Message, reply: &mut [u8]) -> usize
-    requires { ⌜ (28 ≤ length (now reply)) × (in-range g ≡ true) ⌝ }
+    requires { ⌜ (longest ≤ length (now reply)) × (in-range g ≡ true) ⌝ }
     ensures { λ n. ⌜ (n ≡ sent-length (g ∷ [])) × (now (reply .exit) ≡ reply-after (g ∷ []) (now (reply .entry))) ⌝ }
 {
     let w = message_writer::write_message(g, reply);
-    match w {
-        Written::Sent(n) => n,
-        Written::ShortBuffer => 0,
-        Written::OutOfRange => 0,
-    }
+    w.length
 }
 
 // The result of a step, and what it sends.
 pub fn tell(s: Step, reply: &mut [u8]) -> Called
-    requires { ⌜ (28 ≤ length (now reply)) × Kept (outcome s) ⌝ }
+    requires { ⌜ (longest ≤ length (now reply)) × Kept (outcome s) ⌝ }
     ensures { λ c. ⌜ Replies (outcome s) (now (reply .entry)) (c .state) (c .report) (now (reply .exit)) ⌝ }
 {
     let m = s.state;

@@ -10,22 +10,24 @@ use lib.Dec.{eqb, lit≤}
 use borrow.Author.Tests.{ne-eqb, eq-eqb, le-ltb, lt-ltb, eqb-true}
 use Rattle.laws.specs.Tests.{by-test, or-none}
 use Rattle.xdr.proofs.Laws.{word-at-front}
-use Rattle.message.specs.declared.Fault.the-variants.{Length, Field}
+use Rattle.numbers.specs.Numbers.{MESSAGE-LENGTH, MESSAGE-FIELD}
 use Rattle.message.specs.declared.Read.the-variants.{Refused}
 use Rattle.message.specs.Fields.{in-range}
-use Rattle.message.specs.Reading.{is-join, under-4, no-kind, wrong-length, wrong-presence, inexact, size, decoded, ranged, read}
-use Rattle.message.specs.Layout.{byte-count, kind, round, sender, presence, voted, voted-value, proposed}
+use Rattle.message.specs.Reading.{is-join, untold, no-kind, wrong-length, wrong-presence, inexact, size, decoded, ranged, reading}
+use Rattle.message.specs.Layout.{START-KIND, JOIN-KIND, PROPOSE-KIND, VOTE-KIND, kind-at, presence-at, kind-end, head-length, join-length}
+use Rattle.message.specs.Layout.{join-voted-length}
+use Rattle.message.specs.Layout.{propose-length, longest, byte-count, kind-in, round-of, sender-of, presence-in, voted-of, voted-value-in, proposed-in}
 use Rattle.message.specs.declared.Message.{Message}
 use Rattle.message.specs.declared.Message.the-variants.{Start, Join, JoinVoted, Propose, Vote}
 
-count-least : (m : Message) → 12 ≤ byte-count m
+count-least : (m : Message) → head-length ≤ byte-count m
 count-least (Start r s) = lit≤ tt
 count-least (Join r s) = lit≤ tt
 count-least (JoinVoted r s q w) = lit≤ tt
 count-least (Propose r s v) = lit≤ tt
 count-least (Vote r s) = lit≤ tt
 
-count-most : (m : Message) → byte-count m ≤ 28
+pub count-most : (m : Message) → byte-count m ≤ longest
 count-most (Start r s) = lit≤ tt
 count-most (Join r s) = lit≤ tt
 count-most (JoinVoted r s q w) = lit≤ tt
@@ -33,111 +35,111 @@ count-most (Propose r s v) = lit≤ tt
 count-most (Vote r s) = lit≤ tt
 
 module _ (s : List ℕ) where
-  pub decoded-start : kind s ≡ 1 → decoded s ≡ Start (round s) (sender s)
+  pub decoded-start : kind-in s ≡ START-KIND → decoded s ≡ Start (round-of s) (sender-of s)
   unfolding decoded
   decoded-start k = rw k
 
-  pub decoded-join : kind s ≡ 2 → presence s ≡ 0 → decoded s ≡ Join (round s) (sender s)
+  pub decoded-join : kind-in s ≡ JOIN-KIND → presence-in s ≡ 0 → decoded s ≡ Join (round-of s) (sender-of s)
   unfolding decoded
   decoded-join k p = rw (k, p)
 
-  pub decoded-join-voted : kind s ≡ 2 → presence s ≡ 1 → decoded s ≡ JoinVoted (round s) (sender s) (voted s) (voted-value s)
+  pub decoded-join-voted : kind-in s ≡ JOIN-KIND → presence-in s ≡ 1 → decoded s ≡ JoinVoted (round-of s) (sender-of s) (voted-of s) (voted-value-in s)
   unfolding decoded
   decoded-join-voted k p = rw (k, p)
 
-  pub decoded-propose : kind s ≡ 3 → decoded s ≡ Propose (round s) (sender s) (proposed s)
+  pub decoded-propose : kind-in s ≡ PROPOSE-KIND → decoded s ≡ Propose (round-of s) (sender-of s) (proposed-in s)
   unfolding decoded
   decoded-propose k = rw k
 
-  pub decoded-vote : kind s ≡ 4 → decoded s ≡ Vote (round s) (sender s)
+  pub decoded-vote : kind-in s ≡ VOTE-KIND → decoded s ≡ Vote (round-of s) (sender-of s)
   unfolding decoded
   decoded-vote k = rw k
 
-  pub size-join : kind s ≡ 2 → presence s ≡ 0 → size s ≡ 16
+  pub size-join : kind-in s ≡ JOIN-KIND → presence-in s ≡ 0 → size s ≡ join-length
   unfolding size
   size-join k p = ap byte-count (decoded-join k p)
 
-  pub size-join-voted : kind s ≡ 2 → presence s ≡ 1 → size s ≡ 28
+  pub size-join-voted : kind-in s ≡ JOIN-KIND → presence-in s ≡ 1 → size s ≡ join-voted-length
   unfolding size
   size-join-voted k p = ap byte-count (decoded-join-voted k p)
 
-  pub size-propose : kind s ≡ 3 → size s ≡ 20
+  pub size-propose : kind-in s ≡ PROPOSE-KIND → size s ≡ propose-length
   unfolding size
   size-propose k = ap byte-count (decoded-propose k)
 
-  pub size-other : (kind s ≡ 2 → ⊥) → (kind s ≡ 3 → ⊥) → size s ≡ 12
+  pub size-other : (kind-in s ≡ JOIN-KIND → ⊥) → (kind-in s ≡ PROPOSE-KIND → ⊥) → size s ≡ head-length
   unfolding size decoded
   size-other j p =
-      by-test (eqb (kind s) 1) (λ t. rw t) (λ t. rw (t, ne-eqb (kind s) 2 j, ne-eqb (kind s) 3 p))
+      by-test (eqb (kind-in s) START-KIND) (λ t. rw t) (λ t. rw (t, ne-eqb (kind-in s) JOIN-KIND j, ne-eqb (kind-in s) PROPOSE-KIND p))
 
   -- any message has its first three words, and a JOIN has its presence
-  pub size-least : 12 ≤ size s
+  pub size-least : head-length ≤ size s
   unfolding size
   size-least = count-least (decoded s)
 
-  pub size-most : size s ≤ 28
+  pub size-most : size s ≤ longest
   unfolding size
   size-most = count-most (decoded s)
 
-  pub size-join-least : kind s ≡ 2 → 16 ≤ size s
+  pub size-join-least : kind-in s ≡ JOIN-KIND → join-length ≤ size s
   unfolding size decoded
-  size-join-least k = by-test (eqb (presence s) 1) (λ p. rw (k, p) (lit≤ tt)) (λ p. rw (k, p) (lit≤ tt))
+  size-join-least k = by-test (eqb (presence-in s) 1) (λ p. rw (k, p) (lit≤ tt)) (λ p. rw (k, p) (lit≤ tt))
 
   -- the size is told by the kind, and by the presence of a JOIN, whatever comes behind them
-  pub size-front : (behind : List ℕ) → 4 ≤ length s → (kind s ≡ 2 → 16 ≤ length s) → size (s ++ behind) ≡ size s
+  pub size-front : (behind : List ℕ) → kind-end ≤ length s → (kind-in s ≡ JOIN-KIND → join-length ≤ length s) → size (s ++ behind) ≡ size s
   unfolding size decoded
   size-front behind l room =
-      let first = word-at-front s behind 0 l in
-      by-test (eqb (kind s) 1)
+      let first = word-at-front s behind kind-at l in
+      by-test (eqb (kind-in s) START-KIND)
       (λ k. rw (first, k) refl)
       (λ k.
-      by-test (eqb (kind s) 2)
+      by-test (eqb (kind-in s) JOIN-KIND)
       (λ j.
-      let second = word-at-front s behind 12 (room (eqb-true (kind s) 2 j)) in
-      by-test (eqb (presence s) 1)
+      let second = word-at-front s behind presence-at (room (eqb-true (kind-in s) JOIN-KIND j)) in
+      by-test (eqb (presence-in s) 1)
       (λ p. rw (first, second, k, j, p) refl)
       (λ p. rw (first, second, k, j, p) refl))
-      (λ j. by-test (eqb (kind s) 3) (λ p. rw (first, k, j, p) refl) (λ p. rw (first, k, j, p) refl)))
+      (λ j. by-test (eqb (kind-in s) PROPOSE-KIND) (λ p. rw (first, k, j, p) refl) (λ p. rw (first, k, j, p) refl)))
 
-  -- a JOIN under 16 has the wrong length, whatever would be its presence
-  pub join-short : kind s ≡ 2 → 4 ≤ length s → length s < 16 → read s ≡ Refused Length
-  unfolding read
-  join-short k l h = simp (k, le-ltb (length s) 4 l, lt-ltb (length s) 16 h)
+  -- a JOIN without its presence word has the wrong length, whatever would be its presence
+  pub join-short : kind-in s ≡ JOIN-KIND → kind-end ≤ length s → length s < join-length → reading s ≡ Refused MESSAGE-LENGTH
+  unfolding reading
+  join-short k l h = simp (k, le-ltb (length s) kind-end l, lt-ltb (length s) join-length h)
 
   -- then the presence is 0 or 1
-  pub join-neither : kind s ≡ 2 → 16 ≤ length s → 1 < presence s → read s ≡ Refused Field
-  unfolding read
-  join-neither k l p = simp (k, le-ltb (length s) 4 (omega arith), le-ltb (length s) 16 l, lt-ltb 1 (presence s) p)
+  pub join-neither : kind-in s ≡ JOIN-KIND → join-length ≤ length s → 1 < presence-in s → reading s ≡ Refused MESSAGE-FIELD
+  unfolding reading
+  join-neither k l p = simp (k, le-ltb (length s) kind-end (omega arith), le-ltb (length s) join-length l, lt-ltb 1 (presence-in s) p)
 
   -- kind and presence are right
   pub record Known : Type 0 where
-    pub low : 1 ≤ kind s
-    pub high : kind s ≤ 4
+    pub low : 1 ≤ kind-in s
+    pub high : kind-in s ≤ VOTE-KIND
     pub present : wrong-presence s ≡ false
 
   known : Known → no-kind s ≡ false
-  known K = or-none (ne-eqb (kind s) 0 (λ z. omega (arith, K .low))) (le-ltb 4 (kind s) (K .high))
+  known K = or-none (ne-eqb (kind-in s) 0 (λ z. omega (arith, K .low))) (le-ltb VOTE-KIND (kind-in s) (K .high))
 
   -- then, where they are there, any length but that of the kind is refused
-  pub wrong-size : Known → 4 ≤ length s → (kind s ≡ 2 → 16 ≤ length s) → (length s ≡ size s → ⊥) → read s ≡ Refused Length
-  unfolding read
+  pub wrong-size : Known → kind-end ≤ length s → (kind-in s ≡ JOIN-KIND → join-length ≤ length s) → (length s ≡ size s → ⊥) → reading s ≡ Refused MESSAGE-LENGTH
+  unfolding reading
   wrong-size K l room e =
       let t : inexact s ≡ true = ap not (ne-eqb (length s) (size s) e) in
       by-test (is-join s)
       (λ j.
-      let w : wrong-length s ≡ false = rw j (le-ltb (length s) 16 (room (eqb-true (kind s) 2 j))) in
-      rw (le-ltb (length s) 4 l, known K, w, K .present, t))
-      (λ j. let w : wrong-length s ≡ true = rw j t in rw (le-ltb (length s) 4 l, known K, w))
+      let w : wrong-length s ≡ false = rw j (le-ltb (length s) join-length (room (eqb-true (kind-in s) JOIN-KIND j))) in
+      rw (le-ltb (length s) kind-end l, known K, w, K .present, t))
+      (λ j. let w : wrong-length s ≡ true = rw j t in rw (le-ltb (length s) kind-end l, known K, w))
 
   -- and with the length of the kind only the ranges are open
-  pub right-size : Known → length s ≡ size s → read s ≡ ranged (decoded s)
-  unfolding read
+  pub right-size : Known → length s ≡ size s → reading s ≡ ranged (decoded s)
+  unfolding reading
   right-size K e =
-      let l : under-4 s ≡ false = le-ltb (length s) 4 (omega (arith, size-least)) in
+      let l : untold s ≡ false = le-ltb (length s) kind-end (omega (arith, size-least)) in
       let t : inexact s ≡ false = ap not (eq-eqb (length s) (size s) e) in
       let w : wrong-length s ≡ false =
       by-test (is-join s)
-      (λ j. rw j (le-ltb (length s) 16 (omega (arith, size-join-least (eqb-true (kind s) 2 j)))))
+      (λ j. rw j (le-ltb (length s) join-length (omega (arith, size-join-least (eqb-true (kind-in s) JOIN-KIND j)))))
       (λ j. rw j t) in
       by-test (in-range (decoded s)) (λ r. rw (l, known K, w, K .present, t, r)) (λ r. rw (l, known K, w, K .present, t, r))
 
@@ -148,6 +150,6 @@ own-length s h =
     let behind = drop (size s) s in
     let both : front ++ behind ≡ s = take-append-drop (size s) s in
     let long : length front ≡ size s = length-take-le (size s) s h in
-    let least : 12 ≤ length front = omega (arith, size-least s) in
-    let same : kind s ≡ kind front = sym (ap kind both) ∙ word-at-front front behind 0 (omega arith) in
+    let least : head-length ≤ length front = omega (arith, size-least s) in
+    let same : kind-in s ≡ kind-in front = sym (ap kind-in both) ∙ word-at-front front behind kind-at (omega arith) in
     long ∙ sym (ap size both) ∙ size-front front behind (omega arith) (λ k. omega (arith, size-join-least s (same ∙ k)))

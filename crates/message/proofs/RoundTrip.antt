@@ -2,7 +2,7 @@
 -- A message in range is read from its own bytes, since each of its words is found where the layout has it. Bytes that are read as a message
 -- are those of that message: its words stand in them, and with the length of the kind they are all that stands there.
 -- Assumes nothing.
-use mathlib.Core.Path.{_≡_, refl, sym, ap, _∙_}
+use mathlib.Core.Path.{_≡_, refl, sym, ap, subst, _∙_}
 use mathlib.Core.Bool.{true, false, not}
 use mathlib.Core.List.{List, [], _∷_, _++_}
 use Prim.Native.Nat.{ℕ, _≤_, _<_}
@@ -24,36 +24,23 @@ use Rattle.xdr.proofs.Items.{length-encoded, integer-found, long-found, stands}
 use Rattle.message.specs.declared.Message.{Message}
 use Rattle.message.specs.declared.Message.the-variants.{Start, Join, JoinVoted, Propose, Vote}
 use Rattle.message.specs.declared.Read.{Read}
-use Rattle.message.specs.declared.Read.the-variants.{Got}
+use Rattle.message.specs.declared.Read.the-variants.{Got, Refused}
 use Rattle.message.specs.Fields.{head-in-range, vote-in-range, in-range}
-use Rattle.message.specs.Layout.{head, words, bytes, byte-count, kind, round, sender, presence, voted, voted-value, proposed, Held}
-use Rattle.message.specs.Reading.{is-join, size, decoded, message-row, answer, read-number, read, Reads}
-use Rattle.message.specs.declared.Written.{Written}
-use Rattle.message.specs.declared.Written.the-variants.{Sent}
-use Rattle.message.specs.Writing.{writer-row, answer-of, written, written-number, written-length, sent-length, buffer-after, in-front, Writes}
-use Rattle.message.proofs.Checks.{Known, right-size, size-least, size-front, size-join-least, size-join, size-join-voted, size-propose, size-other, decoded-start, decoded-join, decoded-join-voted, decoded-propose, decoded-vote}
+use Rattle.message.specs.Layout.{START-KIND, JOIN-KIND, PROPOSE-KIND, VOTE-KIND, head, layout, bytes, kind-at, round-at, sender-at, presence-at, voted-at}
+use Rattle.message.specs.Layout.{voted-value-at, proposed-at, join-voted-length, propose-length, longest, byte-count, kind-in, round-of, sender-of}
+use Rattle.message.specs.Layout.{presence-in, voted-of, voted-value-in, proposed-in, ValueFits}
+use Rattle.message.specs.Reading.{is-join, size, decoded, message-row, read-answer, read-number, reading, ReaderGives}
+use Rattle.message.specs.Writing.{writer-row, writing, buffer-after, in-front}
+use Rattle.message.proofs.Checks.{Known, right-size, size-least, size-front, size-join-least, size-join, size-join-voted, size-propose, size-other}
+use Rattle.message.proofs.Checks.{decoded-start, decoded-join, decoded-join-voted, decoded-propose, decoded-vote}
 
 -- an answer has the number of the first cause of its row
-pub read-numbered : (s : List ℕ) → read-number (read s) ≡ first (message-row s)
-unfolding read
-read-numbered s = number-kept read-number (λ n. answer n (decoded s)) (message-row s) (refl, (refl, (refl, (refl, (refl, (refl, refl))))))
+read-numbered : (s : List ℕ) → read-number (reading s) ≡ first (message-row s)
+unfolding reading
+read-numbered s = number-kept read-number (λ n. read-answer n (decoded s)) (message-row s) (refl, (refl, (refl, (refl, (refl, (refl, refl))))))
 
-pub written-numbered : (m : Message) (old : List ℕ) → written-number (written m old) ≡ first (writer-row m old)
-unfolding written
-written-numbered m old = number-kept written-number (λ n. answer-of n m) (writer-row m old) (refl, (refl, refl))
-
-written-long : (m : Message) (old : List ℕ) → written-length (written m old) ≡ sent-length m old
-unfolding written sent-length
-written-long m old =
-    by-test (eqb (first (writer-row m old)) 0) (λ t. rw t refl) (λ t. by-test (eqb (first (writer-row m old)) 18) (λ u. rw (t, u) refl) (λ u. rw (t, u) refl))
-
--- an answer with its number and its length
-pub reads : (s : List ℕ) (r : Read) → r ≡ read s → Reads s r
-reads s r e = record { answer = e; number-is = ap read-number e ∙ read-numbered s }
-
-pub writes : (m : Message) (old : List ℕ) (r : Written) (new : List ℕ) → r ≡ written m old → new ≡ buffer-after m old → Writes m old r new
-writes m old r new e b =
-    record { answer = e; number-is = ap written-number e ∙ written-numbered m old; length-is = ap written-length e ∙ written-long m old; buffer = b }
+pub reader-gives : (s : List ℕ) (r : Read) → r ≡ reading s → ReaderGives s r
+reader-gives s r e = record { answer = e; number-is = ap read-number e ∙ read-numbered s }
 
 -- a round in range is a word
 round-small : (r : Round) (s : Member) → head-in-range r s ≡ true → r .0 < 4294967296
@@ -69,22 +56,24 @@ sender-small r s h =
 
 pub length-bytes : (m : Message) → length (bytes m) ≡ byte-count m
 unfolding bytes
-length-bytes (Start r s) = length-encoded (words (Start r s))
-length-bytes (Join r s) = length-encoded (words (Join r s))
-length-bytes (JoinVoted r s q w) = length-encoded (words (JoinVoted r s q w))
-length-bytes (Propose r s v) = length-encoded (words (Propose r s v))
-length-bytes (Vote r s) = length-encoded (words (Vote r s))
+length-bytes (Start r s) = length-encoded (layout (Start r s))
+length-bytes (Join r s) = length-encoded (layout (Join r s))
+length-bytes (JoinVoted r s q w) = length-encoded (layout (JoinVoted r s q w))
+length-bytes (Propose r s v) = length-encoded (layout (Propose r s v))
+length-bytes (Vote r s) = length-encoded (layout (Vote r s))
 
 -- what every message starts with is found, whatever comes after
-module _ (k : ℕ) (r : Round) (s : Member) (small : k < 5) (h : head-in-range r s ≡ true) (js : List Item) where
-  kind-found : kind (encoded (head k r s ++ js)) ≡ k
-  kind-found = integer-found [] (integer (r .0) ∷ integer (s .0) ∷ js) k 0 (length-encoded []) (omega arith)
+module _ (k : ℕ) (r : Round) (s : Member) (small : k ≤ VOTE-KIND) (h : head-in-range r s ≡ true) (js : List Item) where
+  kind-found : kind-in (encoded (head k r s ++ js)) ≡ k
+  kind-found = integer-found [] (integer (r .0) ∷ integer (s .0) ∷ js) k kind-at (length-encoded []) (omega arith)
 
-  round-found : round (encoded (head k r s ++ js)) ≡ r
-  round-found = ap (λ (x : ℕ). record { 0 = x }) (integer-found (integer k ∷ []) (integer (s .0) ∷ js) (r .0) 4 (length-encoded (integer k ∷ [])) (round-small r s h))
+  round-found : round-of (encoded (head k r s ++ js)) ≡ r
+  round-found = ap (λ (x : ℕ). record { 0 = x }) (integer-found (integer k ∷ []) (integer (s .0) ∷ js) (r .0) round-at (length-encoded (integer k ∷ []))
+      (round-small r s h))
 
-  sender-found : sender (encoded (head k r s ++ js)) ≡ s
-  sender-found = ap (λ (x : ℕ). record { 0 = x }) (integer-found (integer k ∷ integer (r .0) ∷ []) js (s .0) 8 (length-encoded (integer k ∷ integer (r .0) ∷ [])) (sender-small r s h))
+  sender-found : sender-of (encoded (head k r s ++ js)) ≡ s
+  sender-found = ap (λ (x : ℕ). record { 0 = x }) (integer-found (integer k ∷ integer (r .0) ∷ []) js (s .0) sender-at
+      (length-encoded (integer k ∷ integer (r .0) ∷ [])) (sender-small r s h))
 
 -- bytes of the length of their kind and presence
 record Whole (s : List ℕ) : Type 0 where
@@ -92,27 +81,42 @@ record Whole (s : List ℕ) : Type 0 where
   exact : length s ≡ size s
 
 -- they read as the message that they spell, if it is in range
-whole-read : (s : List ℕ) (m : Message) → Whole s → decoded s ≡ m → in-range m ≡ true → read s ≡ Got m
+whole-read : (s : List ℕ) (m : Message) → Whole s → decoded s ≡ m → in-range m ≡ true → reading s ≡ Got m
 whole-read s m w e h = right-size s (w .known) (w .exact) ∙ rw (e, h)
 
 -- bytes that read as a message get no number of the row, spell it, and it is in range
-pub got : (s : List ℕ) (m : Message) → read s ≡ Got m → (first (message-row s) ≡ 0) × (decoded s ≡ m) × (in-range m ≡ true)
-unfolding read
+pub got : (s : List ℕ) (m : Message) → reading s ≡ Got m → (first (message-row s) ≡ 0) × (decoded s ≡ m) × (in-range m ≡ true)
+unfolding reading
 got s m h =
     let zero-first : first (message-row s) ≡ 0 = sym (read-numbered s) ∙ ap read-number h in
-    let reads : Got (decoded s) ≡ Got m = sym (ap (λ (n : ℕ). answer n (decoded s)) zero-first) ∙ h in
+    let reads : Got (decoded s) ≡ Got m = sym (ap (λ (n : ℕ). read-answer n (decoded s)) zero-first) ∙ h in
     let same : decoded s ≡ m = cc in
     let (long-enough, (known, (length-right, (present, (sized, (ranged, end)))))) = passed (message-row s) refl zero-first in
     (zero-first, same, rw (← same) (not-false (in-range (decoded s)) ranged))
 
+-- the answer is a message
+abbrev IsGot : Read → Type 0
+IsGot (Got m) = Unit {0}
+IsGot (Refused n) = ⊥
+
+-- bytes that are refused get their number from the row, and it isn't 0
+pub refused-read : (s : List ℕ) (n : ℕ) → reading s ≡ Refused n → (first (message-row s) ≡ n) × (eqb n 0 ≡ false)
+unfolding reading
+refused-read s n h =
+    let number : first (message-row s) ≡ n = sym (read-numbered s) ∙ ap read-number h in (
+      number,
+      by-test (eqb n 0) (λ t.
+          let clash : Got (decoded s) ≡ Refused n = rw (number, t) at h in absurd (subst IsGot clash tt)) (λ t. t),
+    )
+
 -- and nothing else reads as a message
-read-whole : (s : List ℕ) (m : Message) → read s ≡ Got m → Whole s × (decoded s ≡ m) × (in-range m ≡ true)
+read-whole : (s : List ℕ) (m : Message) → reading s ≡ Got m → Whole s × (decoded s ≡ m) × (in-range m ≡ true)
 unfolding message-row
 read-whole s m h =
     let (zero-first, same, ranged) = got s m h in
     let (long-enough, (known, (length-right, (present, (sized, rest))))) = passed (message-row s) refl zero-first in
-    let nonzero : eqb (kind s) 0 ≡ false = or-left (eqb (kind s) 0) (ltb 4 (kind s)) known in
-    let small : ltb 4 (kind s) ≡ false = or-right (eqb (kind s) 0) (ltb 4 (kind s)) known in
+    let nonzero : eqb (kind-in s) 0 ≡ false = or-left (eqb (kind-in s) 0) (ltb VOTE-KIND (kind-in s)) known in
+    let small : ltb VOTE-KIND (kind-in s) ≡ false = or-right (eqb (kind-in s) 0) (ltb VOTE-KIND (kind-in s)) known in
     let whole : Whole s =
     record {
       known = record { low = omega tests; high = omega tests; present = present };
@@ -121,75 +125,79 @@ read-whole s m h =
     (whole, same, ranged)
 
 -- the five shapes
-by-kind {ℓ} : {C : Type ℓ} (s : List ℕ) → Whole s → (kind s ≡ 1 → C) → (kind s ≡ 2 → presence s ≡ 0 → C) → (kind s ≡ 2 → presence s ≡ 1 → C) →
-    (kind s ≡ 3 → C) → (kind s ≡ 4 → C) → C
+by-kind {ℓ} : {C : Type ℓ} (s : List ℕ) → Whole s → (kind-in s ≡ START-KIND → C) → (kind-in s ≡ JOIN-KIND → presence-in s ≡ 0 → C) →
+    (kind-in s ≡ JOIN-KIND → presence-in s ≡ 1 → C) →
+    (kind-in s ≡ PROPOSE-KIND → C) → (kind-in s ≡ VOTE-KIND → C) → C
 by-kind s w start join join-voted propose vote =
     let low = w .known .low in
     let high = w .known .high in
-    by-test (eqb (kind s) 1) (λ t. start (eqb-true (kind s) 1 t))
+    by-test (eqb (kind-in s) START-KIND) (λ t. start (eqb-true (kind-in s) START-KIND t))
     (λ t. by-test (is-join s)
-    (λ j. let few : ltb 1 (presence s) ≡ false = rw j at (w .known .present) in
-    by-test (eqb (presence s) 0) (λ p. join (eqb-true (kind s) 2 j) (eqb-true (presence s) 0 p)) (λ p. join-voted (eqb-true (kind s) 2 j) (omega tests)))
-    (λ j. by-test (eqb (kind s) 3) (λ p. propose (eqb-true (kind s) 3 p)) (λ p. vote (omega tests))))
+    (λ j. let few : ltb 1 (presence-in s) ≡ false = rw j at (w .known .present) in
+    by-test (eqb (presence-in s) 0) (λ p. join (eqb-true (kind-in s) JOIN-KIND j) (eqb-true (presence-in s) 0 p))
+    (λ p. join-voted (eqb-true (kind-in s) JOIN-KIND j) (omega tests)))
+    (λ j. by-test (eqb (kind-in s) PROPOSE-KIND) (λ p. propose (eqb-true (kind-in s) PROPOSE-KIND p)) (λ p. vote (omega tests))))
 
 module _ (s : List ℕ) (b : Bytes s) where
   -- bytes in which the words of a message stand, and no more, are its bytes
-  stood : (m : Message) → Stand s 0 (words m) → length s ≡ byte-count m → s ≡ bytes m
+  stood : (m : Message) → Stand s 0 (layout m) → length s ≡ byte-count m → s ≡ bytes m
   unfolding bytes
-  stood m w e = stands s 0 (words m) b w (omega (arith, length-bytes m))
+  stood m w e = stands s 0 (layout m) b w (omega (arith, length-bytes m))
 
-  stood-read : (m : Message) → Whole s → decoded s ≡ m → (s ≡ bytes m) × Held m
-  unfolding words
+  stood-read : (m : Message) → Whole s → decoded s ≡ m → (s ≡ bytes m) × ValueFits m
+  unfolding layout
   stood-read m w e =
       by-kind s w
       (λ k. rw (← e, decoded-start s k)
-      (stood (Start (round s) (sender s)) (k, (refl, (refl, tt))) (w .exact ∙ size-other s (λ z. omega arith) (λ z. omega arith)), tt))
+      (stood (Start (round-of s) (sender-of s)) (k, (refl, (refl, tt))) (w .exact ∙ size-other s (λ z. omega arith) (λ z. omega arith)), tt))
       (λ k p. rw (← e, decoded-join s k p)
-      (stood (Join (round s) (sender s)) (k, (refl, (refl, (p, tt)))) (w .exact ∙ size-join s k p), tt))
-      (λ k p. let l : length s ≡ 28 = w .exact ∙ size-join-voted s k p in
-      rw (← e, decoded-join-voted s k p)
-      (stood (JoinVoted (round s) (sender s) (voted s) (voted-value s)) (k, (refl, (refl, (p, (refl, (refl, tt)))))) l, hyper-at-small 20 s b))
-      (λ k. let l : length s ≡ 20 = w .exact ∙ size-propose s k in
+      (stood (Join (round-of s) (sender-of s)) (k, (refl, (refl, (p, tt)))) (w .exact ∙ size-join s k p), tt))
+      (λ k p. let l : length s ≡ join-voted-length = w .exact ∙ size-join-voted s k p in
+      rw (← e, decoded-join-voted s k p) (
+        stood (JoinVoted (round-of s) (sender-of s) (voted-of s) (voted-value-in s)) (k, (refl, (refl, (p, (refl, (refl, tt)))))) l,
+        hyper-at-small voted-value-at s b,
+      ))
+      (λ k. let l : length s ≡ propose-length = w .exact ∙ size-propose s k in
       rw (← e, decoded-propose s k)
-      (stood (Propose (round s) (sender s) (proposed s)) (k, (refl, (refl, (refl, tt)))) l, hyper-at-small 12 s b))
+      (stood (Propose (round-of s) (sender-of s) (proposed-in s)) (k, (refl, (refl, (refl, tt)))) l, hyper-at-small proposed-at s b))
       (λ k. rw (← e, decoded-vote s k)
-      (stood (Vote (round s) (sender s)) (k, (refl, (refl, tt))) (w .exact ∙ size-other s (λ z. omega arith) (λ z. omega arith)), tt))
+      (stood (Vote (round-of s) (sender-of s)) (k, (refl, (refl, tt))) (w .exact ∙ size-other s (λ z. omega arith) (λ z. omega arith)), tt))
 
   -- what is read is, byte for byte, what is written for that message, and in range
-  pub only-written : (m : Message) → read s ≡ Got m → (s ≡ bytes m) × Held m × (in-range m ≡ true)
+  pub only-written : (m : Message) → reading s ≡ Got m → (s ≡ bytes m) × ValueFits m × (in-range m ≡ true)
   only-written m h =
       let (w, e, r) = read-whole s m h in
       let (same, held) = stood-read m w e in
       (same, held, r)
 
 -- no two byte strings read as one message
-pub one-reading : (s t : List ℕ) (m : Message) → Bytes s → Bytes t → read s ≡ Got m → read t ≡ Got m → s ≡ t
+pub one-reading : (s t : List ℕ) (m : Message) → Bytes s → Bytes t → reading s ≡ Got m → reading t ≡ Got m → s ≡ t
 one-reading s t m b c h k = only-written s b m h .0 ∙ sym (only-written t c m k .0)
 
 -- a message of a kind is whole
 module _ (s : List ℕ) (m : Message) (e : length s ≡ byte-count m) where
-  whole-join : kind s ≡ 2 → presence s ≤ 1 → size s ≡ byte-count m → Whole s
-  whole-join k p z = record { known = record { low = omega arith; high = omega arith; present = rw k (le-ltb 1 (presence s) p) }; exact = e ∙ sym z }
+  whole-join : kind-in s ≡ JOIN-KIND → presence-in s ≤ 1 → size s ≡ byte-count m → Whole s
+  whole-join k p z = record { known = record { low = omega arith; high = omega arith; present = rw k (le-ltb 1 (presence-in s) p) }; exact = e ∙ sym z }
 
-  whole-other : (k : ℕ) → kind s ≡ k → 1 ≤ k → k ≤ 4 → eqb k 2 ≡ false → size s ≡ byte-count m → Whole s
+  whole-other : (k : ℕ) → kind-in s ≡ k → 1 ≤ k → k ≤ VOTE-KIND → eqb k JOIN-KIND ≡ false → size s ≡ byte-count m → Whole s
   whole-other k q low high j z = record { known = record { low = omega arith; high = omega arith; present = rw (q, j) }; exact = e ∙ sym z }
 
 -- the bytes of a message in range are whole, and spell it
-spelt : (m : Message) → Held m → in-range m ≡ true → Whole (bytes m) × (decoded (bytes m) ≡ m)
+spelt : (m : Message) → ValueFits m → in-range m ≡ true → Whole (bytes m) × (decoded (bytes m) ≡ m)
 unfolding bytes
 spelt (Start r s) v h =
     let l = bytes (Start r s) in
-    let k = kind-found 1 r s (omega arith) h [] in (
-      whole-other l (Start r s) (length-bytes (Start r s)) 1 k (omega arith) (omega arith) refl (size-other l (λ z. omega arith) (λ z. omega arith)),
-      decoded-start l k ∙ (λ i. Start (round-found 1 r s (omega arith) h [] i) (sender-found 1 r s (omega arith) h [] i)),
+    let k = kind-found START-KIND r s (omega arith) h [] in (
+      whole-other l (Start r s) (length-bytes (Start r s)) START-KIND k (omega arith) (omega arith) refl (size-other l (λ z. omega arith) (λ z. omega arith)),
+      decoded-start l k ∙ (λ i. Start (round-found START-KIND r s (omega arith) h [] i) (sender-found START-KIND r s (omega arith) h [] i)),
     )
 spelt (Join r s) v h =
     let l = bytes (Join r s) in
     let js = integer 0 ∷ [] in
-    let k = kind-found 2 r s (omega arith) h js in
-    let p : presence l ≡ 0 = integer-found (head 2 r s) [] 0 12 (length-encoded (head 2 r s)) (omega arith) in (
+    let k = kind-found JOIN-KIND r s (omega arith) h js in
+    let p : presence-in l ≡ 0 = integer-found (head JOIN-KIND r s) [] 0 presence-at (length-encoded (head JOIN-KIND r s)) (omega arith) in (
       whole-join l (Join r s) (length-bytes (Join r s)) k (rw p (omega arith)) (size-join l k p),
-      decoded-join l k p ∙ (λ i. Join (round-found 2 r s (omega arith) h js i) (sender-found 2 r s (omega arith) h js i)),
+      decoded-join l k p ∙ (λ i. Join (round-found JOIN-KIND r s (omega arith) h js i) (sender-found JOIN-KIND r s (omega arith) h js i)),
     )
 spelt (JoinVoted r s q w) v h =
     let l = bytes (JoinVoted r s q w) in
@@ -197,35 +205,39 @@ spelt (JoinVoted r s q w) v h =
     let g : head-in-range r s ≡ true = and-left (head-in-range r s) (vote-in-range r q) h in
     let f : vote-in-range r q ≡ true = and-right (head-in-range r s) (vote-in-range r q) h in
     let below : ltb (q .0) (r .0) ≡ true = and-right (leb 1 (q .0)) (ltb (q .0) (r .0)) f in
-    let k = kind-found 2 r s (omega arith) g js in
-    let p : presence l ≡ 1 = integer-found (head 2 r s) (integer (q .0) ∷ long w ∷ []) 1 12 (length-encoded (head 2 r s)) (omega arith) in
-    let y : word-at l 16 ≡ q .0 =
-    integer-found (head 2 r s ++ integer 1 ∷ []) (long w ∷ []) (q .0) 16 (length-encoded (head 2 r s ++ integer 1 ∷ [])) (omega (tests, round-small r s g)) in
-    let z : hyper-at l 20 ≡ w = long-found (head 2 r s ++ integer 1 ∷ integer (q .0) ∷ []) [] w 20 (length-encoded (head 2 r s ++ integer 1 ∷ integer (q .0) ∷ [])) v in (
+    let k = kind-found JOIN-KIND r s (omega arith) g js in
+    let p : presence-in l ≡ 1 = integer-found (head JOIN-KIND r s) (integer (q .0) ∷ long w ∷ []) 1 presence-at (length-encoded (head JOIN-KIND r s))
+    (omega arith) in
+    let y : word-at l voted-at ≡ q .0 =
+    integer-found (head JOIN-KIND r s ++ integer 1 ∷ []) (long w ∷ []) (q .0) voted-at (length-encoded (head JOIN-KIND r s ++ integer 1 ∷ []))
+    (omega (tests, round-small r s g)) in
+    let z : hyper-at l voted-value-at ≡ w = long-found (head JOIN-KIND r s ++ integer 1 ∷ integer (q .0) ∷ []) [] w voted-value-at
+    (length-encoded (head JOIN-KIND r s ++ integer 1 ∷ integer (q .0) ∷ [])) v in (
       whole-join l (JoinVoted r s q w) (length-bytes (JoinVoted r s q w)) k (rw p (omega arith)) (size-join-voted l k p),
-      decoded-join-voted l k p ∙ (λ i. JoinVoted (round-found 2 r s (omega arith) g js i) (sender-found 2 r s (omega arith) g js i) (record { 0 = y i }) (z i)),
+      decoded-join-voted l k p ∙ (λ i. JoinVoted (round-found JOIN-KIND r s (omega arith) g js i) (sender-found JOIN-KIND r s (omega arith) g js i)
+          (record { 0 = y i }) (z i)),
     )
 spelt (Propose r s w) v h =
     let l = bytes (Propose r s w) in
     let js = long w ∷ [] in
-    let k = kind-found 3 r s (omega arith) h js in
-    let z : hyper-at l 12 ≡ w = long-found (head 3 r s) [] w 12 (length-encoded (head 3 r s)) v in (
-      whole-other l (Propose r s w) (length-bytes (Propose r s w)) 3 k (omega arith) (omega arith) refl (size-propose l k),
-      decoded-propose l k ∙ (λ i. Propose (round-found 3 r s (omega arith) h js i) (sender-found 3 r s (omega arith) h js i) (z i)),
+    let k = kind-found PROPOSE-KIND r s (omega arith) h js in
+    let z : hyper-at l proposed-at ≡ w = long-found (head PROPOSE-KIND r s) [] w proposed-at (length-encoded (head PROPOSE-KIND r s)) v in (
+      whole-other l (Propose r s w) (length-bytes (Propose r s w)) PROPOSE-KIND k (omega arith) (omega arith) refl (size-propose l k),
+      decoded-propose l k ∙ (λ i. Propose (round-found PROPOSE-KIND r s (omega arith) h js i) (sender-found PROPOSE-KIND r s (omega arith) h js i) (z i)),
     )
 spelt (Vote r s) v h =
     let l = bytes (Vote r s) in
-    let k = kind-found 4 r s (omega arith) h [] in (
-      whole-other l (Vote r s) (length-bytes (Vote r s)) 4 k (omega arith) (omega arith) refl (size-other l (λ z. omega arith) (λ z. omega arith)),
-      decoded-vote l k ∙ (λ i. Vote (round-found 4 r s (omega arith) h [] i) (sender-found 4 r s (omega arith) h [] i)),
+    let k = kind-found VOTE-KIND r s (omega arith) h [] in (
+      whole-other l (Vote r s) (length-bytes (Vote r s)) VOTE-KIND k (omega arith) (omega arith) refl (size-other l (λ z. omega arith) (λ z. omega arith)),
+      decoded-vote l k ∙ (λ i. Vote (round-found VOTE-KIND r s (omega arith) h [] i) (sender-found VOTE-KIND r s (omega arith) h [] i)),
     )
 
 -- each message that the writer takes reads back as itself
-pub reads-back : (m : Message) → Held m → in-range m ≡ true → read (bytes m) ≡ Got m
+pub reads-back : (m : Message) → ValueFits m → in-range m ≡ true → reading (bytes m) ≡ Got m
 reads-back m v h = let (w, e) = spelt m v h in whole-read (bytes m) m w e h
 
 -- and in longer bytes the part of its own length spells it
-pub spelt-front : (m : Message) (behind : List ℕ) → Held m → in-range m ≡ true → decoded (take (size (bytes m ++ behind)) (bytes m ++ behind)) ≡ m
+pub spelt-front : (m : Message) (behind : List ℕ) → ValueFits m → in-range m ≡ true → decoded (take (size (bytes m ++ behind)) (bytes m ++ behind)) ≡ m
 spelt-front m behind v h =
     let (w, e) = spelt m v h in
     let l = bytes m in
@@ -233,15 +245,20 @@ spelt-front m behind v h =
     let own : size (l ++ behind) ≡ size l = size-front l behind (omega (arith, size-least l)) (λ k. omega (arith, size-join-least l k)) in
     rw (own, take-at l behind (size l) exact) e
 
--- every message in range is written, with the length of its kind, into a buffer that has room for any
-pub in-range-written : (m : Message) (old : List ℕ) → 28 ≤ length old → in-range m ≡ true → written m old ≡ Sent (byte-count m)
-unfolding written
-in-range-written m old l h = simp (le-ltb (length old) 28 l, h, length-bytes m)
+-- a message in range passes the writer's row where the buffer has room for any
+fitting : (m : Message) (old : List ℕ) → longest ≤ length old → in-range m ≡ true → first (writer-row m old) ≡ 0
+fitting m old l h = rw (le-ltb (length old) longest l, h)
 
--- and leaves itself at the front of it
-pub left-in-front : (m : Message) (old : List ℕ) → 28 ≤ length old → in-range m ≡ true → buffer-after m old ≡ in-front m old
+-- it is written, with its own length
+pub in-range-written : (m : Message) (old : List ℕ) → longest ≤ length old → in-range m ≡ true →
+    writing m old ≡ record { number = 0; length = length (bytes m) }
+unfolding writing
+in-range-written m old l h = rw (fitting m old l h)
+
+-- and leaves itself at the front
+pub left-in-front : (m : Message) (old : List ℕ) → longest ≤ length old → in-range m ≡ true → buffer-after m old ≡ in-front m old
 unfolding buffer-after
-left-in-front m old l h = simp (le-ltb (length old) 28 l, h)
+left-in-front m old l h = rw (fitting m old l h)
 
 -- a refusal leaves the buffer as it was
 pub left-as-it-was : (m : Message) (old : List ℕ) → (first (writer-row m old) ≡ 0 → ⊥) → buffer-after m old ≡ old
@@ -249,12 +266,10 @@ unfolding buffer-after
 left-as-it-was m old refused = rw (ne-eqb (first (writer-row m old)) 0 refused)
 
 -- a message that the writer took stands at the front of the buffer, is in range, and reads back
-pub written-reads-back : (m : Message) (old : List ℕ) (n : ℕ) → Held m → written m old ≡ Sent n → (in-range m ≡ true) × (read (take n (buffer-after m old)) ≡ Got m)
-unfolding written buffer-after in-front
-written-reads-back m old n v h =
-    let ok : first (writer-row m old) ≡ 0 = sym (written-numbered m old) ∙ ap written-number h in
-    let sent : Sent (length (bytes m)) ≡ Sent n = sym (ap (λ (k : ℕ). answer-of k m) ok) ∙ h in
-    let size : length (bytes m) ≡ n = cc in
+pub written-reads-back : (m : Message) (old : List ℕ) → ValueFits m → writing m old .number ≡ 0 →
+    (in-range m ≡ true) × (reading (take (writing m old .length) (buffer-after m old)) ≡ Got m)
+unfolding writing buffer-after in-front
+written-reads-back m old v ok =
     let (room, (ranged, end)) = passed (writer-row m old) refl ok in
     let fits : in-range m ≡ true = not-false (in-range m) ranged in
-    (fits, simp (room, fits, take-at (bytes m) (drop (length (bytes m)) old) n size) (reads-back m v fits))
+    (fits, rw (ok, take-at (bytes m) (drop (length (bytes m)) old) (length (bytes m)) refl) (reads-back m v fits))

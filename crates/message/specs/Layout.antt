@@ -1,6 +1,6 @@
--- The layout of a message (01, "Messages"): its words in order, their number of bytes, and their places.
+-- The layout of a message (01, "Messages"): its numbers in order, their places, and how many bytes they are. A change of the layout is made here.
 use mathlib.Core.List.{List, [], _∷_, _++_}
-use Prim.Native.Nat.{ℕ, _<_}
+use Prim.Native.Nat.{ℕ, _+_, _<_}
 use Rattle.ids.specs.declared.Round.{Round}
 use Rattle.ids.specs.declared.Member.{Member}
 use Rattle.xdr.specs.Words.{word-at, hyper-at}
@@ -8,59 +8,118 @@ use Rattle.xdr.specs.Items.{Item, integer, long, encoded}
 use Rattle.message.specs.declared.Message.{Message}
 use Rattle.message.specs.declared.Message.the-variants.{Start, Join, JoinVoted, Propose, Vote}
 
+-- the kinds
+abbrev pub START-KIND : ℕ
+START-KIND = 1
+
+abbrev pub JOIN-KIND : ℕ
+JOIN-KIND = 2
+
+abbrev pub PROPOSE-KIND : ℕ
+PROPOSE-KIND = 3
+
+abbrev pub VOTE-KIND : ℕ
+VOTE-KIND = 4
+
 -- what every message starts with: kind, round, sender
 abbrev pub head : ℕ → Round → Member → List Item
 head k r s = integer k ∷ integer (r .0) ∷ integer (s .0) ∷ []
 
 -- a JOIN has a presence word, and behind a presence of 1 the voted round and the value
-unfoldable pub words : Message → List Item
-words (Start r s) = head 1 r s
-words (Join r s) = head 2 r s ++ integer 0 ∷ []
-words (JoinVoted r s q w) = head 2 r s ++ integer 1 ∷ integer (q .0) ∷ long w ∷ []
-words (Propose r s v) = head 3 r s ++ long v ∷ []
-words (Vote r s) = head 4 r s
+unfoldable pub layout : Message → List Item
+layout (Start r s) = head START-KIND r s
+layout (Join r s) = head JOIN-KIND r s ++ integer 0 ∷ []
+layout (JoinVoted r s q w) = head JOIN-KIND r s ++ integer 1 ∷ integer (q .0) ∷ long w ∷ []
+layout (Propose r s v) = head PROPOSE-KIND r s ++ long v ∷ []
+layout (Vote r s) = head VOTE-KIND r s
 
 unfoldable pub bytes : Message → List ℕ
-unfolding words
-bytes m = encoded (words m)
+unfolding layout
+bytes m = encoded (layout m)
 
--- how many they are
+-- the place of each number
+abbrev pub kind-at : ℕ
+kind-at = 0
+
+abbrev pub round-at : ℕ
+round-at = kind-at + 4
+
+abbrev pub sender-at : ℕ
+sender-at = round-at + 4
+
+abbrev pub presence-at : ℕ
+presence-at = sender-at + 4
+
+abbrev pub voted-at : ℕ
+voted-at = presence-at + 4
+
+abbrev pub voted-value-at : ℕ
+voted-value-at = voted-at + 4
+
+abbrev pub proposed-at : ℕ
+proposed-at = sender-at + 4
+
+-- where the kind ends: as many bytes tell it
+abbrev pub kind-end : ℕ
+kind-end = kind-at + 4
+
+-- the bytes of what every message starts with, which is all of a START and of a VOTE
+abbrev pub head-length : ℕ
+head-length = sender-at + 4
+
+-- of a JOIN without a vote
+abbrev pub join-length : ℕ
+join-length = presence-at + 4
+
+-- of a JOIN with a vote
+abbrev pub join-voted-length : ℕ
+join-voted-length = voted-value-at + 8
+
+-- of a PROPOSE
+abbrev pub propose-length : ℕ
+propose-length = proposed-at + 8
+
+-- of the longest message
+abbrev pub longest : ℕ
+longest = join-voted-length
+
+-- how many bytes a message is
 abbrev pub byte-count : Message → ℕ
-byte-count (Start r s) = 12
-byte-count (Join r s) = 16
-byte-count (JoinVoted r s q w) = 28
-byte-count (Propose r s v) = 20
-byte-count (Vote r s) = 12
+byte-count (Start r s) = head-length
+byte-count (Join r s) = join-length
+byte-count (JoinVoted r s q w) = join-voted-length
+byte-count (Propose r s v) = propose-length
+byte-count (Vote r s) = head-length
 
--- the same words as places in bytes
-abbrev pub kind : List ℕ → ℕ
-kind s = word-at s 0
+-- the numbers that stand at these places
+abbrev pub kind-in : List ℕ → ℕ
+kind-in s = word-at s kind-at
 
-abbrev pub round-at : List ℕ → ℕ → Round
-round-at s at = record { 0 = word-at s at }
+abbrev pub round-in : List ℕ → ℕ → Round
+round-in s at = record { 0 = word-at s at }
 
-abbrev pub round : List ℕ → Round
-round s = round-at s 4
+abbrev pub round-of : List ℕ → Round
+round-of s = round-in s round-at
 
-abbrev pub sender : List ℕ → Member
-sender s = record { 0 = word-at s 8 }
+abbrev pub sender-of : List ℕ → Member
+sender-of s = record { 0 = word-at s sender-at }
 
-abbrev pub presence : List ℕ → ℕ
-presence s = word-at s 12
+abbrev pub presence-in : List ℕ → ℕ
+presence-in s = word-at s presence-at
 
-abbrev pub voted : List ℕ → Round
-voted s = round-at s 16
+abbrev pub voted-of : List ℕ → Round
+voted-of s = round-in s voted-at
 
-abbrev pub voted-value : List ℕ → ℕ
-voted-value s = hyper-at s 20
+abbrev pub voted-value-in : List ℕ → ℕ
+voted-value-in s = hyper-at s voted-value-at
 
-abbrev pub proposed : List ℕ → ℕ
-proposed s = hyper-at s 12
+abbrev pub proposed-in : List ℕ → ℕ
+proposed-in s = hyper-at s proposed-at
 
 -- a value is a 64-bit number, as its type in the code says
-abbrev pub Held : Message → Type 0
-Held (Start r s) = Unit {0}
-Held (Join r s) = Unit {0}
-Held (JoinVoted r s q w) = w < 18446744073709551616
-Held (Propose r s v) = v < 18446744073709551616
-Held (Vote r s) = Unit {0}
+abbrev pub ValueFits : Message → Type 0
+ValueFits (Start r s) = Unit {0}
+ValueFits (Join r s) = Unit {0}
+ValueFits (JoinVoted r s q w) = w < 18446744073709551616
+ValueFits (Propose r s v) = v < 18446744073709551616
+ValueFits (Vote r s) = Unit {0}

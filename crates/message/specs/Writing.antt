@@ -6,41 +6,23 @@ use Prim.Native.Nat.{ℕ}
 use lib.ListN.{length, drop}
 use lib.Dec.{ltb, eqb}
 use Rattle.laws.specs.First.{Cause, _gives_, first}
+use Rattle.numbers.specs.Numbers.{REPLY-SHORT, MESSAGE-FIELD}
 use Rattle.message.specs.declared.Message.{Message}
 use Rattle.message.specs.declared.Written.{Written}
-use Rattle.message.specs.declared.Written.the-variants.{Sent, ShortBuffer, OutOfRange}
 use Rattle.message.specs.Fields.{in-range}
-use Rattle.message.specs.Layout.{bytes}
+use Rattle.message.specs.Layout.{bytes, longest}
 
--- 01's number of an answer: 0 is OK
-abbrev pub written-number : Written → ℕ
-written-number (Sent n) = 0
-written-number ShortBuffer = 18
-written-number OutOfRange = 16
-
--- the sent length of an answer; with a refusal it is 0
-abbrev pub written-length : Written → ℕ
-written-length (Sent n) = n
-written-length ShortBuffer = 0
-written-length OutOfRange = 0
-
--- a reply buffer has room for the longest message
-abbrev pub short-buffer : List ℕ → Bool
-short-buffer old = ltb (length old) 28
+-- a buffer of n bytes has no room for the longest message
+abbrev pub short-buffer : ℕ → Bool
+short-buffer n = ltb n longest
 
 -- the buffer's cause and then that of the fields
 abbrev pub writer-row : Message → List ℕ → List Cause
-writer-row m old = short-buffer old gives 18 ∷ not (in-range m) gives 16 ∷ []
+writer-row m old = short-buffer (length old) gives REPLY-SHORT ∷ not (in-range m) gives MESSAGE-FIELD ∷ []
 
--- the answer of a number; 0 comes with the sent length
-abbrev pub answer-of : ℕ → Message → Written
-answer-of n m = cond (eqb n 0) (Sent (length (bytes m))) (cond (eqb n 18) ShortBuffer OutOfRange)
-
-unfoldable pub written : Message → List ℕ → Written
-written m old = answer-of (first (writer-row m old)) m
-
-unfoldable pub sent-length : Message → List ℕ → ℕ
-sent-length m old = cond (eqb (first (writer-row m old)) 0) (length (bytes m)) 0
+-- the number; the length is that of the message, and 0 with a refusal
+unfoldable pub writing : Message → List ℕ → Written
+writing m old = record { number = first (writer-row m old); length = cond (eqb (first (writer-row m old)) 0) (length (bytes m)) 0 }
 
 -- the message at the front, and the bytes behind it as they were
 unfoldable pub in-front : Message → List ℕ → List ℕ
@@ -50,9 +32,7 @@ in-front m old = bytes m ++ drop (length (bytes m)) old
 unfoldable pub buffer-after : Message → List ℕ → List ℕ
 buffer-after m old = cond (eqb (first (writer-row m old)) 0) (in-front m old) old
 
--- the writer's answer and the buffer after it
-pub record Writes (m : Message) (old : List ℕ) (r : Written) (new : List ℕ) : Type 0 where
-  pub answer : r ≡ written m old
-  pub number-is : written-number r ≡ first (writer-row m old)
-  pub length-is : written-length r ≡ sent-length m old
+-- the writer's answer, and the buffer after it
+pub record WriterLeaves (m : Message) (old : List ℕ) (r : Written) (new : List ℕ) : Type 0 where
+  pub answer : r ≡ writing m old
   pub buffer : new ≡ buffer-after m old

@@ -3,7 +3,6 @@ use ids::Member;
 use ids::Round;
 ghost use mathlib.Core.Path.{_≡_};
 ghost use Rattle.message.specs.Fields.{head-in-range, vote-in-range, in-range};
-ghost use Rattle.message.specs.Reading.{fault-number};
 
 // A message by value: one of the four kinds, a JOIN without or with a vote.
 pub enum Message {
@@ -32,42 +31,60 @@ pub enum Message {
     },
 }
 
-// Why bytes are no message: 14, 15, 16 of the place table.
-pub enum Fault {
-    Length,
-    Kind,
-    Field,
-}
-
-// What bytes read as.
+// What bytes read as: the message, or the number of the place table that refuses them.
 pub enum Read {
     Got(Message),
-    Refused(Fault),
+    Refused(u32),
 }
 
-// What the writer answers: the length of what it put at the front, or 18, or 16.
-pub enum Written {
-    Sent(usize),
-    ShortBuffer,
-    OutOfRange,
+// What the writer answers: its number, and the length of what it put at the front; with a refusal that is 0.
+pub struct Written {
+    pub number: u32,
+    pub length: usize,
 }
+
+// The kinds.
+pub const START_KIND: u32 = 1;
+
+pub const JOIN_KIND: u32 = 2;
+
+pub const PROPOSE_KIND: u32 = 3;
+
+pub const VOTE_KIND: u32 = 4;
+
+// The places of a message's words.
+pub const KIND_AT: usize = 0;
+
+pub const ROUND_AT: usize = KIND_AT + 4;
+
+pub const SENDER_AT: usize = ROUND_AT + 4;
+
+pub const PRESENCE_AT: usize = SENDER_AT + 4;
+
+pub const VOTED_AT: usize = PRESENCE_AT + 4;
+
+pub const VOTED_VALUE_AT: usize = VOTED_AT + 4;
+
+pub const PROPOSED_AT: usize = SENDER_AT + 4;
+
+// Where the kind ends: as many bytes tell it.
+pub const KIND_END: usize = KIND_AT + 4;
+
+// The length of what every message starts with, which is all of a START and of a VOTE.
+pub const HEAD_LENGTH: usize = SENDER_AT + 4;
+
+// The length of a JOIN without a vote, with a vote, and of a PROPOSE.
+pub const JOIN_LENGTH: usize = PRESENCE_AT + 4;
+
+pub const JOIN_VOTED_LENGTH: usize = VOTED_VALUE_AT + 8;
+
+pub const PROPOSE_LENGTH: usize = PROPOSED_AT + 8;
+
+// The length of the longest message: what a reply buffer has room for.
+pub const LONGEST: usize = JOIN_VOTED_LENGTH;
 
 // The highest sender.
 const LAST_SENDER: u32 = 6;
-
-// The length of the longest message.
-pub const LONGEST: usize = 28;
-
-// The place table's number of a fault.
-pub fn number(f: Fault) -> u32
-    ensures { λ r. ⌜ r ≡ fault-number f ⌝ }
-{
-    match f {
-        Fault::Length => 14,
-        Fault::Kind => 15,
-        Fault::Field => 16,
-    }
-}
 
 // Whether the round is one of 1 to 1,000,000 and the sender one of 0 to 6.
 fn head_in_range(round: Round, sender: Member) -> bool

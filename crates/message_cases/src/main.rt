@@ -3,9 +3,9 @@
 use ids::Member;
 use ids::Round;
 use libc::STDOUT_FILENO;
+use message::LONGEST;
 use message::Message;
 use message::Read;
-use message::Written;
 
 fn print_byte(b: u8) {
     io::print_hex(STDOUT_FILENO, b as u64, 2);
@@ -66,13 +66,13 @@ fn print_message(m: Message) {
     }
 }
 
-// What bytes read as: the message, or the number of the fault.
+// What bytes read as: the message, or the number that refuses them.
 fn show_read(s: &[u8]) {
     print_bytes(s);
     io::write_all(STDOUT_FILENO, b" ");
     match message_reader::read_message(s) {
         Read::Got(m) => print_message(m),
-        Read::Refused(f) => print_number(message::number(f) as u64),
+        Read::Refused(number) => print_number(number as u64),
     }
     io::write_all(STDOUT_FILENO, b"\n");
 }
@@ -83,13 +83,14 @@ fn show_front(s: &[u8], n: usize) {
     }
 }
 
-// What the writer makes of a message in a buffer of 28 bytes.
+// What the writer makes of a message in a buffer that has room for any.
 fn show_written(m: Message) {
-    let mut buf = [255u8; 28];
-    match message_writer::write_message(m, &mut buf) {
-        Written::Sent(n) => show_front(&buf, n),
-        Written::ShortBuffer => show_refused(18, &buf),
-        Written::OutOfRange => show_refused(16, &buf),
+    let mut buf = [255u8; LONGEST];
+    let w = message_writer::write_message(m, &mut buf);
+    if w.number == numbers::OK {
+        show_front(&buf, w.length);
+    } else {
+        show_refused(w.number as u64, &buf);
     }
 }
 

@@ -1,109 +1,155 @@
 // The reader of messages (01, "Messages").
 use ids::Member;
 use ids::Round;
-use message::Fault;
+use message::HEAD_LENGTH;
+use message::JOIN_KIND;
+use message::JOIN_LENGTH;
+use message::JOIN_VOTED_LENGTH;
+use message::KIND_AT;
+use message::KIND_END;
 use message::Message;
+use message::PRESENCE_AT;
+use message::PROPOSE_KIND;
+use message::PROPOSE_LENGTH;
+use message::PROPOSED_AT;
+use message::ROUND_AT;
 use message::Read;
+use message::SENDER_AT;
+use message::START_KIND;
+use message::VOTE_KIND;
+use message::VOTED_AT;
+use message::VOTED_VALUE_AT;
+use numbers::MESSAGE_FIELD;
+use numbers::MESSAGE_KIND;
+use numbers::MESSAGE_LENGTH;
 ghost use mathlib.Core.Path.{_≡_};
 ghost use Prim.Native.Nat.{_+_, _≤_};
-ghost use lib.ListN.{length};
+ghost use lib.ListN.{length, take};
 ghost use Rattle.message.specs.declared.Message.the-variants.{Start, Join, JoinVoted, Propose, Vote};
-ghost use Rattle.message.specs.Layout.{kind, round-at, round, sender, voted, voted-value, proposed};
-ghost use Rattle.message.specs.Reading.{size, decoded, ranged, read, Reads};
+ghost use Rattle.message.specs.Layout.{JOIN-KIND, VOTE-KIND, kind-end, head-length, join-voted-length, propose-length, longest};
+ghost use Rattle.message.specs.Layout.{kind-in, round-in, round-of, sender-of, voted-of, voted-value-in, proposed-in};
+ghost use Rattle.message.specs.Reading.{size, decoded, ranged, reading, ReaderGives};
 
 // The round at a place.
 fn round_at(s: &[u8], at: usize) -> Round
     requires { ⌜ at + 4 ≤ length (now s) ⌝ }
-    ensures { λ r. ⌜ r ≡ round-at (now (s .entry)) at ⌝ }
+    ensures { λ r. ⌜ r ≡ round-in (now (s .entry)) at ⌝ }
 {
     Round(xdr::word_at(s, at))
 }
 
 // The sender at its place.
 fn sender_of(s: &[u8]) -> Member
-    requires { ⌜ 12 ≤ length (now s) ⌝ }
-    ensures { λ r. ⌜ r ≡ sender (now (s .entry)) ⌝ }
+    requires { ⌜ head-length ≤ length (now s) ⌝ }
+    ensures { λ r. ⌜ r ≡ sender-of (now (s .entry)) ⌝ }
 {
-    Member(xdr::word_at(s, 8))
+    Member(xdr::word_at(s, SENDER_AT))
 }
 
 // Bytes as a START.
 fn as_start(s: &[u8]) -> Message
-    requires { ⌜ 12 ≤ length (now s) ⌝ }
-    ensures { λ m. ⌜ m ≡ Start (round (now (s .entry))) (sender (now (s .entry))) ⌝ }
+    requires { ⌜ head-length ≤ length (now s) ⌝ }
+    ensures { λ m. ⌜ m ≡ Start (round-of (now (s .entry))) (sender-of (now (s .entry))) ⌝ }
 {
     Message::Start {
-        round: round_at(s, 4),
+        round: round_at(s, ROUND_AT),
         sender: sender_of(s),
     }
 }
 
 // Bytes as a JOIN without a vote.
 fn as_join(s: &[u8]) -> Message
-    requires { ⌜ 12 ≤ length (now s) ⌝ }
-    ensures { λ m. ⌜ m ≡ Join (round (now (s .entry))) (sender (now (s .entry))) ⌝ }
+    requires { ⌜ head-length ≤ length (now s) ⌝ }
+    ensures { λ m. ⌜ m ≡ Join (round-of (now (s .entry))) (sender-of (now (s .entry))) ⌝ }
 {
     Message::Join {
-        round: round_at(s, 4),
+        round: round_at(s, ROUND_AT),
         sender: sender_of(s),
     }
 }
 
 // Bytes as a JOIN with a vote.
 fn as_join_voted(s: &[u8]) -> Message
-    requires { ⌜ 28 ≤ length (now s) ⌝ }
-    ensures { λ m. ⌜ m ≡ JoinVoted (round (now (s .entry))) (sender (now (s .entry))) (voted (now (s .entry))) (voted-value (now (s .entry))) ⌝ }
+    requires { ⌜ join-voted-length ≤ length (now s) ⌝ }
+    ensures { λ m. ⌜ m ≡ JoinVoted (round-of (now (s .entry))) (sender-of (now (s .entry))) (voted-of (now (s .entry))) (voted-value-in (now (s .entry))) ⌝ }
 {
     Message::JoinVoted {
-        round: round_at(s, 4),
+        round: round_at(s, ROUND_AT),
         sender: sender_of(s),
-        voted: round_at(s, 16),
-        value: xdr::hyper_at(s, 20),
+        voted: round_at(s, VOTED_AT),
+        value: xdr::hyper_at(s, VOTED_VALUE_AT),
     }
 }
 
 // Bytes as a PROPOSE.
 fn as_propose(s: &[u8]) -> Message
-    requires { ⌜ 20 ≤ length (now s) ⌝ }
-    ensures { λ m. ⌜ m ≡ Propose (round (now (s .entry))) (sender (now (s .entry))) (proposed (now (s .entry))) ⌝ }
+    requires { ⌜ propose-length ≤ length (now s) ⌝ }
+    ensures { λ m. ⌜ m ≡ Propose (round-of (now (s .entry))) (sender-of (now (s .entry))) (proposed-in (now (s .entry))) ⌝ }
 {
     Message::Propose {
-        round: round_at(s, 4),
+        round: round_at(s, ROUND_AT),
         sender: sender_of(s),
-        value: xdr::hyper_at(s, 12),
+        value: xdr::hyper_at(s, PROPOSED_AT),
     }
 }
 
 // Bytes as a VOTE.
 fn as_vote(s: &[u8]) -> Message
-    requires { ⌜ 12 ≤ length (now s) ⌝ }
-    ensures { λ m. ⌜ m ≡ Vote (round (now (s .entry))) (sender (now (s .entry))) ⌝ }
+    requires { ⌜ head-length ≤ length (now s) ⌝ }
+    ensures { λ m. ⌜ m ≡ Vote (round-of (now (s .entry))) (sender-of (now (s .entry))) ⌝ }
 {
     Message::Vote {
-        round: round_at(s, 4),
+        round: round_at(s, ROUND_AT),
         sender: sender_of(s),
     }
 }
 
 // The message that bytes of the length of their kind spell.
-pub fn decode(s: &[u8]) -> Message
+fn decode(s: &[u8]) -> Message
     requires { ⌜ length (now s) ≡ size (now s) ⌝ }
     ensures { λ m. ⌜ m ≡ decoded (now (s .entry)) ⌝ }
 {
-    let kind = xdr::word_at(s, 0);
-    if kind == 1 {
+    let kind = xdr::word_at(s, KIND_AT);
+    if kind == START_KIND {
         return as_start(s);
     }
-    if kind == 2 {
-        if xdr::word_at(s, 12) == 1 {
+    if kind == JOIN_KIND {
+        if xdr::word_at(s, PRESENCE_AT) == 1 {
             return as_join_voted(s);
         }
         return as_join(s);
     }
-    if kind == 3 {
+    if kind == PROPOSE_KIND {
         return as_propose(s);
     }
     as_vote(s)
+}
+
+// The length of the message at the front of bytes that have room for any, by its kind and presence.
+fn message_size(s: &[u8]) -> usize
+    requires { ⌜ longest ≤ length (now s) ⌝ }
+    ensures { λ n. ⌜ n ≡ size (now (s .entry)) ⌝ }
+{
+    let kind = xdr::word_at(s, KIND_AT);
+    if kind == JOIN_KIND {
+        if xdr::word_at(s, PRESENCE_AT) == 1 {
+            return JOIN_VOTED_LENGTH;
+        }
+        return JOIN_LENGTH;
+    }
+    if kind == PROPOSE_KIND {
+        return PROPOSE_LENGTH;
+    }
+    HEAD_LENGTH
+}
+
+// The message at the front of bytes that have room for any: its own length, and not all of them.
+pub fn decode_front(s: &[u8]) -> Message
+    requires { ⌜ longest ≤ length (now s) ⌝ }
+    ensures { λ m. ⌜ m ≡ decoded (take (size (now (s .entry))) (now (s .entry))) ⌝ }
+{
+    let n = message_size(s);
+    decode(&s[..n])
 }
 
 // A message of the right length reads as itself, if its fields are in range.
@@ -113,71 +159,71 @@ fn ranged(m: Message) -> Read
     if message::in_range(m) {
         Read::Got(m)
     } else {
-        Read::Refused(Fault::Field)
+        Read::Refused(MESSAGE_FIELD)
     }
 }
 
 // Reads a JOIN: its presence word has to be there before it is looked at.
 fn read_join(s: &[u8]) -> Read
-    requires { ⌜ (4 ≤ length (now s)) × (kind (now s) ≡ 2) ⌝ }
-    ensures { λ r. ⌜ r ≡ read (now (s .entry)) ⌝ }
+    requires { ⌜ (kind-end ≤ length (now s)) × (kind-in (now s) ≡ JOIN-KIND) ⌝ }
+    ensures { λ r. ⌜ r ≡ reading (now (s .entry)) ⌝ }
 {
-    if s.len() < 16 {
-        return Read::Refused(Fault::Length);
+    if s.len() < JOIN_LENGTH {
+        return Read::Refused(MESSAGE_LENGTH);
     }
-    let presence = xdr::word_at(s, 12);
+    let presence = xdr::word_at(s, PRESENCE_AT);
     if presence == 0 {
-        if s.len() != 16 {
-            return Read::Refused(Fault::Length);
+        if s.len() != JOIN_LENGTH {
+            return Read::Refused(MESSAGE_LENGTH);
         }
         return ranged(as_join(s));
     }
     if presence == 1 {
-        if s.len() != 28 {
-            return Read::Refused(Fault::Length);
+        if s.len() != JOIN_VOTED_LENGTH {
+            return Read::Refused(MESSAGE_LENGTH);
         }
         return ranged(as_join_voted(s));
     }
-    Read::Refused(Fault::Field)
+    Read::Refused(MESSAGE_FIELD)
 }
 
 // Reads bytes that start with one of the four kinds.
 fn read_kind(s: &[u8]) -> Read
-    requires { ⌜ (4 ≤ length (now s)) × (1 ≤ kind (now s)) × (kind (now s) ≤ 4) ⌝ }
-    ensures { λ r. ⌜ r ≡ read (now (s .entry)) ⌝ }
+    requires { ⌜ (kind-end ≤ length (now s)) × (1 ≤ kind-in (now s)) × (kind-in (now s) ≤ VOTE-KIND) ⌝ }
+    ensures { λ r. ⌜ r ≡ reading (now (s .entry)) ⌝ }
 {
-    let kind = xdr::word_at(s, 0);
-    if kind == 2 {
+    let kind = xdr::word_at(s, KIND_AT);
+    if kind == JOIN_KIND {
         return read_join(s);
     }
-    if kind == 3 {
-        if s.len() != 20 {
-            return Read::Refused(Fault::Length);
+    if kind == PROPOSE_KIND {
+        if s.len() != PROPOSE_LENGTH {
+            return Read::Refused(MESSAGE_LENGTH);
         }
         return ranged(as_propose(s));
     }
-    if s.len() != 12 {
-        return Read::Refused(Fault::Length);
+    if s.len() != HEAD_LENGTH {
+        return Read::Refused(MESSAGE_LENGTH);
     }
-    if kind == 1 {
+    if kind == START_KIND {
         return ranged(as_start(s));
     }
     ranged(as_vote(s))
 }
 
-// Reads any bytes of any length: the message that they are, or the fault that comes first.
+// Reads any bytes of any length: the message that they are, or the number that comes first.
 pub fn read_message(s: &[u8]) -> Read
-    ensures { λ r. ⌜ Reads (now (s .entry)) r ⌝ }
+    ensures { λ r. ⌜ ReaderGives (now (s .entry)) r ⌝ }
 {
-    if s.len() < 4 {
-        return Read::Refused(Fault::Length);
+    if s.len() < KIND_END {
+        return Read::Refused(MESSAGE_LENGTH);
     }
-    let kind = xdr::word_at(s, 0);
+    let kind = xdr::word_at(s, KIND_AT);
     if kind == 0 {
-        return Read::Refused(Fault::Kind);
+        return Read::Refused(MESSAGE_KIND);
     }
-    if 4 < kind {
-        return Read::Refused(Fault::Kind);
+    if VOTE_KIND < kind {
+        return Read::Refused(MESSAGE_KIND);
     }
     read_kind(s)
 }

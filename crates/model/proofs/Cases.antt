@@ -10,7 +10,7 @@ use Rattle.xdr.specs.Items.{integer, encoded}
 use Rattle.message.specs.declared.Message.{Message}
 use Rattle.message.specs.declared.Message.the-variants.{Join}
 use Rattle.message.specs.declared.Read.the-variants.{Got}
-use Rattle.message.specs.Reading.{size, decoded, read, read-number}
+use Rattle.message.specs.Reading.{size, decoded, reading, read-number}
 
 pub data Case : Type 0 where
   -- calls from fresh in a table of so many rows: their answers, and the statuses left, in order of adding
@@ -57,14 +57,14 @@ spelt ws = encoded (map integer ws)
 abbrev Meets : Case → Type 0
 Meets (called rows calls given statuses) =
     (answers true rows fresh calls ≡ given) × (map (λ n. n .status) (after true rows fresh calls) ≡ statuses)
-Meets (refused ws number) = read-number (read (spelt ws)) ≡ number
-Meets (accepted ws message) = read (spelt ws) ≡ Got message
+Meets (refused ws number) = read-number (reading (spelt ws)) ≡ number
+Meets (accepted ws message) = reading (spelt ws) ≡ Got message
 
 abbrev pub Holds : List Case → Type 0
 Holds [] = Unit {0}
 Holds (c ∷ cs) = Meets c × Holds cs
 
 pub rig : Holds cases
-unfolding cases answers after step answer causes change find path-in struck new-node committed read size decoded encoded word word-at
+unfolding cases answers after step answer causes change find path-in struck new-node committed reading size decoded encoded word word-at
 rig =
     ((refl, refl), ((refl, refl), ((refl, refl), ((refl, refl), ((refl, refl), ((refl, refl), ((refl, refl), ((refl, refl), ((refl, refl), ((refl, refl), ((refl, refl), (refl, (refl, tt)))))))))))))

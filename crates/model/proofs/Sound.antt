@@ -9,7 +9,7 @@ use Rattle.laws.specs.Tests.{by-test}
 use Rattle.laws.specs.Lists.{_∈_}
 use Rattle.message.specs.declared.Message.{Message}
 use Rattle.message.specs.declared.Message.the-variants.{Start, Join, JoinVoted, Propose, Vote}
-use Rattle.message.specs.Layout.{Held}
+use Rattle.message.specs.Layout.{ValueFits}
 use Rattle.member_record.specs.Record.{allowed}
 use Rattle.model.specs.Model.{Sizes, Event, start, deliver, Office, first-office, answer, next, offers-at, offered}
 use Rattle.model.specs.Demand.{ended}
@@ -45,7 +45,7 @@ module _ (z : Sizes) (es : List Event) (ok : allowed (z .n) ≡ true) (small : S
   added-small : (r x : ℕ) → Added (ended z es .made) r x → x < 18446744073709551616
   added-small r x A = offered-small z (first-office (z .n)) es small x (invariant .made-so .offered-so r x (A .parent) (A .is-made))
 
-  backed-small : (g : Message) → Backed (ended z es .made) g → Held g
+  backed-small : (g : Message) → Backed (ended z es .made) g → ValueFits g
   backed-small (Start r s) b = tt
   backed-small (Join r s) b = tt
   backed-small (JoinVoted r s q w) b = added-small (q .0) w b

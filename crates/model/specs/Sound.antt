@@ -8,7 +8,7 @@ use Rattle.laws.specs.Lists.{_∈_}
 use Rattle.tree_theory.specs.Properties.{AllOk}
 use Rattle.message.specs.declared.Message.{Message}
 use Rattle.message.specs.Fields.{in-range}
-use Rattle.message.specs.Layout.{Held}
+use Rattle.message.specs.Layout.{ValueFits}
 use Rattle.member_record.specs.declared.MemberState.{MemberState}
 use Rattle.member_record.specs.Record.{sound}
 use Rattle.model.specs.Model.{Sizes, Event, start, deliver, Office, member-at}
@@ -33,7 +33,7 @@ pub record SoundOffice (z : Sizes) (o : Office) : Type 0 where
   pub each : (t : ℕ) → t < z .n → SoundMember (member-at z o t)
   -- each message sent is within the ranges of its kind and reads back as it was written, and the messages fit the store
   pub ranged : (g : Message) → g ∈ o .sent → in-range g ≡ true
-  pub readable : (g : Message) → g ∈ o .sent → Held g
+  pub readable : (g : Message) → g ∈ o .sent → ValueFits g
   pub fits : length (o .sent) ≤ z .store
   -- the calls of what was made all get OK: the table that they leave is a tree with a row for each proposal
   pub all-ok : AllOk true (z .table) (calls (o .made))

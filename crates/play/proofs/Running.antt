@@ -28,7 +28,7 @@ use Rattle.play_events.specs.declared.ListHead.{ListHead}
 use Rattle.play_events.specs.List.{HEAD-BYTES, members-of, count-of, head-of, body, list-fits, exact, events-in, events-of, event-at, event-size, behind, rest}
 use Rattle.play_events.specs.Value.{model-event, ReadsEvent}
 use Rattle.play_events.proofs.Events.{events-suc, behind-suc, length-events, due-stands, offers-small, bytes-left}
-use Rattle.play_store.specs.Rows.{store-rows, store-sized, stored}
+use Rattle.play_store.specs.Rows.{most-rows, store-rows, store-sized, stored}
 use Rattle.play_effects.specs.declared.AfterEvent.{AfterEvent}
 use Rattle.play_effects.specs.declared.Tally.{Tally}
 use Rattle.play_effects.specs.Memory.{Memory}
@@ -273,7 +273,7 @@ module _ {list : List ℕ} {L₀ : Lent} {count : ℕ} {L : Lent} {members : Lis
       let size : r .size ≡ event-size (drop at list) = R .size-is ∙ ap event-size es in
       rw (en, size) (after-event ei d W h (R .event-is ∙ ap event-at es) ls lw)
 
-  pub counts-small : (t .sent ≤ 2000) × (t .proposals < 256) × (t .decisions < 256)
+  pub counts-small : (t .sent ≤ most-rows) × (t .proposals < 256) × (t .decisions < 256)
   counts-small = (sent-few before, proposals-few before, decisions-few before)
 
   -- after the last event

@@ -90,7 +90,7 @@ pub fn play(list: &[u8], messages: &mut [u8], nodes: &mut [u64], answered: &mut 
     if answered.len() < head.count as usize {
         return refused_list(numbers::STORE_OR_ANSWERS);
     }
-    if tree::fresh(nodes).number() != numbers::OK {
+    if tree::fresh(nodes) != numbers::OK {
         return refused_list(numbers::TABLE_LENGTH);
     }
     play_store::clear(messages);

@@ -56,7 +56,7 @@ pub fn refused_event(m: MemberState, tally: Tally, number: u32) -> AfterEvent
 fn no_room_to_send(tally: Tally, messages: &[u8]) -> bool
     ensures { λ b. ⌜ b ≡ no-room-to-send tally (now (messages .entry)) ⌝ }
 {
-    numbers::no_row_left(messages.len() / play_store::ROW, tally.sent)
+    numbers::no_row_left(messages.len() / play_store::ROW_LENGTH, tally.sent)
 }
 
 // Whether the root and the proposals fill the table.

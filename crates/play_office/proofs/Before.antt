@@ -2,7 +2,7 @@
 use mathlib.Core.Path.{_≡_, refl, sym, ap, subst, _∙_}
 use mathlib.Core.Bool.{true, _&&_, _||_}
 use mathlib.Core.List.{List, [], _∷_}
-use Prim.Native.Nat.{ℕ, zero, suc, _%_, _≤_, _<_}
+use Prim.Native.Nat.{ℕ, zero, suc, _*_, _%_, _≤_, _<_}
 use native.Mathlib.Omega.{arith}
 use lib.ListN.{length, getD}
 use lib.Seq.{getD-take}
@@ -23,7 +23,7 @@ use Rattle.model.specs.Model.{member-at, member-number}
 use Rattle.model.specs.Demand.{calls}
 use Rattle.model.specs.Counts.{tree, committed-nodes}
 use Rattle.model.proofs.Tree.{nodes-counted, committed-counted}
-use Rattle.play_store.specs.Rows.{store-rows, store-sized}
+use Rattle.play_store.specs.Rows.{row-length, most-rows, store-rows, store-sized}
 use Rattle.play_effects.specs.declared.Tally.{Tally}
 use Rattle.play_effects.specs.Memory.{Memory}
 use Rattle.play_effects.specs.Effects.{CountsFit}
@@ -57,10 +57,11 @@ rows-most ws h =
     let lengths = and-right (eqb (length ws % 4) 0) (leb 4 (length ws) && leb (length ws) 1024) h in
     omega (arith, leb-true (length ws) 1024 (and-right (leb 4 (length ws)) (leb (length ws) 1024) lengths))
 
-store-rows-most : (s : List ℕ) → store-sized s ≡ true → store-rows s ≤ 2000
+store-rows-most : (s : List ℕ) → store-sized s ≡ true → store-rows s ≤ most-rows
 store-rows-most s h =
-    let lengths = and-right (eqb (length s % 28) 0) (leb 28 (length s) && leb (length s) 56000) h in
-    omega (arith, leb-true (length s) 56000 (and-right (leb 28 (length s)) (leb (length s) 56000) lengths))
+    let most = row-length * most-rows in
+    let lengths = and-right (eqb (length s % row-length) 0) (leb row-length (length s) && leb (length s) most) h in
+    omega (arith, leb-true (length s) most (and-right (leb row-length (length s)) (leb (length s) most) lengths))
 
 module _ {t : Tally} {M : Memory} (B : StepBefore t M) where
   rows-lent : 0 < B .z .table
@@ -87,7 +88,7 @@ module _ {t : Tally} {M : Memory} (B : StepBefore t M) where
   length-tree : length (tree (B .z) (B .o)) ≤ 256
   length-tree = omega (arith, grown .fit (sized-rows (M .table) (B .sizes .table-length)), rows-most (M .table) (B .sizes .table-length))
 
-  pub sent-few : t .sent ≤ 2000
+  pub sent-few : t .sent ≤ most-rows
   sent-few = omega (arith, B .represents .shared .sent-count, B .sound .fits, B .sizes .store-is, store-rows-most (M .store) (B .sizes .store-length))
 
   pub proposals-few : t .proposals < 256

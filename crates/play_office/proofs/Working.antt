@@ -1,7 +1,7 @@
 -- An event at a member of the office: its record is the model's, its message the one of that row, and its step the model's. Assumes nothing.
 use mathlib.Core.Path.{_≡_, refl, sym, ap, subst, _∙_}
 use mathlib.Core.Bool.{true, false}
-use Prim.Native.Nat.{ℕ, _+_, _*_, _≤_, _<_}
+use Prim.Native.Nat.{ℕ, _≤_, _<_}
 use native.Mathlib.Omega.{arith}
 use lib.ListN.{length, getD}
 use borrow.Author.Tests.{le-leb, lt-leb, lt-ltb}
@@ -17,7 +17,7 @@ use Rattle.member.specs.Table.{Outcome, sound-step}
 use Rattle.member.specs.Table.{Event as MemberEvent, start as starts, deliver as delivers}
 use Rattle.model.specs.Model.{Event, start, deliver, at-member, unsent, absent, event-of, message-at, member-at, event-causes, answer}
 use Rattle.model.proofs.Kept.{step-is-sound, message-in}
-use Rattle.play_store.specs.Rows.{fetched}
+use Rattle.play_store.specs.Rows.{HasRow, fetched}
 use Rattle.play_store.proofs.Stored.{fetch-stored}
 use Rattle.play_effects.specs.declared.Tally.{Tally}
 use Rattle.play_effects.specs.Memory.{Memory}
@@ -85,7 +85,7 @@ module _ {t : Tally} {m : MemberState} {row k : ℕ} {M : Memory} (E : EventBefo
       no-such E (rw (member, le-leb (length (E .before .o .sent)) row (omega (arith, R .shared .sent-count))) refl)
 
   module _ (h : row < t .sent) where
-    pub row-within : 28 * row + 28 ≤ length (M .store)
+    pub row-within : HasRow (M .store) row
     row-within = omega (arith, E .before .represents .shared .sent-count, E .before .sound .fits, E .before .sizes .store-is)
 
     was-sent : row < length (E .before .o .sent)

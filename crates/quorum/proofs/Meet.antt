@@ -20,5 +20,6 @@ unfolding quorum
 of-odd n f e = omega arith
 
 -- two quorums of f+1 of 2f+1 meet
-pub majorities {ℓ} : {C : Type ℓ} (n f : ℕ) {P Q : ℕ → Type 0} → n ≡ 2 * f + 1 → Quorum n (quorum n) P → Quorum n (quorum n) Q → ((s : ℕ) → s < n → P s → Q s → C) → C
+pub majorities {ℓ} : {C : Type ℓ} (n f : ℕ) {P Q : ℕ → Type 0} → n ≡ 2 * f + 1 → Quorum n (quorum n) P → Quorum n (quorum n) Q →
+    ((s : ℕ) → s < n → P s → Q s → C) → C
 majorities n f e a b g = both (omega (arith, of-odd n f e)) a b g

@@ -1,3 +1,3 @@
--- Laws for the tree's calls.
-pub mod Stepping
+-- Laws for what the tree's calls promise.
+pub mod Calling
 pub mod PathCalls

@@ -8,7 +8,7 @@ use Rattle.tree_theory.specs.Machine.{Call, answer, step}
 use Rattle.tree_theory.specs.Table.{rows, nodes, table, Tree, call-number, call-table, path-number, path-count, path-slice}
 
 -- add or commit of any table: 01's number, and the table left
-pub record Called (valued : Bool) (ws : List ℕ) (c : Call) (number : ℕ) (ws′ : List ℕ) : Type 0 where
+pub record CalledOnTable (valued : Bool) (ws : List ℕ) (c : Call) (number : ℕ) (ws′ : List ℕ) : Type 0 where
   pub number-is : number ≡ call-number valued ws c
   pub table-is : ws′ ≡ call-table valued ws c
 
@@ -17,7 +17,7 @@ abbrev pub stepped-table : Bool → List ℕ → Call → List ℕ
 stepped-table valued ws c = table (length ws) (step valued (rows ws) (nodes ws) c)
 
 -- add or commit of a tree: the machine's number and the machine's table; it is a tree again
-pub record Stepped (valued : Bool) (ws : List ℕ) (c : Call) (number : ℕ) (ws′ : List ℕ) : Type 0 where
+pub record CalledOnTree (valued : Bool) (ws : List ℕ) (c : Call) (number : ℕ) (ws′ : List ℕ) : Type 0 where
   pub number-is : number ≡ answer valued (rows ws) (nodes ws) c
   pub table-is : ws′ ≡ stepped-table valued ws c
   pub tree : Tree valued ws′

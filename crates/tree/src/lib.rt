@@ -1,116 +1,139 @@
-// The quorum tree in lent memory (01, "The tree"): fresh, add, commit and path over a slice of 64-bit words, four a row.
+// The quorum tree in lent memory (01, "The tree"): fresh, add, commit and path over a slice of 64-bit words, four a row. `valued` says
+// whether a tree's values are compared; the public calls only say which kind of tree they are for.
 use ids::Round;
-use tree_steps::answers::AddAnswer;
-use tree_steps::answers::CommitAnswer;
-use tree_steps::answers::FreshAnswer;
-use tree_steps::answers::PathAnswer;
+use tree_steps::call::TreeCall;
 ghost use mathlib.Core.Path.{_≡_};
 ghost use mathlib.Core.Bool.{true};
 ghost use Rattle.tree_theory.specs.Machine.{add, commit};
 ghost use Rattle.tree_theory.specs.Table.{sized, Tree, fresh-number, fresh-table};
-ghost use Rattle.tree_steps.specs.Answers.{number-of-fresh, number-of-add, number-of-commit, number-of-path, count-of-path};
-ghost use Rattle.tree.specs.Promises.{Called, Stepped, PathGiven};
+ghost use Rattle.tree_steps.specs.Planned.{call-of};
+ghost use Rattle.tree.specs.Promises.{CalledOnTable, CalledOnTree, PathGiven};
+
+// How many rounds were written; 0 with a refusal.
+pub struct PathAnswer {
+    pub number: u32,
+    pub count: usize,
+}
 
 // Makes the table fresh: the root 0, 0, 0, 3 and zeros all else. It checks the length only.
-pub fn fresh(t: &mut [u64]) -> FreshAnswer
-    ensures number { λ a. ⌜ number-of-fresh a ≡ fresh-number (now (t .entry)) ⌝ }
+pub fn fresh(t: &mut [u64]) -> u32
+    ensures number { λ n. ⌜ n ≡ fresh-number (now (t .entry)) ⌝ }
     ensures left { λ _. ⌜ now (t .exit) ≡ fresh-table (now (t .entry)) ⌝ }
 {
     if !tree_check::has_table_length(t) {
-        return FreshAnswer::WrongLength;
+        return numbers::TABLE_LENGTH;
     }
     tree_steps::fresh::write_fresh(t);
-    FreshAnswer::Made
+    numbers::OK
 }
 
-// One add on a tree.
-fn add_step(valued: bool, t: &mut [u64], r: Round, v: u64, p: Round) -> AddAnswer
+// add or commit on a tree.
+fn call_on_tree(valued: bool, t: &mut [u64], call: TreeCall) -> u32
     requires { ⌜ (sized (now t) ≡ true) × Tree valued (now t) ⌝ }
-    ensures { λ a. ⌜ Stepped valued (now (t .entry)) (add (r .0) v (p .0)) (number-of-add a) (now (t .exit)) ⌝ }
+    ensures { λ n. ⌜ CalledOnTree valued (now (t .entry)) (call-of call) n (now (t .exit)) ⌝ }
 {
-    let n = tree_table::used_rows(t);
-    let a = tree_steps::add::add_answer(valued, t, n, r, v, p);
-    if a.number() == 0 {
-        tree_steps::add::insert(t, n, r.0 as u64, v, p.0 as u64);
+    let plan = tree_steps::call::plan_call(valued, t, call);
+    if plan.number == numbers::OK {
+        tree_steps::call::write_call(t, call, plan.row, plan.status);
     }
-    a
+    plan.number
 }
 
-// add on a table that is a tree already: the same step without the check of the table.
-pub fn add_in_tree(t: &mut [u64], r: Round, v: u64, p: Round) -> AddAnswer
-    requires { ⌜ (sized (now t) ≡ true) × Tree true (now t) ⌝ }
-    ensures { λ a. ⌜ Stepped true (now (t .entry)) (add (r .0) v (p .0)) (number-of-add a) (now (t .exit)) ⌝ }
+// add or commit on any table.
+fn call_on_table(valued: bool, t: &mut [u64], call: TreeCall) -> u32
+    ensures { λ n. ⌜ CalledOnTable valued (now (t .entry)) (call-of call) n (now (t .exit)) ⌝ }
 {
-    add_step(true, t, r, v, p)
+    let number = tree_check::table_number(valued, t);
+    if number != numbers::OK {
+        return number;
+    }
+    call_on_tree(valued, t, call)
 }
 
 // add(r, v, p).
-pub fn add(t: &mut [u64], r: Round, v: u64, p: Round) -> AddAnswer
-    ensures { λ a. ⌜ Called true (now (t .entry)) (add (r .0) v (p .0)) (number-of-add a) (now (t .exit)) ⌝ }
+pub fn add(t: &mut [u64], r: Round, v: u64, p: Round) -> u32
+    ensures { λ n. ⌜ CalledOnTable true (now (t .entry)) (add (r .0) v (p .0)) n (now (t .exit)) ⌝ }
 {
-    if !tree_check::has_table_length(t) {
-        return AddAnswer::WrongLength;
-    }
-    if !tree_check::is_tree(true, t) {
-        return AddAnswer::NotTree;
-    }
-    add_step(true, t, r, v, p)
+    call_on_table(
+        true,
+        t,
+        TreeCall::Add {
+            round: r,
+            value: v,
+            parent: p,
+        },
+    )
 }
 
-// One commit on a tree.
-fn commit_step(valued: bool, t: &mut [u64], r: Round) -> CommitAnswer
-    requires { ⌜ (sized (now t) ≡ true) × Tree valued (now t) ⌝ }
-    ensures { λ a. ⌜ Stepped valued (now (t .entry)) (commit (r .0)) (number-of-commit a) (now (t .exit)) ⌝ }
-{
-    let n = tree_table::used_rows(t);
-    let a = tree_steps::commit::commit_answer(t, n, r);
-    if a.number() == 0 {
-        tree_steps::commit::commit_row(t, n, r.0 as u64);
-    }
-    a
-}
-
-// commit on a table that is a tree already: the same step without the check of the table.
-pub fn commit_in_tree(t: &mut [u64], r: Round) -> CommitAnswer
+// add on a table that is a tree already: the same step without the check of the table.
+pub fn add_in_tree(t: &mut [u64], r: Round, v: u64, p: Round) -> u32
     requires { ⌜ (sized (now t) ≡ true) × Tree true (now t) ⌝ }
-    ensures { λ a. ⌜ Stepped true (now (t .entry)) (commit (r .0)) (number-of-commit a) (now (t .exit)) ⌝ }
+    ensures { λ n. ⌜ CalledOnTree true (now (t .entry)) (add (r .0) v (p .0)) n (now (t .exit)) ⌝ }
 {
-    commit_step(true, t, r)
+    call_on_tree(
+        true,
+        t,
+        TreeCall::Add {
+            round: r,
+            value: v,
+            parent: p,
+        },
+    )
 }
 
 // commit(r).
-pub fn commit(t: &mut [u64], r: Round) -> CommitAnswer
-    ensures { λ a. ⌜ Called true (now (t .entry)) (commit (r .0)) (number-of-commit a) (now (t .exit)) ⌝ }
+pub fn commit(t: &mut [u64], r: Round) -> u32
+    ensures { λ n. ⌜ CalledOnTable true (now (t .entry)) (commit (r .0)) n (now (t .exit)) ⌝ }
 {
-    if !tree_check::has_table_length(t) {
-        return CommitAnswer::WrongLength;
+    call_on_table(true, t, TreeCall::Commit { round: r })
+}
+
+// commit on a table that is a tree already: the same step without the check of the table.
+pub fn commit_in_tree(t: &mut [u64], r: Round) -> u32
+    requires { ⌜ (sized (now t) ≡ true) × Tree true (now t) ⌝ }
+    ensures { λ n. ⌜ CalledOnTree true (now (t .entry)) (commit (r .0)) n (now (t .exit)) ⌝ }
+{
+    call_on_tree(true, t, TreeCall::Commit { round: r })
+}
+
+// path on any table.
+fn path_on_table(valued: bool, t: &[u64], r: Round, out: &mut [u64]) -> PathAnswer
+    ensures { λ a. ⌜ PathGiven valued (now (t .entry)) (r .0) (now (out .entry)) (a .number) (a .count) (now (out .exit)) ⌝ }
+{
+    let number = tree_check::table_number(valued, t);
+    if number != numbers::OK {
+        return PathAnswer { number, count: 0 };
     }
-    if !tree_check::is_tree(true, t) {
-        return CommitAnswer::NotTree;
+    let round = r.0 as u64;
+    if ids::above_range(round) {
+        return PathAnswer {
+            number: numbers::ROUND_RANGE,
+            count: 0,
+        };
     }
-    commit_step(true, t, r)
+    let n = tree_table::used_rows(t);
+    if n <= tree_table::find_row(t, n, round) {
+        return PathAnswer {
+            number: numbers::ROUND_ABSENT,
+            count: 0,
+        };
+    }
+    let count = tree_steps::path::path_into(t, n, round, out, 0);
+    if count == 0 {
+        return PathAnswer {
+            number: numbers::SLICE_SHORT,
+            count: 0,
+        };
+    }
+    PathAnswer {
+        number: numbers::OK,
+        count,
+    }
 }
 
 // path(r): the rounds from the root to r, written from the first word.
 pub fn path(t: &[u64], r: Round, out: &mut [u64]) -> PathAnswer
-    ensures { λ a. ⌜ PathGiven true (now (t .entry)) (r .0) (now (out .entry)) (number-of-path a) (count-of-path a) (now (out .exit)) ⌝ }
+    ensures { λ a. ⌜ PathGiven true (now (t .entry)) (r .0) (now (out .entry)) (a .number) (a .count) (now (out .exit)) ⌝ }
 {
-    if !tree_check::has_table_length(t) {
-        return PathAnswer::WrongLength;
-    }
-    if !tree_check::is_tree(true, t) {
-        return PathAnswer::NotTree;
-    }
-    if ids::LAST_ROUND < r.0 {
-        return PathAnswer::OutOfRange;
-    }
-    let n = tree_table::used_rows(t);
-    if n <= tree_table::find_row(t, n, r.0 as u64) {
-        return PathAnswer::Absent;
-    }
-    let k = tree_steps::path::path_into(t, n, r.0 as u64, out, 0);
-    if k == 0 {
-        return PathAnswer::SliceTooShort;
-    }
-    PathAnswer::Written(k)
+    path_on_table(true, t, r, out)
 }

@@ -42,25 +42,22 @@ fn nodes(t: &[u64]) {
 }
 
 fn fresh(t: &mut [u64]) {
-    let a = tree::fresh(t);
-    number(a.number() as u64);
+    number(tree::fresh(t) as u64);
 }
 
 fn add(t: &mut [u64], r: u32, v: u32, p: u32) {
-    let a = tree::add(t, Round(r), v as u64, Round(p));
-    number(a.number() as u64);
+    number(tree::add(t, Round(r), v as u64, Round(p)) as u64);
 }
 
 fn commit(t: &mut [u64], r: u32) {
-    let a = tree::commit(t, Round(r));
-    number(a.number() as u64);
+    number(tree::commit(t, Round(r)) as u64);
 }
 
 // Writes the number of a path's answer, how many rounds it has, and the slice lent for it.
 fn path(t: &[u64], r: u32, out: &mut [u64]) {
     let a = tree::path(t, Round(r), out);
-    number(a.number() as u64);
-    number(a.count() as u64);
+    number(a.number as u64);
+    number(a.count as u64);
     numbers(out);
 }
 

@@ -2,7 +2,7 @@
 use mathlib.Core.Path.{_≡_, refl, sym, _∙_}
 use mathlib.Core.Bool.{Bool, true, false, not, and-false}
 use mathlib.Core.List.{List}
-use Prim.Native.Nat.{ℕ, zero, suc, _+_, _<_}
+use Prim.Native.Nat.{ℕ, zero, suc, _+_, _<_, _≤_}
 use native.Mathlib.Omega.{arith}
 use native.Mathlib.Numerals.{add-one}
 use lib.Dec.{ltb}
@@ -19,20 +19,34 @@ unfit valued ws n i (suc m) h e =
     (λ y. rw (unfit valued ws n i m (ltb-true i m y) e) refl)
     (λ y. let q : m ≡ i = omega tests in rw (q, e) (and-false (fits-to valued ws n i)))
 
+-- The check has come to row i of n, and all rows passed fit.
+pub record Fitted (valued : Bool) (ws : List ℕ) (n i : ℕ) : Type 0 where
+  pub begun : 0 < i
+  pub within : i ≤ n
+  pub all : fits-to valued ws n i ≡ true
+
 -- b is what the code's test of a row answered
-module _ (valued : Bool) (ws : List ℕ) (n : ℕ) {b : Bool} where
-  pub fits-root : b ≡ is-root (row ws 0) → not b ≡ false → fits-to valued ws n 1 ≡ true
+pub fits-root : {valued : Bool} {ws : List ℕ} {n : ℕ} {b : Bool} → 0 < n → b ≡ is-root (row ws 0) → not b ≡ false → Fitted valued ws n 1
+unfolding fits-to
+fits-root {b = b} h a t = record { begun = omega arith; within = omega arith; all = rw (← a, not-false b t) refl }
+
+pub unfit-root : (valued : Bool) (ws : List ℕ) (n : ℕ) {b : Bool} → 0 < n → b ≡ is-root (row ws 0) → not b ≡ true → fits-to valued ws n n ≡ false
+unfolding row-fits
+unfit-root valued ws n {b = b} h a t = unfit valued ws n 0 n h (sym a ∙ not-true b t)
+
+module _ {valued : Bool} {ws : List ℕ} {n i : ℕ} (F : Fitted valued ws n i) {b : Bool} where
+  pub fits-more : i < n → b ≡ fits valued (rows-of ws i) (rows-of ws n) (row ws i) → not b ≡ false → Fitted valued ws n (i + 1)
   unfolding fits-to
-  fits-root a t = rw (← a, not-false b t) refl
+  fits-more h a t =
+      record {
+        begun = omega arith;
+        within = omega arith;
+        all = rw (add-one, F .all, ne-eqb i 0 (λ e. omega (arith, F .begun)), ← a, not-false b t) refl;
+      }
 
-  pub fits-more : (i : ℕ) → 0 < i → fits-to valued ws n i ≡ true → b ≡ fits valued (rows-of ws i) (rows-of ws n) (row ws i) → not b ≡ false → fits-to valued ws n (i + 1) ≡ true
-  unfolding fits-to
-  fits-more i h f a t = rw (add-one, f, ne-eqb i 0 (λ e. omega arith), ← a, not-false b t) refl
-
-  pub unfit-root : (m : ℕ) → 0 < m → b ≡ is-root (row ws 0) → not b ≡ true → fits-to valued ws n m ≡ false
+  pub unfit-row : i < n → b ≡ fits valued (rows-of ws i) (rows-of ws n) (row ws i) → not b ≡ true → fits-to valued ws n n ≡ false
   unfolding row-fits
-  unfit-root m h a t = unfit valued ws n 0 m h (sym a ∙ not-true b t)
+  unfit-row h a t = unfit valued ws n i n h (rw (ne-eqb i 0 (λ q. omega (arith, F .begun))) (sym a ∙ not-true b t))
 
-  pub unfit-row : (i m : ℕ) → 0 < i → i < m → b ≡ fits valued (rows-of ws i) (rows-of ws n) (row ws i) → not b ≡ true → fits-to valued ws n m ≡ false
-  unfolding row-fits
-  unfit-row i m h k a t = unfit valued ws n i m k (rw (ne-eqb i 0 (λ q. omega arith)) (sym a ∙ not-true b t))
+pub fits-all : {valued : Bool} {ws : List ℕ} {n i : ℕ} → Fitted valued ws n i → n ≤ i → fits-to valued ws n n ≡ true
+fits-all {n = n} {i = i} F h = let e : i ≡ n = omega (arith, F .within) in rw e at (F .all)

@@ -6,7 +6,8 @@ ghost use mathlib.Core.Path.{_≡_};
 ghost use mathlib.Core.Bool.{true};
 ghost use Prim.Native.Nat.{_*_, _≤_, _<_};
 ghost use lib.ListN.{length};
-ghost use Rattle.tree_theory.specs.Table.{row, sized, is-tree};
+ghost use Rattle.laws.specs.First.{first};
+ghost use Rattle.tree_theory.specs.Table.{row, sized, is-tree, table-causes};
 ghost use Rattle.tree_theory.specs.Check.{is-root, fits-to, zeros-to};
 
 // A multiple of 4 from 4 to 1,024.
@@ -74,7 +75,7 @@ fn zeros_from(t: &[u64], from: usize) -> bool
 }
 
 // Whether some list of calls from fresh leaves the table.
-pub fn is_tree(valued: bool, t: &[u64]) -> bool
+fn is_tree(valued: bool, t: &[u64]) -> bool
     requires { ⌜ sized (now t) ≡ true ⌝ }
     ensures { λ b. ⌜ b ≡ is-tree valued (now (t .entry)) ⌝ }
 {
@@ -86,4 +87,17 @@ pub fn is_tree(valued: bool, t: &[u64]) -> bool
         return false;
     }
     zeros_from(t, 4 * n)
+}
+
+// The row "table" of the place table: 1, 2, or OK of a tree.
+pub fn table_number(valued: bool, t: &[u64]) -> u32
+    ensures { λ n. ⌜ n ≡ first (table-causes valued (now (t .entry))) ⌝ }
+{
+    if !has_table_length(t) {
+        return numbers::TABLE_LENGTH;
+    }
+    if !is_tree(valued, t) {
+        return numbers::NOT_A_TREE;
+    }
+    numbers::OK
 }

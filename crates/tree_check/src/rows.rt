@@ -11,10 +11,7 @@ fn round_fits(t: &[u64], i: usize) -> bool
     ensures { λ b. ⌜ b ≡ round-fits (rows-of (now (t .entry)) i) (row (now (t .entry)) i) ⌝ }
 {
     let r = tree_table::round_at(t, i);
-    if r == 0 {
-        return false;
-    }
-    if (ids::LAST_ROUND as u64) < r {
+    if !ids::number_in_range(r) {
         return false;
     }
     i <= tree_table::find_row(t, i, r)
@@ -51,7 +48,12 @@ pub fn row_fits(valued: bool, t: &[u64], n: usize, i: usize) -> bool
     if tree_table::round_at(t, i) <= p {
         return false;
     }
-    if tree_table::other_value(valued, t, k, tree_table::value_at(t, i), p) {
+    if tree_table::other_value(
+        valued,
+        tree_table::value_at(t, i),
+        p,
+        tree_table::value_at(t, k),
+    ) {
         return false;
     }
     status_fits(t, n, i)

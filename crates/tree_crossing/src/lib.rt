@@ -4,11 +4,9 @@ ghost use mathlib.Core.Bool.{cond};
 ghost use mathlib.Core.List.{_++_, map};
 ghost use Prim.Native.Nat.{_+_, _*_, _≤_};
 ghost use lib.ListN.{length, set, drop};
-ghost use Rattle.laws.specs.Lists.{any};
-ghost use Rattle.tree_theory.specs.Machine.{crosses, blocks};
+ghost use Rattle.tree_theory.specs.Machine.{ADDED, GHOST, crosses, crossed-with, strike-crossed};
 ghost use Rattle.tree_theory.specs.Table.{row, rows-of, words};
 ghost use Rattle.tree_theory.specs.Check.{crossed};
-ghost use Rattle.tree_crossing.specs.Crossed.{crossed-with, strike-crossed};
 
 // Whether the edge (r, p) crosses c.
 fn crosses(r: u64, p: u64, c: u64) -> bool
@@ -21,27 +19,12 @@ fn crosses(r: u64, p: u64, c: u64) -> bool
 }
 
 // Whether row i has status s and the edge (r, p) crosses it.
-fn crossed_at(t: &[u64], i: usize, s: u64, r: u64, p: u64) -> bool
+pub fn crossed_at(t: &[u64], i: usize, s: u64, r: u64, p: u64) -> bool
     requires { ⌜ 4 * i + 4 ≤ length (now t) ⌝ }
     ensures { λ b. ⌜ b ≡ crossed-with s r p (row (now (t .entry)) i) ⌝ }
 {
     if tree_table::status_at(t, i) == s {
         return crosses(r, p, tree_table::round_at(t, i));
-    }
-    false
-}
-
-// Whether one of the first n rows is COMMITTED and the edge (r, p) crosses it.
-pub fn any_blocks(t: &[u64], n: usize, r: u64, p: u64) -> bool
-    requires { ⌜ 4 * n ≤ length (now t) ⌝ }
-    ensures { λ b. ⌜ b ≡ any (blocks r p) (rows-of (now (t .entry)) n) ⌝ }
-{
-    let mut i = 0;
-    while i < n {
-        if crossed_at(t, i, tree_table::COMMITTED, r, p) {
-            return true;
-        }
-        i += 1;
     }
     false
 }
@@ -64,7 +47,7 @@ pub fn any_edge_crosses(t: &[u64], n: usize, c: u64) -> bool
 // Makes row i GHOST if it is ADDED and the edge (r, p) crosses it.
 fn strike_row(t: &mut [u64], i: usize, r: u64, p: u64)
     requires { ⌜ 4 * i + 4 ≤ length (now t) ⌝ }
-    ensures { λ _. ⌜ now (t .exit) ≡ cond (crossed-with 1 r p (row (now (t .entry)) i)) (set (now (t .entry)) (4 * i + 3) 2) (now (t .entry)) ⌝ }
+    ensures { λ _. ⌜ now (t .exit) ≡ cond (crossed-with ADDED r p (row (now (t .entry)) i)) (set (now (t .entry)) (4 * i + 3) GHOST) (now (t .entry)) ⌝ }
 {
     if crossed_at(t, i, tree_table::ADDED, r, p) {
         tree_table::set_status(t, i, tree_table::GHOST);

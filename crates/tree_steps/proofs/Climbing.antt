@@ -1,5 +1,5 @@
 -- The recursion to the parent that writes a path: what it hands on, and what it makes of the parent's path. Assumes nothing.
-use mathlib.Core.Path.{_≡_, refl, sym, ap, subst, _∙_}
+use mathlib.Core.Path.{_≡_, refl, sym, ap, _∙_}
 use mathlib.Core.Bool.{Bool, true, false}
 use mathlib.Core.List.{List, [], _∷_, _++_, append-assoc}
 use Prim.Native.Nat.{ℕ, zero, suc, _+_, _≤_, _<_}
@@ -7,14 +7,15 @@ use native.Mathlib.Omega.{arith}
 use lib.ListN.{length, getD, set, drop, length-append}
 use lib.Seq.{drop-cons, set-at}
 use lib.Dec.{leb}
-use borrow.Author.Tests.{leb-true, leb-false}
-use Rattle.laws.specs.Tests.{by-test, clash, tests}
+use borrow.Author.Tests.{ltb-true, leb-true, leb-false}
+use Rattle.laws.specs.Tests.{by-test, tests}
 use Rattle.tree_theory.specs.Machine.{find, present, path}
-use Rattle.tree_theory.specs.Table.{rows, row, used, nodes}
+use Rattle.tree_theory.specs.Table.{rows, row, rows-of, used, nodes}
 use Rattle.tree_theory.proofs.Grown.{Grown}
 use Rattle.tree_theory.proofs.Paths.{path-in-root, next-lower, next-there, path-next}
 use Rattle.tree_theory.proofs.Trees.{tree-held}
-use Rattle.tree_table.specs.Rows.{Found}
+use Rattle.tree_table.specs.Rows.{row-index}
+use Rattle.tree_table.proofs.Rows.{index-there, found-at}
 use Rattle.tree_steps.specs.Climbed.{PathOf, PathWritten}
 
 -- the root's path, where there is room and where there is none
@@ -44,12 +45,11 @@ module _ {ws : List ℕ} {n r behind : ℕ} (P : PathOf ws n r behind) (pos : 0 
   grown = tree-held (P .valued) ws (P .length-is) (P .tree) .grown
 
   -- the row of r
-  pub row-found : {k : ℕ} → Found ws n r k → (k < used ws) × (find r (nodes ws) ≡ row ws k)
-  row-found {k = k} F =
-      let F′ : Found ws (used ws) r k = subst (λ m. Found ws m r k) (P .rows-are) F in
-      by-test (leb (used ws) k)
-      (λ y. clash (P .there) (F′ .none (leb-true (used ws) k y)))
-      (λ y. (leb-false (used ws) k y, F′ .at (leb-false (used ws) k y)))
+  pub row-found : {k : ℕ} → k ≡ row-index r (rows-of ws n) → (k < used ws) × (find r (nodes ws) ≡ row ws k)
+  row-found {k = k} e =
+      let e′ : k ≡ row-index r (nodes ws) = e ∙ ap (λ m. row-index r (rows-of ws m)) (P .rows-are) in
+      let a : k < used ws = ltb-true k (used ws) (index-there ws (used ws) r e′ ∙ P .there) in
+      (a, found-at ws (used ws) r e′ a)
 
   longer : length (path (nodes ws) r) ≡ length (path (nodes ws) (find r (nodes ws) .parent)) + 1
   longer =
@@ -73,7 +73,7 @@ module _ {ws : List ℕ} {n r behind : ℕ} (P : PathOf ws n r behind) (pos : 0 
   module _ {p : ℕ} (e : p ≡ find r (nodes ws) .parent) {out : List ℕ} {k : ℕ} {out′ : List ℕ} (W : PathWritten ws p (behind + 1) out k out′) where
     -- the parent's path found room for itself and r, or it didn't
     fate : {C : Type 0} →
-        ((length (path (nodes ws) p) + (behind + 1) ≤ length out) → k ≡ length (path (nodes ws) p) → out′ ≡ path (nodes ws) p ++ drop (length (path (nodes ws) p)) out → C) →
+        (let l = length (path (nodes ws) p) in (l + (behind + 1) ≤ length out) → k ≡ l → out′ ≡ path (nodes ws) p ++ drop l out → C) →
         ((length out < length (path (nodes ws) p) + (behind + 1)) → k ≡ 0 → out′ ≡ out → C) → C
     fate f g =
         by-test (leb (length (path (nodes ws) p) + (behind + 1)) (length out))
@@ -100,13 +100,15 @@ module _ {ws : List ℕ} {n r behind : ℕ} (P : PathOf ws n r behind) (pos : 0 
         (λ room a b.
         let l = length (path (nodes ws) p) in
         let t : leb (length (path (nodes ws) r) + behind) (length out) ≡ true = omega (tests, length-r) in
-        let whole : path (nodes ws) r ≡ path (nodes ws) p ++ r ∷ [] = path-next (P .valued) (rows ws) (nodes ws) grown r (P .there) pos ∙ ap (λ x. path (nodes ws) x ++ r ∷ []) (sym e) in
+        let whole : path (nodes ws) r ≡ path (nodes ws) p ++ r ∷ [] =
+        path-next (P .valued) (rows ws) (nodes ws) grown r (P .there) pos ∙ ap (λ x. path (nodes ws) x ++ r ∷ []) (sym e) in
         let s : l + 1 ≡ suc l = omega arith in
         let d : drop l out ≡ getD out l 0 ∷ drop (suc l) out = drop-cons out l 0 (omega arith) in
         let put : set out′ k r ≡ path (nodes ws) p ++ r ∷ drop (suc l) out =
         ap (λ x. set x k r) (b ∙ ap (λ x. path (nodes ws) p ++ x) d) ∙ set-at (path (nodes ws) p) (getD out l 0) (drop (suc l) out) r k (sym a) in
         record {
           count-is = rw t (ap (λ x. x + 1) a ∙ sym length-r);
-          slice-is = rw t (put ∙ sym (ap (λ x. x ++ drop (length (path (nodes ws) r)) out) whole ∙ ap (λ x. path (nodes ws) p ++ r ∷ [] ++ drop x out) (length-r ∙ s) ∙ append-assoc (path (nodes ws) p) (r ∷ []) (drop (suc l) out)));
+          slice-is = rw t (put ∙ sym (ap (λ x. x ++ drop (length (path (nodes ws) r)) out) whole ∙
+              ap (λ x. path (nodes ws) p ++ r ∷ [] ++ drop x out) (length-r ∙ s) ∙ append-assoc (path (nodes ws) p) (r ∷ []) (drop (suc l) out)));
         })
         (λ none a b. absurd (z a))

@@ -1,3 +1,5 @@
--- Laws for what an add writes.
+-- Laws for what the tree's calls ask, decide and write.
+pub mod Looking
+pub mod Planning
 pub mod Inserting
 pub mod Climbing

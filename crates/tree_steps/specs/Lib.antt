@@ -1,4 +1,4 @@
--- The answers of the tree's calls as 01's numbers.
-pub mod Answers
-pub mod Committed
+-- What the tree's calls ask of a table, decide and write.
+pub mod Looked
+pub mod Planned
 pub mod Climbed

@@ -1,66 +1,62 @@
-// What `tree::add` answers on a tree, and what it writes (01, "The tree"; the rows round, add and last of the place table).
+// What an add decides on a tree (01, "The tree"; the rows round, add and last of the place table).
+use crate::call::Plan;
+use crate::look::Look;
 use ids::Round;
-use crate::answers::AddAnswer;
 ghost use mathlib.Core.Path.{_≡_};
-ghost use mathlib.Core.Bool.{cond};
-ghost use mathlib.Core.List.{_∷_, [], _++_, map};
-ghost use Prim.Native.Nat.{_+_, _*_, _≤_};
-ghost use lib.ListN.{length, drop};
-ghost use Rattle.laws.specs.Lists.{any};
-ghost use Rattle.tree_theory.specs.Machine.{add, answer, above, new-node};
-ghost use Rattle.tree_theory.specs.Table.{rows, rows-of, words};
-ghost use Rattle.tree_crossing.specs.Crossed.{strike-crossed};
-ghost use Rattle.tree_steps.specs.Answers.{number-of-add};
+ghost use mathlib.Core.Bool.{true, cond};
+ghost use Rattle.tree_theory.specs.Machine.{GHOST, ADDED, add, answer};
+ghost use Rattle.tree_theory.specs.Table.{sized, rows, nodes, Tree};
+ghost use Rattle.tree_steps.specs.Looked.{look-of};
+ghost use Rattle.tree_steps.specs.Planned.{Planned};
 
-// Why add(r, v, p) is refused among the first n rows, or Added. It writes nothing.
-pub fn add_answer(valued: bool, t: &[u64], n: usize, r: Round, v: u64, p: Round) -> AddAnswer
-    requires { ⌜ 4 * n ≤ length (now t) ⌝ }
-    ensures { λ a. ⌜ number-of-add a ≡ answer valued (rows (now (t .entry))) (rows-of (now (t .entry)) n) (add (r .0) v (p .0)) ⌝ }
+// Why add(r, v, p) is refused, or OK, by what the rows said.
+fn add_number(valued: bool, t: &[u64], l: Look, r: Round, v: u64, p: Round) -> u32
+    requires { ⌜ l ≡ look-of (r .0) (p .0) (nodes (now t)) ⌝ }
+    ensures { λ n. ⌜ n ≡ answer valued (rows (now (t .entry))) (nodes (now (t .entry))) (add (r .0) v (p .0)) ⌝ }
 {
     if !ids::in_range(r) {
-        return AddAnswer::OutOfRange;
+        return numbers::ROUND_RANGE;
     }
-    let round = r.0 as u64;
-    let parent = p.0 as u64;
-    if tree_table::find_row(t, n, round) < n {
-        return AddAnswer::Present;
+    if l.row < l.used {
+        return numbers::ROUND_PRESENT;
     }
-    let parent_row = tree_table::find_row(t, n, parent);
-    if n <= parent_row {
-        return AddAnswer::ParentAbsent;
+    if l.used <= l.parent {
+        return numbers::PARENT_ABSENT;
     }
-    if round <= parent {
-        return AddAnswer::ParentNotBelow;
+    if r.0 <= p.0 {
+        return numbers::PARENT_NOT_BELOW;
     }
-    if tree_table::other_value(valued, t, parent_row, v, parent) {
-        return AddAnswer::OtherValue;
+    if tree_table::other_value(valued, v, p.0 as u64, tree_table::value_at(t, l.parent)) {
+        return numbers::PARENT_VALUE;
     }
-    if tree_crossing::any_blocks(t, n, round, parent) {
-        return AddAnswer::CrossesCommitted;
+    if l.blocked {
+        return numbers::CROSSES_COMMITTED;
     }
-    if t.len() / 4 <= n {
-        return AddAnswer::NoFreeRow;
+    if numbers::no_row_left(t.len() / 4, l.used) {
+        return numbers::TABLE_FULL;
     }
-    AddAnswer::Added
+    numbers::OK
 }
 
-// The status of a new node of round r: GHOST if any round above it is present, else ADDED.
-fn new_status(t: &[u64], n: usize, r: u64) -> u64
-    requires { ⌜ 4 * n ≤ length (now t) ⌝ }
-    ensures { λ s. ⌜ s ≡ cond (any (above r) (rows-of (now (t .entry)) n)) 2 1 ⌝ }
+// The status of a new node: GHOST if any round above its own is present, else ADDED.
+fn new_status(above: bool) -> u64
+    ensures { λ s. ⌜ s ≡ cond above GHOST ADDED ⌝ }
 {
-    if tree_table::any_above(t, n, r) {
+    if above {
         return tree_table::GHOST;
     }
     tree_table::ADDED
 }
 
-// Puts the node r, v, p into row n, the first free one, and strikes the ADDED nodes that its edge crosses.
-pub fn insert(t: &mut [u64], n: usize, r: u64, v: u64, p: u64)
-    requires { ⌜ 4 * n + 4 ≤ length (now t) ⌝ }
-    ensures { λ _. ⌜ now (t .exit) ≡ words (map (strike-crossed r p) (rows-of (now (t .entry)) n) ++ new-node (rows-of (now (t .entry)) n) r v p ∷ []) ++ drop (4 * n + 4) (now (t .entry)) ⌝ }
+// The node takes the first free row.
+pub fn plan_add(valued: bool, t: &[u64], r: Round, v: u64, p: Round) -> Plan
+    requires { ⌜ (sized (now t) ≡ true) × Tree valued (now t) ⌝ }
+    ensures { λ q. ⌜ Planned valued (now (t .entry)) (add (r .0) v (p .0)) (q .number) (q .row) (q .status) ⌝ }
 {
-    let s = new_status(t, n, r);
-    tree_crossing::strike(t, n, r, p);
-    tree_table::put_row(t, n, r, p, v, s);
+    let l = crate::look::look_over(t, r.0 as u64, p.0 as u64);
+    Plan {
+        number: add_number(valued, t, l, r, v, p),
+        row: l.used,
+        status: new_status(l.above),
+    }
 }

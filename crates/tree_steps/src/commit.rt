@@ -1,42 +1,43 @@
-// What `tree::commit` answers on a tree, and what it writes (01, "The tree"; the rows round and commit of the place table).
+// What a commit decides on a tree (01, "The tree"; the rows round and commit of the place table).
+use crate::call::Plan;
 use ids::Round;
-use crate::answers::CommitAnswer;
 ghost use mathlib.Core.Path.{_≡_};
 ghost use mathlib.Core.Bool.{true};
-ghost use Prim.Native.Nat.{_*_, _≤_};
-ghost use lib.ListN.{length};
-ghost use Rattle.tree_theory.specs.Machine.{commit, answer, present};
-ghost use Rattle.tree_theory.specs.Table.{rows, rows-of};
-ghost use Rattle.tree_steps.specs.Answers.{number-of-commit};
-ghost use Rattle.tree_steps.specs.Committed.{Committed};
+ghost use Rattle.tree_theory.specs.Machine.{commit, answer};
+ghost use Rattle.tree_theory.specs.Table.{sized, rows, rows-of, Tree};
+ghost use Rattle.tree_table.specs.Rows.{row-index};
+ghost use Rattle.tree_steps.specs.Planned.{Planned};
 
-// Why commit(r) is refused among the first n rows, or Committed. It writes nothing.
-pub fn commit_answer(t: &[u64], n: usize, r: Round) -> CommitAnswer
-    requires { ⌜ 4 * n ≤ length (now t) ⌝ }
-    ensures { λ a. ⌜ number-of-commit a ≡ answer true (rows (now (t .entry))) (rows-of (now (t .entry)) n) (commit (r .0)) ⌝ }
+// Why commit(r) is refused, or OK, where k is the row of r among all rows. No cause of a commit looks at values.
+fn commit_number(t: &[u64], k: usize, r: Round) -> u32
+    requires { ⌜ k ≡ row-index (r .0) (rows-of (now t) (rows (now t))) ⌝ }
+    ensures { λ n. ⌜ n ≡ answer true (rows (now (t .entry))) (rows-of (now (t .entry)) (rows (now (t .entry)))) (commit (r .0)) ⌝ }
 {
     if !ids::in_range(r) {
-        return CommitAnswer::OutOfRange;
+        return numbers::ROUND_RANGE;
     }
-    let k = tree_table::find_row(t, n, r.0 as u64);
-    if n <= k {
-        return CommitAnswer::Absent;
+    if t.len() / 4 <= k {
+        return numbers::ROUND_ABSENT;
     }
     let s = tree_table::status_at(t, k);
     if s == tree_table::COMMITTED {
-        return CommitAnswer::AlreadyCommitted;
+        return numbers::ROUND_COMMITTED;
     }
     if s == tree_table::GHOST {
-        return CommitAnswer::Ghost;
+        return numbers::ROUND_GHOST;
     }
-    CommitAnswer::Committed
+    numbers::OK
 }
 
-// Makes the row of round r, one of the first n, COMMITTED.
-pub fn commit_row(t: &mut [u64], n: usize, r: u64)
-    requires { ⌜ (4 * n ≤ length (now t)) × (present r (rows-of (now t) n) ≡ true) ⌝ }
-    ensures { λ _. ⌜ Committed (now (t .entry)) n r (now (t .exit)) ⌝ }
+// Free rows have round 0, so that a search over all rows finds a used one.
+pub fn plan_commit(valued: bool, t: &[u64], r: Round) -> Plan
+    requires { ⌜ (sized (now t) ≡ true) × Tree valued (now t) ⌝ }
+    ensures { λ q. ⌜ Planned valued (now (t .entry)) (commit (r .0)) (q .number) (q .row) (q .status) ⌝ }
 {
-    let k = tree_table::find_row(t, n, r);
-    tree_table::set_status(t, k, tree_table::COMMITTED);
+    let k = tree_table::find_row(t, t.len() / 4, r.0 as u64);
+    Plan {
+        number: commit_number(t, k, r),
+        row: k,
+        status: tree_table::COMMITTED,
+    }
 }

@@ -1,6 +1,6 @@
 -- Laws on the first rows of a table: what one row more adds, and what a pass that changes statuses leaves. Assumes nothing.
 use mathlib.Core.Path.{_≡_, refl, sym, ap, _∙_}
-use mathlib.Core.Bool.{Bool, true, false, not}
+use mathlib.Core.Bool.{Bool, true, false, not, _||_}
 use mathlib.Core.List.{List, [], _∷_, _++_, map, append-assoc, append-nil}
 use Prim.Native.Nat.{ℕ, zero, suc, _+_, _-_, _*_, _≤_, _<_}
 use native.Mathlib.Omega.{arith}
@@ -8,21 +8,21 @@ use native.Mathlib.Numerals.{add-one}
 use native.Mathlib.Nat.{add-zero}
 use lib.ListN.{length, getD, set, drop, length-map}
 use lib.Seq.{drop-cons, getD-append-add, append-snoc, getD-drop}
-use lib.Dec.{leb}
-use borrow.Author.Tests.{eq-eqb, ne-eqb, leb-true, leb-false}
-use Rattle.laws.specs.Tests.{by-test, clash}
+use lib.Dec.{leb, ltb}
+use borrow.Author.Tests.{eq-eqb, ne-eqb, le-leb, lt-leb, lt-ltb, le-ltb, ltb-true, ltb-false}
+use Rattle.laws.specs.Tests.{by-test, clash, same-test, tests}
 use Rattle.laws.specs.Lists.{any, any-append, any-snoc, map-append}
-use Rattle.tree_theory.specs.Machine.{Node, has-round, present, find, with-status}
+use Rattle.tree_theory.specs.Machine.{Node, root, FREE, has-round, present, find, with-status}
 use Rattle.tree_theory.specs.Table.{row, rows-of, used-from, words}
-use Rattle.tree_theory.proofs.Words.{length-words, words-append, length-rows}
-use Rattle.tree_table.specs.Rows.{Found}
+use Rattle.tree_theory.proofs.Words.{length-words, words-append, length-rows, getD-rows}
+use Rattle.tree_table.specs.Rows.{row-index}
 
 -- the d rows from row i on
-pub rows-from : List ℕ → ℕ → ℕ → List Node
+unfoldable pub rows-from : List ℕ → ℕ → ℕ → List Node
 rows-from ws i zero = []
 rows-from ws i (suc d) = row ws i ∷ rows-from ws (suc i) d
 
-rows-more : (ws : List ℕ) (d i : ℕ) → rows-of ws (i + d) ≡ rows-of ws i ++ rows-from ws i d
+pub rows-more : (ws : List ℕ) (d i : ℕ) → rows-of ws (i + d) ≡ rows-of ws i ++ rows-from ws i d
 unfolding rows-from rows-of
 rows-more ws zero i = let e : i + 0 ≡ i = omega arith in rw e (sym (append-nil (rows-of ws i)))
 rows-more ws (suc d) i =
@@ -36,19 +36,23 @@ rows-split ws i n h =
     let e : i + suc (n - suc i) ≡ n = omega arith in
     rw e at (rows-more ws (suc (n - suc i)) i)
 
+-- one row more
+pub any-more : (P : Node → Bool) (ws : List ℕ) (i : ℕ) → any P (rows-of ws (i + 1)) ≡ (any P (rows-of ws i) || P (row ws i))
+unfolding rows-of
+any-more P ws i = rw add-one (any-snoc P (rows-of ws i) (row ws i))
+
 -- A pass that looks for a row: it has come to row i of n and passed none.
 pub record Scanned (P : Node → Bool) (ws : List ℕ) (n i : ℕ) : Type 0 where
   pub within : i ≤ n
   pub none : any P (rows-of ws i) ≡ false
 
-pub scan-start : (P : Node → Bool) (ws : List ℕ) (n : ℕ) → Scanned P ws n 0
+pub scan-start : {P : Node → Bool} {ws : List ℕ} {n : ℕ} → Scanned P ws n 0
 unfolding rows-of
-scan-start P ws n = record { within = omega arith; none = refl }
+scan-start = record { within = omega arith; none = refl }
 
 module _ {P : Node → Bool} {ws : List ℕ} {n i : ℕ} (S : Scanned P ws n i) where
   pub scan-more : i < n → P (row ws i) ≡ false → Scanned P ws n (i + 1)
-  unfolding rows-of
-  scan-more h e = record { within = omega arith; none = rw (add-one, any-snoc P (rows-of ws i) (row ws i), S .none, e) refl }
+  scan-more h e = record { within = omega arith; none = rw (any-more P ws i, S .none, e) refl }
 
   pub scan-hit : i < n → P (row ws i) ≡ true → any P (rows-of ws n) ≡ true
   scan-hit h e =
@@ -57,35 +61,94 @@ module _ {P : Node → Bool} {ws : List ℕ} {n i : ℕ} (S : Scanned P ws n i) 
   pub scan-end : n ≤ i → any P (rows-of ws n) ≡ false
   scan-end h = let e : i ≡ n = omega (arith, S .within) in rw e at (S .none)
 
-find-behind : (r : ℕ) (ns ms : List Node) (m : Node) → any (has-round r) ns ≡ false → has-round r m ≡ true → find r (ns ++ m ∷ ms) ≡ m
-unfolding find
-find-behind r [] ms m a e = rw e refl
-find-behind r (n ∷ ns) ms m a e =
-    by-test (has-round r n) (λ t. clash (rw t refl) a) (λ t. rw t (find-behind r ns ms m (rw t at a) e))
+-- ---- the place of a round
 
--- the first row that has round r
-pub find-hit : {r : ℕ} {ws : List ℕ} {n i : ℕ} → Scanned (has-round r) ws n i → i < n → row ws i .round ≡ r → find r (rows-of ws n) ≡ row ws i
-find-hit {r = r} {ws = ws} {n = n} {i = i} S h e =
-    rw (rows-split ws i n h) (find-behind r (rows-of ws i) (rows-from ws (suc i) (n - suc i)) (row ws i) (S .none) (eq-eqb (row ws i .round) r e))
+same-below : (k n : ℕ) → leb n k ≡ not (ltb k n)
+same-below k n = by-test (ltb k n) (λ y. rw (y, lt-leb n k (ltb-true k n y)) refl) (λ y. rw (y, le-leb n k (ltb-false k n y)) refl)
 
--- what a search for a round says
-pub found-absent : {ws : List ℕ} {n r k : ℕ} → Found ws n r k → leb n k ≡ not (present r (rows-of ws n))
-found-absent {n = n} {k = k} F =
-    by-test (leb n k)
-    (λ y. rw (y, F .none (leb-true n k y)) refl)
-    (λ y. rw (y, F .there (leb-false n k y)) refl)
+pub index-none : (r : ℕ) (ns : List Node) → any (has-round r) ns ≡ false → row-index r ns ≡ length ns
+unfolding row-index
+index-none r [] a = refl
+index-none r (n ∷ ns) a = by-test (has-round r n) (λ t. clash (rw t refl) a) (λ t. rw t (ap suc (index-none r ns (rw t at a))))
+
+index-hit : (r : ℕ) (ns ms : List Node) (m : Node) → any (has-round r) ns ≡ false → has-round r m ≡ true → row-index r (ns ++ m ∷ ms) ≡ length ns
+unfolding row-index
+index-hit r [] ms m a e = rw e refl
+index-hit r (n ∷ ns) ms m a e =
+    by-test (has-round r n) (λ t. clash (rw t refl) a) (λ t. rw t (ap suc (index-hit r ns ms m (rw t at a) e)))
+
+-- it is a place exactly if the round is present
+index-present : (r : ℕ) (ns : List Node) → ltb (row-index r ns) (length ns) ≡ present r ns
+unfolding row-index
+index-present r [] = refl
+index-present r (n ∷ ns) =
+    by-test (has-round r n)
+    (λ t. rw t (lt-ltb 0 (suc (length ns)) (omega arith)))
+    (λ t.
+    let z : ltb (suc (row-index r ns)) (suc (length ns)) ≡ ltb (row-index r ns) (length ns) = same-test _ _
+    (λ y. lt-ltb (row-index r ns) (length ns) (omega (arith, ltb-true (suc (row-index r ns)) (suc (length ns)) y)))
+    (λ y. lt-ltb (suc (row-index r ns)) (suc (length ns)) (omega (arith, ltb-true (row-index r ns) (length ns) y))) in
+    rw (t, z) (index-present r ns))
+
+find-at : (r : ℕ) (ns : List Node) → present r ns ≡ true → find r ns ≡ getD ns (row-index r ns) root
+unfolding row-index find
+find-at r [] h = clash h refl
+find-at r (n ∷ ns) h = by-test (has-round r n) (λ t. rw t refl) (λ t. rw t (find-at r ns (rw t at h)))
+
+pub index-left : (r : ℕ) (ns ms : List Node) → present r ns ≡ true → row-index r (ns ++ ms) ≡ row-index r ns
+unfolding row-index
+index-left r [] ms h = clash h refl
+index-left r (n ∷ ns) ms h = by-test (has-round r n) (λ t. rw t refl) (λ t. rw t (ap suc (index-left r ns ms (rw t at h))))
+
+-- a search that stops at the first row that has round r
+pub stopped : {r : ℕ} {ws : List ℕ} {n i : ℕ} → Scanned (has-round r) ws n i → i < n → row ws i .round ≡ r → row-index r (rows-of ws n) ≡ i
+stopped {r = r} {ws = ws} {n = n} {i = i} S h e =
+    rw (rows-split ws i n h)
+    (index-hit r (rows-of ws i) (rows-from ws (suc i) (n - suc i)) (row ws i) (S .none) (eq-eqb (row ws i .round) r e) ∙ length-rows ws i)
+
+-- what the place k that a search for r among the first n rows gave says
+module _ (ws : List ℕ) (n r : ℕ) {k : ℕ} (e : k ≡ row-index r (rows-of ws n)) where
+  pub index-there : ltb k n ≡ present r (rows-of ws n)
+  index-there = ap (λ j. ltb j n) e ∙ ap (ltb (row-index r (rows-of ws n))) (sym (length-rows ws n)) ∙ index-present r (rows-of ws n)
+
+  pub index-absent : leb n k ≡ not (present r (rows-of ws n))
+  index-absent = same-below k n ∙ ap not index-there
+
+  pub found-there : k < n → present r (rows-of ws n) ≡ true
+  found-there h = sym index-there ∙ lt-ltb k n h
+
+  pub found-none : n ≤ k → present r (rows-of ws n) ≡ false
+  found-none h = sym index-there ∙ le-ltb k n h
+
+  pub found-at : k < n → find r (rows-of ws n) ≡ row ws k
+  found-at h = rw e (find-at r (rows-of ws n) (found-there h) ∙ getD-rows ws n (row-index r (rows-of ws n)) (rw e at h))
+
+  -- with one row more it stays, or is that row's, or no row's
+  pub index-kept : k < n → k ≡ row-index r (rows-of ws (n + 1))
+  unfolding rows-of
+  index-kept h = rw add-one (e ∙ sym (index-left r (rows-of ws n) (row ws n ∷ []) (found-there h)))
+
+  pub index-last : n ≤ k → row ws n .round ≡ r → n ≡ row-index r (rows-of ws (n + 1))
+  unfolding rows-of
+  index-last h q =
+      rw add-one (sym (index-hit r (rows-of ws n) [] (row ws n) (found-none h) (eq-eqb (row ws n .round) r q) ∙ length-rows ws n))
+
+  pub index-past : n ≤ k → (row ws n .round ≡ r → ⊥) → n + 1 ≡ row-index r (rows-of ws (n + 1))
+  index-past h q =
+      let none : present r (rows-of ws (n + 1)) ≡ false = any-more (has-round r) ws n ∙ rw (found-none h, ne-eqb (row ws n .round) r q) refl in
+      sym (index-none r (rows-of ws (n + 1)) none ∙ length-rows ws (n + 1))
 
 -- counting used rows
-pub used-stop : (ws : List ℕ) (k i : ℕ) → row ws i .status ≡ 0 → used-from ws k i ≡ i
+pub used-stop : (ws : List ℕ) (k i : ℕ) → row ws i .status ≡ FREE → used-from ws k i ≡ i
 unfolding used-from
 used-stop ws zero i e = refl
-used-stop ws (suc k) i e = rw (eq-eqb (row ws i .status) 0 e, used-from) refl
+used-stop ws (suc k) i e = rw (eq-eqb (row ws i .status) FREE e, used-from) refl
 
-pub used-go : (ws : List ℕ) (k i : ℕ) → i < k → (row ws i .status ≡ 0 → ⊥) → used-from ws (k - i) i ≡ used-from ws (k - (i + 1)) (i + 1)
+pub used-go : (ws : List ℕ) (k i : ℕ) → i < k → (row ws i .status ≡ FREE → ⊥) → used-from ws (k - i) i ≡ used-from ws (k - (i + 1)) (i + 1)
 unfolding used-from
 used-go ws k i h e =
     let d : k - i ≡ suc (k - (i + 1)) = omega arith in
-    rw (d, ne-eqb (row ws i .status) 0 e, used-from, add-one) refl
+    rw (d, ne-eqb (row ws i .status) FREE e, used-from, add-one) refl
 
 pub used-end : (ws : List ℕ) (k i : ℕ) → k ≤ i → used-from ws (k - i) i ≡ i
 unfolding used-from
@@ -156,15 +219,19 @@ module _ (f : Node → Node) (t₀ : List ℕ) where
   pass-keep i t P h k = pass-more i t (P .is ∙ rw (row-ahead t₀ i h, k) refl)
 
   -- its status is set
-  pub pass-set : (i : ℕ) (t : List ℕ) (s : ℕ) → Passed f t₀ i t → 4 * i + 4 ≤ length t₀ → f (row t₀ i) ≡ with-status (row t₀ i) s → Passed f t₀ (i + 1) (set t (4 * i + 3) s)
+  pub pass-set : (i : ℕ) (t : List ℕ) (s : ℕ) → Passed f t₀ i t → 4 * i + 4 ≤ length t₀ → f (row t₀ i) ≡ with-status (row t₀ i) s →
+      Passed f t₀ (i + 1) (set t (4 * i + 3) s)
   unfolding words
   pass-set i t s P h k =
+      let n = row t₀ i in
+      let front = words (map f (rows-of t₀ i)) in
       pass-more i (set t (4 * i + 3) s)
-      (ap (λ l. set l (4 * i + 3) s) (P .is ∙ ap (λ l. words (map f (rows-of t₀ i)) ++ l) (row-ahead t₀ i h)) ∙
-      rw k (rw (length-front i) at (set-fourth (words (map f (rows-of t₀ i))) (row t₀ i .round) (row t₀ i .parent) (row t₀ i .value) (row t₀ i .status) s (drop (4 * suc i) t₀))))
+      (ap (λ l. set l (4 * i + 3) s) (P .is ∙ ap (λ l. front ++ l) (row-ahead t₀ i h)) ∙
+      rw k (rw (length-front i) at (set-fourth front (n .round) (n .parent) (n .value) (n .status) s (drop (4 * suc i) t₀))))
 
   -- rows that f leaves as they are
-  pub pass-on : (t : List ℕ) (d i : ℕ) → Passed f t₀ i t → 4 * (i + d) ≤ length t₀ → ((j : ℕ) → i ≤ j → j < i + d → f (row t₀ j) ≡ row t₀ j) → Passed f t₀ (i + d) t
+  pub pass-on : (t : List ℕ) (d i : ℕ) → Passed f t₀ i t → 4 * (i + d) ≤ length t₀ → ((j : ℕ) → i ≤ j → j < i + d → f (row t₀ j) ≡ row t₀ j) →
+      Passed f t₀ (i + d) t
   pass-on t zero i P h k = rw (add-zero i) P
   pass-on t (suc d) i P h k =
       let e : i + suc d ≡ i + 1 + d = omega arith in

@@ -5,10 +5,11 @@ ghost use mathlib.Core.List.{_∷_, _++_};
 ghost use Prim.Native.Nat.{_+_, _*_, _≤_};
 ghost use lib.Dec.{eqb};
 ghost use lib.ListN.{length, set, take, drop};
-ghost use Rattle.laws.specs.Lists.{any};
-ghost use Rattle.tree_theory.specs.Machine.{above};
 ghost use Rattle.tree_theory.specs.Table.{used, row, rows-of};
-ghost use Rattle.tree_table.specs.Rows.{Found};
+ghost use Rattle.tree_table.specs.Rows.{row-index};
+
+// The status of a row that no node has taken.
+pub const FREE: u64 = 0;
 
 pub const ADDED: u64 = 1;
 
@@ -70,7 +71,7 @@ pub fn used_rows(t: &[u64]) -> usize
     let rows = t.len() / 4;
     let mut i = 0;
     while i < rows {
-        if status_at(t, i) == 0 {
+        if status_at(t, i) == FREE {
             return i;
         }
         i += 1;
@@ -81,7 +82,7 @@ pub fn used_rows(t: &[u64]) -> usize
 // The first of the first n rows that has round r; n where none has.
 pub fn find_row(t: &[u64], n: usize, r: u64) -> usize
     requires { ⌜ 4 * n ≤ length (now t) ⌝ }
-    ensures { λ k. ⌜ Found (now (t .entry)) n r k ⌝ }
+    ensures { λ k. ⌜ k ≡ row-index r (rows-of (now (t .entry)) n) ⌝ }
 {
     let mut i = 0;
     while i < n {
@@ -93,30 +94,28 @@ pub fn find_row(t: &[u64], n: usize, r: u64) -> usize
     i
 }
 
-// Whether values are compared, the parent p isn't the root, and v is not the value in row k, the parent's.
-pub fn other_value(valued: bool, t: &[u64], k: usize, v: u64, p: u64) -> bool
-    requires { ⌜ 4 * k + 4 ≤ length (now t) ⌝ }
-    ensures { λ b. ⌜ b ≡ (valued && (not (eqb p 0) && not (eqb v (row (now (t .entry)) k .value)))) ⌝ }
+// What `find_row` gives with one row more, from what it gives for the first i rows.
+pub fn find_row_more(t: &[u64], i: usize, r: u64, k: usize) -> usize
+    requires { ⌜ (4 * i + 4 ≤ length (now t)) × (k ≡ row-index r (rows-of (now t) i)) ⌝ }
+    ensures { λ j. ⌜ j ≡ row-index r (rows-of (now (t .entry)) (i + 1)) ⌝ }
+{
+    if k < i {
+        return k;
+    }
+    if round_at(t, i) == r {
+        return i;
+    }
+    i + 1
+}
+
+// Whether values are compared, the parent p isn't the root, and v is not the parent's value w.
+pub fn other_value(valued: bool, v: u64, p: u64, w: u64) -> bool
+    ensures { λ b. ⌜ b ≡ (valued && (not (eqb p 0) && not (eqb v w))) ⌝ }
 {
     if valued {
         if p != 0 {
-            return v != value_at(t, k);
+            return v != w;
         }
-    }
-    false
-}
-
-// Whether one of the first n rows has a round above r.
-pub fn any_above(t: &[u64], n: usize, r: u64) -> bool
-    requires { ⌜ 4 * n ≤ length (now t) ⌝ }
-    ensures { λ b. ⌜ b ≡ any (above r) (rows-of (now (t .entry)) n) ⌝ }
-{
-    let mut i = 0;
-    while i < n {
-        if r < round_at(t, i) {
-            return true;
-        }
-        i += 1;
     }
     false
 }

@@ -12,12 +12,15 @@ use Rattle.laws.specs.Tests.{by-test, clash, tests, and-right, or-left, same-te
 use Rattle.laws.specs.Lists.{_∈_, any, any-snoc, any-intro, any-elim, any-none, none-any, every-snoc}
 use Rattle.laws.specs.First.{passed, zero-of}
 use Rattle.ids.specs.Ranges.{out-of-range, above-range}
-use Rattle.tree_theory.specs.Machine.{Call, add, commit, Node, ADDED, GHOST, COMMITTED, crosses, present, find, above, blocks, other-value, struck, new-node, committed, causes, answer, change}
+use Rattle.tree_theory.specs.Machine.{Call, add, commit, Node, ADDED, GHOST, COMMITTED, crosses, present, find, above, blocks, other-value}
+use Rattle.tree_theory.specs.Machine.{struck, new-node, committed, causes, answer, change}
 use Rattle.tree_theory.specs.Properties.{history, round-of, adds-in, adds, commits, adds-with, edge-crosses}
 use Rattle.tree_theory.proofs.Grown.{absent-crossed}
 use Rattle.tree_theory.proofs.Paths.{crossing-alone}
-use Rattle.tree_theory.proofs.Calls.{Next, AddNext, CommitNext, grow, adds-elim, commits-elim, edge-elim, adds-intro, commits-intro, adds-with-elim, adds-with-intro, committed-added, adds-in-append}
-use Rattle.tree_theory.proofs.Rebuilt.{cons-same, history-committed, history-ghost, made, added, rebuilt, Story, grown, added-append, length-added, in-added, of-added, map-added, crossed-rebuilt, present-rebuilt, find-rebuilt, round-positive}
+use Rattle.tree_theory.proofs.Calls.{Next, AddNext, CommitNext, grow, adds-elim, commits-elim, edge-elim, adds-intro, commits-intro}
+use Rattle.tree_theory.proofs.Calls.{adds-with-elim, adds-with-intro, committed-added, adds-in-append}
+use Rattle.tree_theory.proofs.Rebuilt.{cons-same, history-committed, history-ghost, made, added, rebuilt, Story, grown, added-append, length-added}
+use Rattle.tree_theory.proofs.Rebuilt.{in-added, of-added, map-added, crossed-rebuilt, present-rebuilt, find-rebuilt, round-positive}
 
 -- an add needs a row beside those used
 abbrev pub Room : ℕ → List Call → Call → Type 0

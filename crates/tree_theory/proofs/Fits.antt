@@ -24,7 +24,8 @@ pub record Fit (valued : Bool) (earlier all : List Node) (n : Node) : Type 0 whe
 module _ (valued : Bool) (earlier all : List Node) (n : Node) where
   placed-of : round-fits earlier n ≡ true → parent-fits earlier n ≡ true → value-fits valued earlier n ≡ true → Placed valued earlier n
   placed-of a b c =
-      let rng : out-of-range (n .round) ≡ false = not-true (out-of-range (n .round)) (and-left (not (out-of-range (n .round))) (not (present (n .round) earlier)) a) in
+      let rng : out-of-range (n .round) ≡ false =
+      not-true (out-of-range (n .round)) (and-left (not (out-of-range (n .round))) (not (present (n .round) earlier)) a) in
       let low : n .parent < n .round = ltb-true (n .parent) (n .round) (and-right (present (n .parent) earlier) (ltb (n .parent) (n .round)) b) in
       record {
         positive = omega arith;

@@ -1,7 +1,7 @@
 -- Paths of grown nodes: the fuel of `path-in` doesn't matter, an uncrossed round stands on the path of every higher one, and so an
 -- add strikes exactly the ADDED nodes that its edge crosses. Assumes nothing.
 use mathlib.Core.Path.{_≡_, refl, sym, ap, _∙_, subst}
-use mathlib.Core.Bool.{Bool, true, false, cond, _&&_, or-true}
+use mathlib.Core.Bool.{Bool, true, false, or-true}
 use mathlib.Core.List.{List, [], _∷_, _++_, map, append-assoc}
 use mathlib.Core.Logic.{_≢_}
 use Prim.Native.Nat.{ℕ, zero, suc, _+_, _<_, _≤_}
@@ -12,7 +12,8 @@ use borrow.Author.Tests.{eqb-true, ne-eqb, not-false, leb-false}
 use Rattle.laws.specs.Tests.{by-test, tests}
 use Rattle.laws.specs.First.{passed}
 use Rattle.laws.specs.Lists.{_∈_, any, any-snoc, cut, in-cut, map-same}
-use Rattle.tree_theory.specs.Machine.{Node, root, ADDED, GHOST, crosses, present, find, path, path-in, ancestor, strikes, struck, with-status, add, causes, answer}
+use Rattle.tree_theory.specs.Machine.{Node, root, ADDED, GHOST, crossed-with, present, find, path, path-in, ancestor, strikes, struck, strike-crossed}
+use Rattle.tree_theory.specs.Machine.{add, causes, answer}
 use Rattle.tree_theory.specs.Table.{behind-root}
 use Rattle.tree_theory.specs.Check.{crossed}
 use Rattle.tree_theory.proofs.Nodes.{find-in, find-round, in-present, present-in}
@@ -106,7 +107,7 @@ module _ (valued : Bool) (rows : ℕ) (ns : List Node) (G : Grown valued rows ns
 
   -- of the nodes that an accepted add strikes, the crossing decides alone: the second group is empty
   pub crossing-alone : (r p : ℕ) → present p ns ≡ true → p < r → (n : Node) → n ∈ ns →
-      strikes ns r p n ≡ (eqb (n .status) ADDED && crosses r p (n .round))
+      strikes ns r p n ≡ crossed-with ADDED r p n
   crossing-alone r p h l n m =
       by-test (eqb (n .status) ADDED)
       (λ t. by-test (ltb p (n .round))
@@ -117,16 +118,12 @@ module _ (valued : Bool) (rows : ℕ) (ns : List Node) (G : Grown valued rows ns
       (λ b. rw (t, a, b) refl)))
       (λ t. rw t refl)
 
--- an ADDED node that the edge (r, p) crosses becomes GHOST
-unfoldable pub marked : ℕ → ℕ → Node → Node
-marked r p n = cond (eqb (n .status) ADDED && crosses r p (n .round)) (with-status n GHOST) n
-
 -- an accepted add changes the nodes by crossing alone
-pub struck-marked : (valued : Bool) (rows : ℕ) (ns : List Node) → Grown valued rows ns → (r p : ℕ) → present p ns ≡ true → p < r →
-    map (struck ns r p) ns ≡ map (marked r p) ns
-unfolding struck marked
-struck-marked valued rows ns G r p h l =
-    map-same (struck ns r p) (marked r p) ns (λ n m. rw (crossing-alone valued rows ns G r p h l n m) refl)
+pub struck-crossed : (valued : Bool) (rows : ℕ) (ns : List Node) → Grown valued rows ns → (r p : ℕ) → present p ns ≡ true → p < r →
+    map (struck ns r p) ns ≡ map (strike-crossed r p) ns
+unfolding struck
+struck-crossed valued rows ns G r p h l =
+    map-same (struck ns r p) (strike-crossed r p) ns (λ n m. rw (crossing-alone valued rows ns G r p h l n m) refl)
 
 -- what an accepted add was found to have
 pub accepted-parent : (valued : Bool) (rows : ℕ) (ns : List Node) (r v p : ℕ) → answer valued rows ns (add r v p) ≡ 0 → (present p ns ≡ true) × (p < r)

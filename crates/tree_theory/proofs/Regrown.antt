@@ -21,7 +21,9 @@ use Rattle.tree_theory.proofs.Nodes.{find-in, find-round, in-present}
 use Rattle.tree_theory.proofs.Grown.{Grown, Placed, found, uncrossed-in}
 use Rattle.tree_theory.proofs.Calls.{AddNext, CommitNext, grow, none, adds-with-intro, commits-elim, commits-intro, adds-in-append}
 use Rattle.tree_theory.proofs.Rebuilt.{added-append}
-use Rattle.tree_theory.proofs.ReadOff.{add-of, adds-of-append, in-adds, of-adds, any-adds, any-edges, no-commits, adds-in-adds, commits-taken, commits-passed, in-commits, of-commits, none-in-commits, adds-in-commits, added-commits, added-read, commits-of-append}
+use Rattle.tree_theory.proofs.ReadOff.{add-of, adds-of-append, in-adds, of-adds, any-adds, any-edges, no-commits, adds-in-adds, commits-taken}
+use Rattle.tree_theory.proofs.ReadOff.{commits-passed, in-commits, of-commits, none-in-commits, adds-in-commits, added-commits, added-read}
+use Rattle.tree_theory.proofs.ReadOff.{commits-of-append}
 use Rattle.tree_theory.proofs.FourProperties.{ok-exactly, told-ok}
 
 -- the calls read off the nodes behind the root

@@ -6,6 +6,7 @@ use Prim.Native.Nat.{ℕ, _/_, _<_}
 use lib.ListN.{length}
 use lib.Dec.{eqb}
 use Rattle.laws.specs.Tests.{by-test}
+use Rattle.numbers.specs.Numbers.{OK}
 use Rattle.tree_theory.specs.Machine.{Call, Node, fresh, answer, change, step, after}
 use Rattle.tree_theory.specs.Table.{sized, rows, table, Tree, nodes, calls-of, call-number, call-table, fresh-table}
 use Rattle.tree_theory.proofs.Grown.{Grown}
@@ -38,11 +39,12 @@ written-tree valued ws cs h =
     length-table (length ws) (after valued (rows ws) fresh cs) (grown-fit valued ws (after valued (rows ws) fresh cs) h (all-grown valued (rows ws) cs)) in
     record { calls = cs; left = ap (λ l. table l (after valued (l / 4) fresh cs)) e }
 
-pub table-ok : (valued : Bool) (ws : List ℕ) (c : Call) → eqb (call-number valued ws c) 0 ≡ true → call-table valued ws c ≡ table (length ws) (change (nodes ws) c)
+pub table-ok : (valued : Bool) (ws : List ℕ) (c : Call) → eqb (call-number valued ws c) OK ≡ true →
+    call-table valued ws c ≡ table (length ws) (change (nodes ws) c)
 unfolding call-table
 table-ok valued ws c t = rw t refl
 
-pub table-refused : (valued : Bool) (ws : List ℕ) (c : Call) → eqb (call-number valued ws c) 0 ≡ false → call-table valued ws c ≡ ws
+pub table-refused : (valued : Bool) (ws : List ℕ) (c : Call) → eqb (call-number valued ws c) OK ≡ false → call-table valued ws c ≡ ws
 unfolding call-table
 table-refused valued ws c t = rw t refl
 

@@ -8,6 +8,8 @@ use lib.Dec.{ltb, leb, eqb}
 use Rattle.laws.specs.Lists.{any}
 use Rattle.ids.specs.Ranges.{out-of-range}
 use Rattle.laws.specs.First.{Cause, _gives_, first}
+use Rattle.numbers.specs.Numbers.{OK, ROUND-RANGE, ROUND-PRESENT, PARENT-ABSENT, PARENT-NOT-BELOW, PARENT-VALUE, CROSSES-COMMITTED, TABLE-FULL}
+use Rattle.numbers.specs.Numbers.{ROUND-ABSENT, ROUND-COMMITTED, ROUND-GHOST, no-row-left}
 
 -- a used row of the node table
 pub record Node : Type 0 where
@@ -15,6 +17,10 @@ pub record Node : Type 0 where
   pub parent : ℕ
   pub value : ℕ
   pub status : ℕ
+
+-- the status of a free row
+abbrev pub FREE : ℕ
+FREE = 0
 
 abbrev pub ADDED : ℕ
 ADDED = 1
@@ -70,9 +76,13 @@ path ns r = path-in r ns r
 abbrev pub ancestor : List Node → ℕ → ℕ → Bool
 ancestor ns p c = any (eqb c) (path ns p)
 
--- a COMMITTED node that the edge (r, p) crosses
+-- a node of status s that the edge (r, p) crosses
+abbrev pub crossed-with : ℕ → ℕ → ℕ → Node → Bool
+crossed-with s r p n = eqb (n .status) s && crosses r p (n .round)
+
+-- a COMMITTED one
 abbrev pub blocks : ℕ → ℕ → Node → Bool
-blocks r p n = eqb (n .status) COMMITTED && crosses r p (n .round)
+blocks r p n = crossed-with COMMITTED r p n
 
 -- v is not the value of the parent p, which isn't the root
 abbrev pub other-value : List Node → ℕ → ℕ → Bool
@@ -81,18 +91,18 @@ other-value ns v p = not (eqb p 0) && not (eqb v (find p ns .value))
 -- why a call is refused, in the order of the place table, where `rows` is the number of rows of the table
 unfoldable pub causes : Bool → ℕ → List Node → Call → List Cause
 causes valued rows ns (add r v p) =
-    out-of-range r gives 3 ∷
-    present r ns gives 4 ∷
-    not (present p ns) gives 5 ∷
-    leb r p gives 6 ∷
-    (valued && other-value ns v p) gives 7 ∷
-    any (blocks r p) ns gives 8 ∷
-    leb rows (length ns) gives 9 ∷ []
+    out-of-range r gives ROUND-RANGE ∷
+    present r ns gives ROUND-PRESENT ∷
+    not (present p ns) gives PARENT-ABSENT ∷
+    leb r p gives PARENT-NOT-BELOW ∷
+    (valued && other-value ns v p) gives PARENT-VALUE ∷
+    any (blocks r p) ns gives CROSSES-COMMITTED ∷
+    no-row-left rows (length ns) gives TABLE-FULL ∷ []
 causes valued rows ns (commit r) =
-    out-of-range r gives 3 ∷
-    not (present r ns) gives 10 ∷
-    eqb (find r ns .status) COMMITTED gives 11 ∷
-    eqb (find r ns .status) GHOST gives 12 ∷ []
+    out-of-range r gives ROUND-RANGE ∷
+    not (present r ns) gives ROUND-ABSENT ∷
+    eqb (find r ns .status) COMMITTED gives ROUND-COMMITTED ∷
+    eqb (find r ns .status) GHOST gives ROUND-GHOST ∷ []
 
 -- 0 (OK) or the number of the first cause
 unfoldable pub answer : Bool → ℕ → List Node → Call → ℕ
@@ -105,6 +115,10 @@ strikes ns r p n = eqb (n .status) ADDED && (crosses r p (n .round) || (ltb (n .
 
 unfoldable pub struck : List Node → ℕ → ℕ → Node → Node
 struck ns r p n = cond (strikes ns r p n) (with-status n GHOST) n
+
+-- the ADDED nodes that (r, p) crosses made GHOST. Of a tree's nodes an accepted add strikes no others: the theorem `struck-crossed`.
+abbrev pub strike-crossed : ℕ → ℕ → Node → Node
+strike-crossed r p n = cond (crossed-with ADDED r p n) (with-status n GHOST) n
 
 abbrev pub above : ℕ → Node → Bool
 above r n = ltb r (n .round)
@@ -124,7 +138,7 @@ change ns (commit r) = map (committed r) ns
 -- one call: a refused one changes nothing
 unfoldable pub step : Bool → ℕ → List Node → Call → List Node
 unfolding answer change
-step valued rows ns c = cond (eqb (answer valued rows ns c) 0) (change ns c) ns
+step valued rows ns c = cond (eqb (answer valued rows ns c) OK) (change ns c) ns
 
 -- the nodes after a list of calls
 unfoldable pub after : Bool → ℕ → List Node → List Call → List Node
@@ -143,6 +157,6 @@ unfoldable pub accepted : Bool → ℕ → List Node → List Call → List Call
 unfolding step
 accepted valued rows ns [] = []
 accepted valued rows ns (c ∷ cs) =
-    cond (eqb (answer valued rows ns c) 0)
+    cond (eqb (answer valued rows ns c) OK)
     (c ∷ accepted valued rows (step valued rows ns c) cs)
     (accepted valued rows (step valued rows ns c) cs)

@@ -8,7 +8,8 @@ use lib.ListN.{length, getD, replicate, drop}
 use lib.Dec.{ltb, leb, eqb}
 use Rattle.laws.specs.First.{Cause, _gives_, first}
 use Rattle.ids.specs.Ranges.{above-range}
-use Rattle.tree_theory.specs.Machine.{Node, node, Call, add, commit, COMMITTED, fresh, present, path, causes, change, after}
+use Rattle.numbers.specs.Numbers.{OK, TABLE-LENGTH, NOT-A-TREE, ROUND-RANGE, ROUND-ABSENT, SLICE-SHORT}
+use Rattle.tree_theory.specs.Machine.{Node, node, Call, add, commit, FREE, COMMITTED, fresh, present, path, causes, change, after}
 
 -- a multiple of 4 from 4 to 1,024
 abbrev pub sized : List ℕ → Bool
@@ -41,10 +42,10 @@ unfoldable pub rows-of : List ℕ → ℕ → List Node
 rows-of ws zero = []
 rows-of ws (suc i) = rows-of ws i ++ row ws i ∷ []
 
--- how many rows stand before the first free one (status 0), from row i on with k rows to go
+-- how many rows stand before the first FREE one, from row i on with k rows to go
 unfoldable pub used-from : List ℕ → ℕ → ℕ → ℕ
 used-from ws zero i = i
-used-from ws (suc k) i = elim (eqb (row ws i .status) 0) [ true ↦ i | false ↦ used-from ws k (suc i) ]
+used-from ws (suc k) i = elim (eqb (row ws i .status) FREE) [ true ↦ i | false ↦ used-from ws k (suc i) ]
 
 abbrev pub used : List ℕ → ℕ
 used ws = used-from ws (rows ws) 0
@@ -83,7 +84,7 @@ is-tree valued ws = same-words (table (length ws) (after valued (rows ws) fresh 
 
 -- the row "table" of the place table
 abbrev pub table-causes : Bool → List ℕ → List Cause
-table-causes valued ws = not (sized ws) gives 1 ∷ not (is-tree valued ws) gives 2 ∷ []
+table-causes valued ws = not (sized ws) gives TABLE-LENGTH ∷ not (is-tree valued ws) gives NOT-A-TREE ∷ []
 
 -- add and commit on a lent table: the number, and the table after
 unfoldable pub call-number : Bool → List ℕ → Call → ℕ
@@ -92,7 +93,7 @@ call-number valued ws c = first (table-causes valued ws ++ causes valued (rows w
 
 unfoldable pub call-table : Bool → List ℕ → Call → List ℕ
 unfolding call-number table change
-call-table valued ws c = cond (eqb (call-number valued ws c) 0) (table (length ws) (change (nodes ws) c)) ws
+call-table valued ws c = cond (eqb (call-number valued ws c) OK) (table (length ws) (change (nodes ws) c)) ws
 
 -- a list of calls on a lent table, one after another: the numbers, and the table after
 unfoldable pub call-numbers : Bool → List ℕ → List Call → List ℕ
@@ -107,26 +108,29 @@ calls-table valued ws (c ∷ cs) = calls-table valued (call-table valued ws c) c
 
 -- fresh checks length only
 unfoldable pub fresh-number : List ℕ → ℕ
-fresh-number ws = first (not (sized ws) gives 1 ∷ [])
+fresh-number ws = first (not (sized ws) gives TABLE-LENGTH ∷ [])
 
 unfoldable pub fresh-table : List ℕ → List ℕ
 unfolding fresh-number table
-fresh-table ws = cond (eqb (fresh-number ws) 0) (table (length ws) fresh) ws
+fresh-table ws = cond (eqb (fresh-number ws) OK) (table (length ws) fresh) ws
+
+-- the rows "round" and "path" of the place table
+abbrev pub path-causes : List ℕ → ℕ → List ℕ → List Cause
+path-causes ws r out =
+    above-range r gives ROUND-RANGE ∷
+    not (present r (nodes ws)) gives ROUND-ABSENT ∷
+    ltb (length out) (length (path (nodes ws) r)) gives SLICE-SHORT ∷ []
 
 -- path: the number, how many rounds, and the slice lent for them after
 unfoldable pub path-number : Bool → List ℕ → ℕ → List ℕ → ℕ
 unfolding is-tree
-path-number valued ws r out =
-    first (table-causes valued ws ++
-    above-range r gives 3 ∷
-    not (present r (nodes ws)) gives 10 ∷
-    ltb (length out) (length (path (nodes ws) r)) gives 13 ∷ [])
+path-number valued ws r out = first (table-causes valued ws ++ path-causes ws r out)
 
 unfoldable pub path-count : Bool → List ℕ → ℕ → List ℕ → ℕ
 unfolding path-number
-path-count valued ws r out = cond (eqb (path-number valued ws r out) 0) (length (path (nodes ws) r)) 0
+path-count valued ws r out = cond (eqb (path-number valued ws r out) OK) (length (path (nodes ws) r)) 0
 
 unfoldable pub path-slice : Bool → List ℕ → ℕ → List ℕ → List ℕ
 unfolding path-number
 path-slice valued ws r out =
-    cond (eqb (path-number valued ws r out) 0) (path (nodes ws) r ++ drop (length (path (nodes ws) r)) out) out
+    cond (eqb (path-number valued ws r out) OK) (path (nodes ws) r ++ drop (length (path (nodes ws) r)) out) out

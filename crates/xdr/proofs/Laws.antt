@@ -183,7 +183,8 @@ word-bytes s at h =
 
 -- four stores write a word
 pub word-stored : (l : List ℕ) (at x : ℕ) → at + 4 ≤ length l →
-    set (set (set (set l at (x / 16777216 % 256)) (at + 1) (x / 65536 % 256)) (at + 2) (x / 256 % 256)) (at + 3) (x % 256) ≡ take at l ++ word x ++ drop (at + 4) l
+    set (set (set (set l at (x / 16777216 % 256)) (at + 1) (x / 65536 % 256)) (at + 2) (x / 256 % 256)) (at + 3) (x % 256) ≡ take at l ++ word x
+    ++ drop (at + 4) l
 unfolding word big-endian
 word-stored l at x h =
     let e1 : at + 1 ≡ suc at = omega arith in
@@ -201,7 +202,8 @@ pub hyper-stored : (l m r : List ℕ) (at x : ℕ) → x < 18446744073709551616 
 hyper-stored l m r at x small fits first second =
     let e : at + 4 + 4 ≡ at + 8 = omega arith in
     rw (second, first, e, hyper-words x small)
-    (written-on l (word (x / 4294967296)) (word (x % 4294967296)) at (at + 4) (at + 8) (rw (length-word (x / 4294967296))) (rw (length-word (x % 4294967296)) e) fits)
+    (written-on l (word (x / 4294967296)) (word (x % 4294967296)) at (at + 4) (at + 8) (rw (length-word (x / 4294967296)))
+    (rw (length-word (x % 4294967296)) e) fits)
 
 -- high byte first, on numbers whose bytes are all different
 pub high-byte-first : (word 16909060 ≡ 1 ∷ 2 ∷ 3 ∷ 4 ∷ []) × (hyper 72623859790382856 ≡ 1 ∷ 2 ∷ 3 ∷ 4 ∷ 5 ∷ 6 ∷ 7 ∷ 8 ∷ [])

@@ -13,7 +13,8 @@ use denote.Builtin.{u8, usize}
 use denote.Exit.{no}
 use denote.Signature.{Slot, plain, mutSlice, mutSliceOf, namedLft}
 use denote.Signature.Struct.{structAt}
-use denote.Triple.Walked.{Stay, Fields, stay-none, stay-dropped, stay-struct-at, stay-declared, Goes, goes-none, goes-spent-slice, goes-struct-at, goes-declared}
+use denote.Triple.Walked.{Stay, Fields, stay-none, stay-dropped, stay-struct-at, stay-declared, Goes, goes-none, goes-spent-slice, goes-struct-at}
+use denote.Triple.Walked.{goes-declared}
 use Rattle.xdr_writer.specs.declared.Writer.{Writer}
 use Rattle.xdr_writer.proofs.Writer as T
 
@@ -32,11 +33,13 @@ spends = (stay-dropped (mutSliceOf (0 ∷ []) tt (plain (λ _. u8))) no, (stay-n
 
 abbrev pub writer-spent : Stay WriterS no
 writer-spent =
-    stay-declared (structAt name (named 0 ∷ []) slots) no (stay-struct-at name (named 0 ∷ []) slots no spends) Writer (λ κs. T.the-type (namedLft 1 0 tt κs) .to) (λ κs. T.the-type (namedLft 1 0 tt κs) .to-one)
+    stay-declared (structAt name (named 0 ∷ []) slots) no (stay-struct-at name (named 0 ∷ []) slots no spends) Writer
+    (λ κs. T.the-type (namedLft 1 0 tt κs) .to) (λ κs. T.the-type (namedLft 1 0 tt κs) .to-one)
 
 module _ {M : Type 1} (𝓤 : URA M) (H : Heap 𝓤) (A : Atoms 𝓤) (W : Given 𝓤 H A) where
   pub writer-spent-goes : Goes 𝓤 H A W 1 WriterS no writer-spent
   writer-spent-goes =
-      goes-declared 𝓤 H A W 1 (structAt name (named 0 ∷ []) slots) no (stay-struct-at name (named 0 ∷ []) slots no spends) Writer (λ κs. T.the-type (namedLft 1 0 tt κs) .to) (λ κs. T.the-type (namedLft 1 0 tt κs) .to-one)
+      goes-declared 𝓤 H A W 1 (structAt name (named 0 ∷ []) slots) no (stay-struct-at name (named 0 ∷ []) slots no spends) Writer
+      (λ κs. T.the-type (namedLft 1 0 tt κs) .to) (λ κs. T.the-type (namedLft 1 0 tt κs) .to-one)
       (goes-struct-at 𝓤 H A W 1 name (named 0 ∷ []) slots no spends
       (goes-spent-slice 𝓤 H A W 1 (0 ∷ []) tt (plain (λ _. u8)), (goes-none 𝓤 H A W 1 (λ _. usize) no (λ κs x f. refl), tt)))

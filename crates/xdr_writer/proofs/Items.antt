@@ -16,7 +16,8 @@ pub at-front : (l : List ℕ) → Fronts [] l 0 l
 unfolding encoded
 at-front l = record { reached = refl; stand = refl }
 
-pub put-behind : {is : List Item} {i : Item} {l m r : List ℕ} {at next : ℕ} → Fronts is l at m → Puts i m at next r → span is + width i ≤ length l → Fronts (is ++ i ∷ []) l next r
+pub put-behind : {is : List Item} {i : Item} {l m r : List ℕ} {at next : ℕ} → Fronts is l at m → Puts i m at next r → span is + width i ≤ length l →
+    Fronts (is ++ i ∷ []) l next r
 put-behind {is = is} {i = i} {l = l} {m = m} {r = r} f p h =
     let put : r ≡ with-item i (span is) m = rw (f .reached) at (p .put) in
     let end : span (is ++ i ∷ []) ≡ span is + width i = span-snoc is i in

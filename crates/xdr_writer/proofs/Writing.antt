@@ -1,5 +1,7 @@
--- A number is put on a slice through a writer, at any width: a walk of `write_word`'s MIR and `write_hyper`'s, by hand. The slice's borrow goes into a writer and that to the callee, at the borrow's own lifetime, share and ghost name.
--- What the callee returns is, by its contract, a record that is known whole, so the borrow is taken out of it at the list put, and the place is read from it. All that the proof knows of the callee is that it meets its contract.
+-- A number is put on a slice through a writer, at any width: a walk of `write_word`'s MIR and `write_hyper`'s, by hand. The slice's borrow goes into
+-- a writer and that to the callee, at the borrow's own lifetime, share and ghost name.
+-- What the callee returns is, by its contract, a record that is known whole, so the borrow is taken out of it at the list put, and the place is read
+-- from it. All that the proof knows of the callee is that it meets its contract.
 -- Assumes nothing.
 use mathlib.Core.Path.{_≡_, refl, sym, ap, subst}
 use Prim.Native.Nat.{ℕ, _<_, _≤_, _^_, _+_}
@@ -15,8 +17,10 @@ use base.Fml.{Lft, Share, GName, ftrue, fat, flft}
 use prog.Wp.{Heap, Calls, Loops, WpFn, Tables}
 use ghost.Atoms.{Atoms, sem}
 use contract.Monad.{fact}
-use types.Kit.{Given, ‵, raw, given, some, later, _⊛_, _$_, _∵_, !, qed, by, move, keep, use1, use2, split, pick, rewrite, learn, fsplit, fjoin, suffices, frame, await, done}
-use types.Run.{look, init, forget, stop, hop, fld, from, load, addr, of-opd, and-then, no-more, assigns, land, returns, enter, alloc1, alloc0, params1, pass1, pass0, free1, free0}
+use types.Kit.{Given, ‵, raw, given, some, later, _⊛_, _$_, _∵_, !, qed, by, move, keep, use1, use2, split, pick, rewrite, learn, fsplit, fjoin, suffices}
+use types.Kit.{frame, await, done}
+use types.Run.{look, init, forget, stop, hop, fld, from, load, addr, of-opd, and-then, no-more, assigns, land, returns, enter, alloc1, alloc0, params1, pass1}
+use types.Run.{pass0, free1, free0}
 use types.Part.{agg, whole, sub, look-in}
 use sound.WpLaws.{FmC, fmOf, WpFn-mono}
 use denote.RattleType.{owns}
@@ -49,10 +53,12 @@ module _ (w : Width) (of : ℕ → Item) (callee : Name) {M : Type 1} (𝓤 : UR
   stayed = (stay-slice (0 ∷ []) tt (plain (λ _. u8)), (stay-none (λ _. usize) yes, (stay-none (λ _. UInt w) yes, tt)))
 
   -- of the callee's `ensured`, the clause alone: it says no last value
-  put-of : (κ : Lft) (h : Writer) (v : ℕ) (r : Writer) → ent 𝓤 (ensured 𝓤 H A (put-ended w) (put-clauses w of 𝓤 H A) (κ, tt) (h, (v, tt)) tt r) (fact 𝓤 (r ≡ putting (of v) h))
+  put-of : (κ : Lft) (h : Writer) (v : ℕ) (r : Writer) → ent 𝓤 (ensured 𝓤 H A (put-ended w) (put-clauses w of 𝓤 H A) (κ, tt) (h, (v, tt)) tt r)
+      (fact 𝓤 (r ≡ putting (of v) h))
   put-of κ h v r = exE 𝓤 _ (λ ws. snd∗ 𝓤 (sem 𝓤 H A (lasts (put-ended w) (κ, tt) (h, (v, tt)) ws)) (fact 𝓤 (r ≡ putting (of v) h)))
 
-  module _ (κ : Lft) (q : Share) (b o : ℕ) (γ : GName) (ys : List ℕ) (n v : ℕ) (n-fits : n < 2 ^ 64) (v-fits : v < 2 ^ bits w) (fits : n + width (of v) ≤ length ys) where
+  module _ (κ : Lft) (q : Share) (b o : ℕ) (γ : GName) (ys : List ℕ) (n v : ℕ) (n-fits : n < 2 ^ 64) (v-fits : v < 2 ^ bits w)
+      (fits : n + width (of v) ≤ length ys) where
     abbrev α : NamedLft
     α = record { mir = named 0; lft = κ }
 
@@ -84,7 +90,8 @@ module _ (w : Width) (of : ℕ → Item) (callee : Name) {M : Type 1} (𝓤 : UR
     typed : (h : Writer) (u : Val) → Is (T.the-row α) h (u ∷ []) → Holds (hasTy (T′.mir erased) u) × WT u
     typed h u is =
         let fields = LL.owed (T.the-type α) (T′.the-laws α) h _ is in
-        subst (λ (z : Val). Holds (hasTy (T′.mir erased) z) × WT z) (sym (ap only (LL.tells (T.the-type α) (T′.the-laws α) h _ is))) (tt, ((tt, (record { fits = fields .0 .0 .1 .0 }, tt)), (record { fits = fields .1 .0 .1 }, tt)))
+        subst (λ (z : Val). Holds (hasTy (T′.mir erased) z) × WT z) (sym (ap only (LL.tells (T.the-type α) (T′.the-laws α) h _ is)))
+        (tt, ((tt, (record { fits = fields .0 .0 .1 .0 }, tt)), (record { fits = fields .1 .0 .1 }, tt)))
 
     abbrev Arg : Type 0
     Arg = RefT (List ℕ) × (ℕ × (ℕ × Unit {0}))
@@ -110,47 +117,68 @@ module _ (w : Width) (of : ℕ → Item) (callee : Name) {M : Type 1} (𝓤 : UR
     exits : r < 2 ^ 64 → ent 𝓤 (sep 𝓤 (sep 𝓤 (A .lft κ q) (sem 𝓤 H A ftrue)) (sem 𝓤 H A (MutSlice (named 0) κ u8 .own (x zs) (s zs ∷ [])))) (Post (vint w64 r))
     exits r-fits =
         qed W ((‵ (flft κ q) ⊛ ‵ ftrue) ∷ ‵ (MutSlice (named 0) κ u8 .own (x zs) (s zs ∷ [])) ∷ []) ∵
-        suffices ! _ (ends-at 𝓤 H A (to-ended w) stayed (to-clauses w of 𝓤 H A) W (((κ, tt), (q, tt), tt, a, vals), tt) (vint w64 r) r (zs, (tt, (tt, tt))) (put-length (of v) n ys fits, (tt, (tt, tt)))) $ says ! (record { moved = refl; put = refl }) $ frame ! $
+        suffices ! _ (ends-at 𝓤 H A (to-ended w) stayed (to-clauses w of 𝓤 H A) W (((κ, tt), (q, tt), tt, a, vals), tt) (vint w64 r) r (zs, (tt, (tt, tt)))
+        (put-length (of v) n ys fits, (tt, (tt, tt)))) $ says ! (record { moved = refl; put = refl }) $ frame ! $
         rewrite ! 0 (λ (m : ℕ). ‵ (MutSlice (named 0) κ u8 .own (x zs) (sliceVal (b, o) m ∷ []))) (put-length (of v) n ys fits) refl $
-        nothing ! $ owned ! (UInt w) (Is (UInt w)) (uint-makes 𝓤 H A W w) v _ (refl, v-fits) $ fjoin ! $ owned ! usize (Is usize) (uint-makes 𝓤 H A W w64) n _ (refl, n-fits) $ fjoin ! $ move ! (1 ∷ 0 ∷ []) $ fjoin ! $
+        nothing ! $ owned ! (UInt w) (Is (UInt w)) (uint-makes 𝓤 H A W w) v _ (refl, v-fits) $ fjoin ! $ owned ! usize (Is usize) (uint-makes 𝓤 H A W w64) n _
+        (refl, n-fits) $ fjoin ! $ move ! (1 ∷ 0 ∷ []) $ fjoin ! $
         owned ! usize (Is usize) (uint-makes 𝓤 H A W w64) r _ (refl, r-fits) $ move ! (1 ∷ 0 ∷ []) $ done !
 
     module _ (C : Calls 𝓤 H) (Λ : Loops 𝓤 H) (fm : FmC 𝓤 H (W .laws) C) (known : Triple 𝓤 (C callee) (Put w of 𝓤 H A)) where
-      walk : Room u8 (length ys) → ent 𝓤 (onEntry 𝓤 H A (to-ended w .signature) (κ, tt) (q, tt) a vals) (WpFn 𝓤 H C Λ (write-code w callee) (s ys ∷ vint w64 n ∷ vint w v ∷ []) Post)
+      walk : Room u8 (length ys) → ent 𝓤 (onEntry 𝓤 H A (to-ended w .signature) (κ, tt) (q, tt) a vals)
+          (WpFn 𝓤 H C Λ (write-code w callee) (s ys ∷ vint w64 n ∷ vint w v ∷ []) Post)
       walk room =
-          qed W ((‵ (flft κ q) ⊛ ‵ ftrue) ∷ ‵ (owns (MutSlice (named 0) κ u8 ∷ usize ∷ UInt w ∷ []) a vals) ∷ []) ∵ enter ! C Λ (write-code w callee) (s ys ∷ vint w64 n ∷ vint w v ∷ []) _ $
+          qed W ((‵ (flft κ q) ⊛ ‵ ftrue) ∷ ‵ (owns (MutSlice (named 0) κ u8 ∷ usize ∷ UInt w ∷ []) a vals) ∷ []) ∵ enter ! C Λ (write-code w callee)
+          (s ys ∷ vint w64 n ∷ vint w v ∷ []) _ $
           alloc1 ! (λ l₀. alloc1 ! (λ l₁. alloc1 ! (λ l₂. alloc1 ! (λ l₃. alloc1 ! (λ l₄. alloc1 ! (λ l₅. alloc1 ! (λ l₆. alloc1 ! (λ l₇. alloc0 ! $ params1 ! $
-          pass1 ! (init ! 12 refl (tt, (tt, (record { fits = room .0 }, tt)))) $ pass1 ! (init ! 10 refl (tt, record { fits = n-fits })) $ pass1 ! (init ! 8 refl (uint-lawful 𝓤 H A W w .typed v _ (refl, v-fits) .0)) $ pass0 ! $
+          pass1 ! (init ! 12 refl (tt, (tt, (record { fits = room .0 }, tt)))) $ pass1 ! (init ! 10 refl (tt, record { fits = n-fits })) $ pass1 !
+          (init ! 8 refl (uint-lawful 𝓤 H A W w .typed v _ (refl, v-fits) .0)) $ pass0 ! $
           -- [_7; …; _6; …; _5; …; _4; …; _3; …; _2; …; _1; …; room for _0; …; the token; what buf, at and x own]
           assigns ! (addr ! (from ! (fld ! refl (hop ! (look-in ! 12 (sub ! 0 refl (whole !))) (stop !))))) (from ! (stop !)) (init ! 4 refl (tt, tt)) $
-          assigns ! (agg ! (and-then ! (load ! (from ! (stop !)) (look ! 4 refl)) (and-then ! (load ! (from ! (fld ! refl (stop !))) (look-in ! 12 (sub ! 1 refl (whole !)))) (no-more !)))) (from ! (stop !)) (init ! 2 refl (tt, (tt, (record { fits = room .0 }, tt)))) $
-          assigns ! (agg ! (and-then ! (load ! (from ! (stop !)) (look ! 2 refl)) (and-then ! (load ! (from ! (stop !)) (look ! 10 refl)) (no-more !)))) (from ! (stop !)) (init ! 0 refl (tt, ((tt, (record { fits = room .0 }, tt)), (record { fits = n-fits }, tt)))) $
+          assigns ! (agg ! (and-then ! (load ! (from ! (stop !)) (look ! 4 refl))
+          (and-then ! (load ! (from ! (fld ! refl (stop !))) (look-in ! 12 (sub ! 1 refl (whole !)))) (no-more !)))) (from ! (stop !))
+          (init ! 2 refl (tt, (tt, (record { fits = room .0 }, tt)))) $
+          assigns ! (agg ! (and-then ! (load ! (from ! (stop !)) (look ! 2 refl)) (and-then ! (load ! (from ! (stop !)) (look ! 10 refl)) (no-more !))))
+          (from ! (stop !)) (init ! 0 refl (tt, ((tt, (record { fits = room .0 }, tt)), (record { fits = n-fits }, tt)))) $
           -- the borrow goes into the writer, and the writer to the callee
-          move ! (17 ∷ []) $ fsplit ! $ nothing ! $ owned ! usize (Is usize) (uint-makes 𝓤 H A W w64) n _ (refl, n-fits) $ fjoin ! $ move ! (1 ∷ 0 ∷ []) $ fjoin ! $
+          move ! (17 ∷ []) $ fsplit ! $ nothing ! $ owned ! usize (Is usize) (uint-makes 𝓤 H A W w64) n _ (refl, n-fits) $ fjoin ! $ move !
+          (1 ∷ 0 ∷ []) $ fjoin ! $
           use1 W (‵ (T.the-row α .own h₀ (mach ys n ∷ []))) (own-shut 𝓤 H A W (T.the-type α) (T′.the-laws α) (x ys, (n, tt))) $
           move ! (18 ∷ 0 ∷ []) $ use2 W (raw (Put w of 𝓤 H A .pre to-put)) goes-put $
-          calls-at ! fm (Put w of 𝓤 H A) known to-put (and-then ! (load ! (from ! (stop !)) (look ! 2 refl)) (and-then ! (load ! (from ! (stop !)) (look ! 10 refl)) (no-more !))) (λ u.
-          use1 W (later (some (λ (h : Writer). ((‵ (flft κ q) ⊛ ‵ ftrue) ⊛ ‵ (T.the-row α .own h (u ∷ []))) ⊛ raw (ensured 𝓤 H A (put-ended w) (put-clauses w of 𝓤 H A) (κ, tt) (h₀, (v, tt)) tt h)))) (id⊢ 𝓤 _) $ await ! tt $ pick ! (λ h.
+          calls-at ! fm (Put w of 𝓤 H A) known to-put (and-then ! (load ! (from ! (stop !)) (look ! 2 refl))
+          (and-then ! (load ! (from ! (stop !)) (look ! 10 refl)) (no-more !))) (λ u.
+          use1 W (later (some (λ (h : Writer). ((‵ (flft κ q) ⊛ ‵ ftrue) ⊛ ‵ (T.the-row α .own h (u ∷ []))) ⊛ raw
+          (ensured 𝓤 H A (put-ended w) (put-clauses w of 𝓤 H A) (κ, tt) (h₀, (v, tt)) tt h)))) (id⊢ 𝓤 _) $ await ! tt $ pick ! (λ h.
           split ! $ move ! (1 ∷ []) $ use1 W (raw (fact 𝓤 (h ≡ h₁))) (put-of κ h₀ v h) $ heard ! (h ≡ h₁) (λ e.
           split ! $ rewrite ! 1 (λ (z : Writer). ‵ (T.the-row α .own z (u ∷ []))) e refl $
-          move ! (1 ∷ []) $ peeks ! (T.the-row α) (Is (T.the-row α)) (shows 𝓤 H A (T.the-row α)) h₁ (u ∷ []) (λ is. land ! (from ! (stop !)) (init ! 9 refl (typed h₁ u is)) $
+          move ! (1 ∷ []) $ peeks ! (T.the-row α) (Is (T.the-row α)) (shows 𝓤 H A (T.the-row α)) h₁ (u ∷ [])
+          (λ is. land ! (from ! (stop !)) (init ! 9 refl (typed h₁ u is)) $
           -- the borrow is taken out of what came back, and the place read from it
-          use1 W (given (u ∷ [] ≡ mach zs r ∷ []) (‵ (all-own (T.the-type α .parts) (T′.the-laws α) (x zs, (r, tt))))) (own-open 𝓤 H A W (T.the-type α) (T′.the-laws α) (x zs, (r, tt)) u) $ learn ! (λ m. fsplit ! $
+          use1 W (given (u ∷ [] ≡ mach zs r ∷ []) (‵ (all-own (T.the-type α .parts) (T′.the-laws α) (x zs, (r, tt)))))
+          (own-open 𝓤 H A W (T.the-type α) (T′.the-laws α) (x zs, (r, tt)) u) $ learn ! (λ m. fsplit ! $
           rewrite ! 10 (λ (z : Val). ‵ (fat fullShare (T′.mir erased) l₄ 0 z)) (ap only m) refl $
           -- [what buf's borrow owns; …; the token; …; _7; …; _6; …; _5; …; _4; …; _3; …; _2; …; _1; …; room for _0; …]
-          assigns ! (of-opd ! (load ! (from ! (fld ! refl (stop !))) (look-in ! 10 (sub ! 1 refl (whole !))))) (from ! (stop !)) (init ! 18 refl (tt, record { fits = LL.owed (T.the-type α) (T′.the-laws α) h₁ _ is .1 .0 .1 })) $
-          returns ! (look ! 18 refl) $ forget ! 4 refl $ forget ! 6 refl $ forget ! 8 refl $ forget ! 10 refl $ forget ! 12 refl $ forget ! 14 refl $ forget ! 16 refl $ forget ! 18 refl $
-          move ! (18 ∷ 19 ∷ []) $ free1 ! $ move ! (16 ∷ 17 ∷ []) $ free1 ! $ move ! (14 ∷ 15 ∷ []) $ free1 ! $ move ! (12 ∷ 13 ∷ []) $ free1 ! $ move ! (10 ∷ 11 ∷ []) $ free1 ! $ move ! (8 ∷ 9 ∷ []) $ free1 ! $ move ! (6 ∷ 7 ∷ []) $ free1 ! $ move ! (4 ∷ 5 ∷ []) $ free1 ! $ free0 ! $
+          assigns ! (of-opd ! (load ! (from ! (fld ! refl (stop !))) (look-in ! 10 (sub ! 1 refl (whole !))))) (from ! (stop !))
+          (init ! 18 refl (tt, record { fits = LL.owed (T.the-type α) (T′.the-laws α) h₁ _ is .1 .0 .1 })) $
+          returns ! (look ! 18 refl) $ forget ! 4 refl $ forget ! 6 refl $ forget ! 8 refl $ forget ! 10 refl $ forget ! 12 refl $ forget ! 14 refl $ forget !
+          16 refl $ forget ! 18 refl $
+          move ! (18 ∷ 19 ∷ []) $ free1 ! $ move ! (16 ∷ 17 ∷ []) $ free1 ! $ move ! (14 ∷ 15 ∷ []) $ free1 ! $ move ! (12 ∷ 13 ∷ []) $ free1 ! $ move !
+          (10 ∷ 11 ∷ []) $ free1 ! $ move ! (8 ∷ 9 ∷ []) $ free1 ! $ move ! (6 ∷ 7 ∷ []) $ free1 ! $ move ! (4 ∷ 5 ∷ []) $ free1 ! $ free0 ! $
           keep ! (2 ∷ 0 ∷ []) $ by ! (exits (LL.owed (T.the-type α) (T′.the-laws α) h₁ _ is .1 .0 .1)))))))))))))))
 
-  walks : (C : Calls 𝓤 H) (Λ : Loops 𝓤 H) → FmC 𝓤 H (W .laws) C → Triple 𝓤 (C callee) (Put w of 𝓤 H A) → Walks 𝓤 H A (to-ended w) stayed (WpFn 𝓤 H C Λ (write-code w callee)) (to-clauses w of 𝓤 H A)
+  walks : (C : Calls 𝓤 H) (Λ : Loops 𝓤 H) → FmC 𝓤 H (W .laws) C → Triple 𝓤 (C callee) (Put w of 𝓤 H A) →
+      Walks 𝓤 H A (to-ended w) stayed (WpFn 𝓤 H C Λ (write-code w callee)) (to-clauses w of 𝓤 H A)
   walks C Λ fm known = walked 𝓤 H A (to-ended w) stayed (to-clauses w of 𝓤 H A) (WpFn 𝓤 H C Λ (write-code w callee))
       (λ κs. (slice-vals, (uint-vals w64, (uint-vals w, tt)))) (λ κs. (mut-slice-tells (named 0) (κs .0) u8, (uint-tells w64, (uint-tells w, tt))))
       (λ κs qs bounds a g are. needs 𝓤 (a .1 .0 + width (of (a .1 .1 .0)) ≤ length (a .0 .now)) _ (λ fits.
-      walk (κs .0) (qs .0) (a .0 .ptr .0) (a .0 .ptr .1) (a .0 .name) (a .0 .now) (a .1 .0) (a .1 .1 .0) (are .1 .0 .1) (are .1 .1 .0 .1) fits C Λ fm known (are .0 .0 .1)))
+      walk (κs .0) (qs .0) (a .0 .ptr .0) (a .0 .ptr .1) (a .0 .name) (a .0 .now) (a .1 .0) (a .1 .1 .0) (are .1 .0 .1) (are .1 .1 .0 .1) fits C Λ fm known
+      (are .0 .0 .1)))
 
   pub write-meets : (𝓣 : Tables 𝓤 H) → Triple 𝓤 (𝓣 .C callee) (Put w of 𝓤 H A)
       → Meets 𝓤 H A (to-ended w .signature) (WpFn 𝓤 H (𝓣 .C) (𝓣 .Λ) (write-code w callee)) (closing 𝓤 H A (to-ended w) (to-clauses w of 𝓤 H A))
   write-meets 𝓣 known =
-      walk-meets 𝓤 H A (to-ended w) stayed W (goes-slice 𝓤 H A W 1 0 tt (plain (λ _. u8)), (goes-none 𝓤 H A W 1 (λ _. usize) yes (λ κs x f. refl), (goes-none 𝓤 H A W 1 (λ _. UInt w) yes (λ κs x f. refl), tt))) (to-clauses w of 𝓤 H A)
+      walk-meets 𝓤 H A (to-ended w) stayed W (
+        goes-slice 𝓤 H A W 1 0 tt (plain (λ _. u8)),
+        (goes-none 𝓤 H A W 1 (λ _. usize) yes (λ κs x f. refl), (goes-none 𝓤 H A W 1 (λ _. UInt w) yes (λ κs x f. refl), tt)),
+      ) (to-clauses w of 𝓤 H A)
       (WpFn 𝓤 H (𝓣 .C) (𝓣 .Λ) (write-code w callee)) (WpFn-mono 𝓤 H (W .laws) 𝓣 (write-code w callee)) (walks (𝓣 .C) (𝓣 .Λ) (fmOf 𝓤 H (W .laws) 𝓣) known)

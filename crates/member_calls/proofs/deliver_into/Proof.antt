@@ -31,9 +31,6 @@ read-message-requires c κs = search needs
 enum-known-read : tie.Need-enum-known-read
 enum-known-read c = search needs
 
-number-requires : tie.Need-number-requires
-number-requires c κs = search needs
-
 refuse-requires-2 : tie.Need-refuse-requires-2
 refuse-requires-2 c κs = search needs
 
@@ -56,11 +53,11 @@ tell-requires c κs =
 
 returns-2 : tie.Need-returns-2
 returns-2 c =
-    let read = c .before .before .before .before .before in
+    let read = c .before .before .before .before in
     let row = read .before .before .record-number in
     let args = read .before .before .before .before .before .args in
-    let fault = c .before .before .before .read .given in
-    rw (unread (args .m) (now (args .bytes)) (now (args .reply)) (row .result) (row .ensures) (read .before .if1 .left) (fault .0 .0) (sym (read .read-message .ensures .answer) ∙ fault .1), ← c .before .number .ensures)
+    let fault = c .before .before .read .given in
+    rw (unread (args .m) (now (args .bytes)) (now (args .reply)) (row .result) (row .ensures) (read .before .if1 .left) (fault .0 .0) (sym (read .read-message .ensures .answer) ∙ fault .1))
     (record { answers = c .refuse2 .ensures; reply = refl })
 
 same-length : tie.Need-same-length
@@ -85,7 +82,6 @@ deliver-into-spec =
     returns
     read-message-requires
     enum-known-read
-    number-requires
     refuse-requires-2
     enum-known-read-2
     deliver-sound-requires

@@ -26,7 +26,8 @@ vote-in-range-requires : tie.Need-vote-in-range-requires
 vote-in-range-requires c κs = search needs
 
 returns : tie.Need-returns
-returns c = rw (c .before .before .before .before .m3 .given .1) (simp (sym (c .before .before .head-in-range3 .ensures) ∙ c .before .if1 .taken) (c .vote-in-range .ensures))
+returns c = rw (c .before .before .before .before .m3 .given .1) (simp (sym (c .before .before .head-in-range3 .ensures) ∙ c .before .if1 .taken)
+    (c .vote-in-range .ensures))
 
 enum-known-m-4 : tie.Need-enum-known-m-4
 enum-known-m-4 c = search needs

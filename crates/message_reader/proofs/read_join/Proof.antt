@@ -6,10 +6,10 @@ use lib.ListN.{length}
 use borrow.Author.Tests.{le-ltb}
 use borrow.Author.Needs.{needs}
 use denote.Ref.{now}
-use Rattle.message.specs.Layout.{presence}
-use Rattle.message.specs.declared.Fault.the-variants.{Length}
+use Rattle.message.specs.Layout.{presence-in}
+use Rattle.numbers.specs.Numbers.{MESSAGE-LENGTH}
 use Rattle.message.specs.declared.Read.the-variants.{Refused}
-use Rattle.message.specs.Reading.{size, ranged, read}
+use Rattle.message.specs.Reading.{size, ranged, reading}
 use Rattle.message.proofs.Checks.{Known, join-short, join-neither, wrong-size, right-size, size-join, size-join-voted, decoded-join, decoded-join-voted}
 use Rattle.message_reader.proofs.read_join.Statement.{statement}
 use Rattle.message_reader.proofs.read_join.Tie as tie
@@ -23,14 +23,14 @@ word-at-requires c κs = search needs
 -- where the presence is 0 or 1
 known : (c : tie.After-word-at) →
     let s = now (c .before .before .before .args .s) in
-    presence s ≤ 1 → Known s
+    presence-in s ≤ 1 → Known s
 known c p =
     let s = c .before .before .before in
     record { low = rw (s .pre .1) (omega arith); high = rw (s .pre .1) (omega arith); present = rw (s .pre .1) (le-ltb 1 _ p) }
 
 refused : (c : tie.After-word-at) →
     let s = now (c .before .before .before .args .s) in
-    presence s ≤ 1 → (length s ≡ size s → ⊥) → Refused Length ≡ read s
+    presence-in s ≤ 1 → (length s ≡ size s → ⊥) → Refused MESSAGE-LENGTH ≡ reading s
 refused c p e = sym (wrong-size _ (known c p) (c .before .before .before .pre .0) (λ k. c .before .if1 .left) e)
 
 returns-2 : tie.Need-returns-2

@@ -1,14 +1,16 @@
 -- `message_reader::read_kind` meets its contract: each return goes by the tests that led there. Assumes nothing.
 use mathlib.Core.Path.{_≡_, sym, ap, _∙_}
+use mathlib.Core.List.{List}
+use Prim.Native.Nat.{ℕ}
 use native.Mathlib.Omega.{arith}
 use lib.ListN.{length}
 use borrow.Author.Tests.{ne-eqb}
 use borrow.Author.Needs.{needs}
 use denote.Ref.{now}
-use Rattle.message.specs.Layout.{kind}
-use Rattle.message.specs.declared.Fault.the-variants.{Length}
+use Rattle.message.specs.Layout.{JOIN-KIND, PROPOSE-KIND, VOTE-KIND, head-length, kind-in}
+use Rattle.numbers.specs.Numbers.{MESSAGE-LENGTH}
 use Rattle.message.specs.declared.Read.the-variants.{Refused}
-use Rattle.message.specs.Reading.{size, ranged, read}
+use Rattle.message.specs.Reading.{size, ranged, reading}
 use Rattle.message.proofs.Checks.{Known, wrong-size, right-size, size-propose, size-other, decoded-start, decoded-propose, decoded-vote}
 use Rattle.message_reader.proofs.read_kind.Statement.{statement}
 use Rattle.message_reader.proofs.read_kind.Tie as tie
@@ -22,25 +24,26 @@ read-join-requires c κs = search needs
 returns : tie.Need-returns
 returns c = search needs
 
--- a kind that isn't JOIN
-no-join : (c : tie.Else1) → kind (now (c .before .before .before .args .s)) ≡ 2 → ⊥
+-- the bytes, of a kind that isn't JOIN
+abbrev bytes-at : tie.Else1 → List ℕ
+bytes-at c = now (c .before .before .before .args .s)
+
+no-join : (c : tie.Else1) → kind-in (bytes-at c) ≡ JOIN-KIND → ⊥
 no-join c k = c .if1 .left (c .before .word-at .ensures ∙ k)
 
-known : (c : tie.Else1) → Known (now (c .before .before .before .args .s))
+known : (c : tie.Else1) → Known (bytes-at c)
 known c =
     let s = c .before .before .before in
-    record { low = s .pre .1; high = s .pre .2; present = rw (ne-eqb (kind (now (s .args .s))) 2 (no-join c)) }
+    record { low = s .pre .1; high = s .pre .2; present = rw (ne-eqb (kind-in (bytes-at c)) JOIN-KIND (no-join c)) }
 
-refused : (c : tie.Else1) →
-    let s = now (c .before .before .before .args .s) in
-    (length s ≡ size s → ⊥) → Refused Length ≡ read s
+refused : (c : tie.Else1) → (length (bytes-at c) ≡ size (bytes-at c) → ⊥) → Refused MESSAGE-LENGTH ≡ reading (bytes-at c)
 refused c e = sym (wrong-size _ (known c) (c .before .before .before .pre .0) (λ k. absurd (no-join c k)) e)
 
+a-propose : (c : tie.Then2) → kind-in (bytes-at (c .before)) ≡ PROPOSE-KIND
+a-propose c = sym (c .before .before .word-at .ensures) ∙ c .if2 .taken
+
 returns-2 : tie.Need-returns-2
-returns-2 c =
-    let b = c .before .before in
-    let three = sym (b .before .word-at .ensures) ∙ c .before .if2 .taken in
-    refused b (λ e. c .if3 .taken (e ∙ size-propose _ three))
+returns-2 c = refused (c .before .before) (λ e. c .if3 .taken (e ∙ size-propose _ (a-propose (c .before))))
 
 as-propose-requires : tie.Need-as-propose-requires
 as-propose-requires c κs = search needs
@@ -50,17 +53,17 @@ ranged-requires c κs = search needs
 
 returns-3 : tie.Need-returns-3
 returns-3 c =
-    let b = c .before .before .before .before in
-    let three = sym (b .before .word-at .ensures) ∙ c .before .before .before .if2 .taken in
+    let exact = c .before .before in
+    let three = a-propose (exact .before) in
     c .ranged .ensures ∙ ap ranged (c .before .as-propose .ensures ∙ sym (decoded-propose _ three)) ∙
-    sym (right-size _ (known b) (c .before .before .if3 .left ∙ sym (size-propose _ three)))
+    sym (right-size _ (known (exact .before .before)) (exact .if3 .left ∙ sym (size-propose _ three)))
 
 -- START or VOTE
-twelve : (c : tie.Else2) → size (now (c .before .before .before .before .args .s)) ≡ 12
-twelve c = size-other _ (no-join (c .before)) (λ k. c .if2 .left (c .before .before .word-at .ensures ∙ k))
+head-alone : (c : tie.Else2) → size (bytes-at (c .before)) ≡ head-length
+head-alone c = size-other _ (no-join (c .before)) (λ k. c .if2 .left (c .before .before .word-at .ensures ∙ k))
 
 returns-4 : tie.Need-returns-4
-returns-4 c = refused (c .before .before) (λ e. c .if4 .taken (e ∙ twelve (c .before)))
+returns-4 c = refused (c .before .before) (λ e. c .if4 .taken (e ∙ head-alone (c .before)))
 
 as-start-requires : tie.Need-as-start-requires
 as-start-requires c κs = search needs
@@ -70,9 +73,11 @@ ranged-requires-2 c κs = search needs
 
 returns-5 : tie.Need-returns-5
 returns-5 c =
-    let t = c .before .before .before .before in
-    c .ranged2 .ensures ∙ ap ranged (c .before .as-start .ensures ∙ sym (decoded-start _ (sym (t .before .before .word-at .ensures) ∙ c .before .before .if5 .taken))) ∙
-    sym (right-size _ (known (t .before)) (c .before .before .before .if4 .left ∙ sym (twelve t)))
+    let exact = c .before .before .before in
+    let other = exact .before in
+    let one = sym (other .before .before .word-at .ensures) ∙ c .before .before .if5 .taken in
+    c .ranged2 .ensures ∙ ap ranged (c .before .as-start .ensures ∙ sym (decoded-start _ one)) ∙
+    sym (right-size _ (known (other .before)) (exact .if4 .left ∙ sym (head-alone other)))
 
 as-vote-requires : tie.Need-as-vote-requires
 as-vote-requires c κs = search needs
@@ -80,13 +85,15 @@ as-vote-requires c κs = search needs
 ranged-requires-3 : tie.Need-ranged-requires-3
 ranged-requires-3 c κs = search needs
 
+a-vote : (c : tie.Else5) → kind-in (bytes-at (c .before .before .before)) ≡ VOTE-KIND
+a-vote c = omega (arith, c .before .before .before .before .word-at .ensures, c .before .before .before .before .before .before .pre)
+
 returns-6 : tie.Need-returns-6
 returns-6 c =
-    let t = c .before .before .before .before in
-    let s = now (t .before .before .before .before .args .s) in
-    let four : kind s ≡ 4 = omega (arith, t .before .before .word-at .ensures, t .before .before .before .before .pre) in
-    c .ranged3 .ensures ∙ ap ranged (c .before .as-vote .ensures ∙ sym (decoded-vote _ four)) ∙
-    sym (right-size _ (known (t .before)) (c .before .before .before .if4 .left ∙ sym (twelve t)))
+    let exact = c .before .before .before in
+    let other = exact .before in
+    c .ranged3 .ensures ∙ ap ranged (c .before .as-vote .ensures ∙ sym (decoded-vote _ (a-vote (c .before .before)))) ∙
+    sym (right-size _ (known (other .before)) (exact .if4 .left ∙ sym (head-alone other)))
 
 pub read-kind-spec : {M : Type 1} → statement M
 read-kind-spec =

@@ -25,7 +25,8 @@ returns c =
     let first = second .before .before .before .before in
     let s = first .before .before .before in
     let room = s .pre in
-    put-behind (put-behind (put-behind (at-front (now (s .args .buf))) (first .write-word .ensures) (omega arith)) (second .write-word2 .ensures) (omega arith)) (third .write-word3 .ensures) (omega arith)
+    put-behind (put-behind (put-behind (at-front (now (s .args .buf))) (first .write-word .ensures) (omega arith)) (second .write-word2 .ensures) (omega arith))
+    (third .write-word3 .ensures) (omega arith)
 
 pub put-head-spec : {M : Type 1} → statement M
 put-head-spec =

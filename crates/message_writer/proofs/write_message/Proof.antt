@@ -3,28 +3,43 @@ use mathlib.Core.Path.{_≡_, sym, _∙_}
 use mathlib.Core.List.{List}
 use Prim.Native.Nat.{ℕ}
 use lib.ListN.{length}
-use borrow.Author.Tests.{lt-ltb, le-ltb}
+use borrow.Author.Tests.{lt-ltb, le-ltb, not-true, not-false}
 use Rattle.xdr.proofs.Items.{length-encoded}
 use Rattle.xdr_writer.specs.Put.{Fronts}
 use Rattle.message.specs.declared.Message.{Message}
-use Rattle.message.specs.Layout.{words, bytes}
-use Rattle.message.specs.Writing.{in-front, written, buffer-after}
-use Rattle.message.proofs.RoundTrip.{writes}
+use Rattle.message.specs.Layout.{layout, bytes}
+use Rattle.message.specs.Writing.{in-front, writing, buffer-after}
 use borrow.Author.Needs.{needs}
 use Rattle.message_writer.proofs.write_message.Statement.{statement}
 use Rattle.message_writer.proofs.write_message.Tie as tie
 
--- a message's words at the front are the message there
-sent : (m : Message) {old new : List ℕ} {n : ℕ} → Fronts (words m) old n new → (n ≡ length (bytes m)) × (new ≡ in-front m old)
+-- a message's numbers at the front are the message there
+sent : (m : Message) {old new : List ℕ} {n : ℕ} → Fronts (layout m) old n new → (n ≡ length (bytes m)) × (new ≡ in-front m old)
 unfolding in-front bytes
-sent m f = (rw (f .reached, length-encoded (words m)), rw (f .stand, length-encoded (words m)))
+sent m f = (rw (f .reached, length-encoded (layout m)), rw (f .stand, length-encoded (layout m)))
+
+refused-requires : tie.Need-refused-requires
+refused-requires c κs = search needs
 
 returns : tie.Need-returns
-unfolding written buffer-after
-returns c = writes _ _ _ _ (simp (lt-ltb _ _ (c .if1 .taken))) (simp (lt-ltb _ _ (c .if1 .taken)))
+unfolding writing buffer-after
+returns c =
+    let short = lt-ltb _ _ (c .before .if1 .taken) in
+    record { answer = simp short (c .refused .ensures); buffer = simp short }
 
 in-range-requires : tie.Need-in-range-requires
 in-range-requires c κs = search needs
+
+refused-requires-2 : tie.Need-refused-requires-2
+refused-requires-2 c κs = search needs
+
+returns-2 : tie.Need-returns-2
+unfolding writing buffer-after
+returns-2 c =
+    let asked = c .before .before in
+    let room = le-ltb _ _ (asked .before .if1 .left) in
+    let out = sym (asked .in-range .ensures) ∙ not-true _ (c .before .if2 .taken) in
+    record { answer = simp (room, out) (c .refused2 .ensures); buffer = simp (room, out) }
 
 put-message-requires : tie.Need-put-message-requires
 put-message-requires c κs = search needs
@@ -32,22 +47,17 @@ put-message-requires c κs = search needs
 same-length : tie.Need-same-length
 same-length c = search needs
 
-returns-2 : tie.Need-returns-2
-unfolding written buffer-after
-returns-2 c =
-    let put = sent _ (c .before .before .put-message .ensures) in
-    let fits = sym (c .before .before .before .before .before .in-range .ensures) ∙ c .before .before .before .before .if2 .taken in
-    writes _ _ _ _
-    (simp (le-ltb _ _ (c .before .before .before .before .before .before .if1 .left), fits, put .0))
-    (simp (le-ltb _ _ (c .before .before .before .before .before .before .if1 .left), fits) (put .1))
-
 returns-3 : tie.Need-returns-3
-unfolding written buffer-after
+unfolding writing buffer-after
 returns-3 c =
-    let out = sym (c .before .in-range .ensures) ∙ c .if2 .left in
-    writes _ _ _ _ (simp (le-ltb _ _ (c .before .before .if1 .left), out)) (simp (le-ltb _ _ (c .before .before .if1 .left), out))
+    let put = c .before .before in
+    let asked = put .before .before .before in
+    let room = le-ltb _ _ (asked .before .if1 .left) in
+    let fits = sym (asked .in-range .ensures) ∙ not-false _ (put .before .before .if2 .left) in
+    let (long, stands) = sent _ (put .put-message .ensures) in
+    record { answer = simp (room, fits, long); buffer = simp (room, fits) stands }
 
 pub write-message-spec : {M : Type 1} → statement M
 write-message-spec =
     tie.close
-    (tie.spec returns in-range-requires put-message-requires same-length returns-2 returns-3)
+    (tie.spec refused-requires returns in-range-requires refused-requires-2 returns-2 put-message-requires same-length returns-3)

@@ -32,8 +32,8 @@ abbrev fourth-test : tie.After-fresh → tie.Else4
 fourth-test c = c .before .before
 
 -- the table made fresh, from its number; the store cleared, from where the events are run; and that, from the end
-abbrev made-fresh : tie.After-number → tie.After-fresh
-made-fresh c = c .before .before .before
+abbrev made-fresh : tie.After-slice-known4 → tie.After-fresh
+made-fresh c = c .before .before
 
 abbrev store-back : tie.After-run-arg3 → tie.After-slice-known5
 store-back c = c .before .before .before
@@ -54,7 +54,7 @@ entry-3 c = entry-2 (second-test c .before)
 abbrev entry-4 : tie.After-struct-known → tie.Start
 entry-4 c = entry-3 (c .before .before)
 
-abbrev entry-5 : tie.After-number → tie.Start
+abbrev entry-5 : tie.After-slice-known4 → tie.Start
 entry-5 c = entry-4 (fourth-test (made-fresh c) .before)
 
 abbrev lent : tie.Start → Lent
@@ -80,7 +80,7 @@ enough : (c : tie.Else4) → count-of (now (entry-4 (c .before) .args .list)) �
 enough c = omega (arith, count-read (second-test (c .before .before .before) .before .before))
 
 right-length : (c : tie.Else5) → sized (now (entry-5 (c .before) .args .nodes)) ≡ true
-right-length c = fresh-zero _ (sym (made-fresh (c .before) .fresh .ensures .0) ∙ sym (c .before .number .ensures) ∙ c .if5 .left)
+right-length c = fresh-zero _ (sym (made-fresh (c .before) .fresh .ensures .0) ∙ c .if5 .left)
 
 passed-list : (c : tie.Else5) → PassedList (now (entry-5 (c .before) .args .list)) (lent (entry-5 (c .before)))
 passed-list c =
@@ -153,9 +153,6 @@ returns-4 c =
 fresh-requires : tie.Need-fresh-requires
 fresh-requires c κs = search needs
 
-number-requires : tie.Need-number-requires
-number-requires c κs = search needs
-
 refused-list-requires-5 : tie.Need-refused-list-requires-5
 refused-list-requires-5 c κs = search needs
 
@@ -174,7 +171,7 @@ returns-5 c =
     let t2 = second-test (t3 .before) in
     as-given _ (c .refused-list5 .ensures)
     (table-odd (fitting (first-test (t2 .before))) (few-members t2) (whole-rows t3) (enough t4)
-    (λ q. test .if5 .taken (test .before .number .ensures ∙ f .fresh .ensures .0 ∙ q)) (f .fresh .ensures .1))
+    (λ q. test .if5 .taken (f .fresh .ensures .0 ∙ q)) (f .fresh .ensures .1))
 
 clear-requires : tie.Need-clear-requires
 clear-requires c κs = search needs
@@ -221,7 +218,6 @@ play-spec =
     same-length-2
     returns-4
     fresh-requires
-    number-requires
     refused-list-requires-5
     same-length-3
     same-length-4

@@ -1,45 +1,45 @@
 -- `play_store::fetch` meets its contract: the part lent is the row. Assumes nothing.
 use mathlib.Core.Path.{_≡_}
-use Prim.Native.Nat.{_+_, _-_, _*_}
+use Prim.Native.Nat.{_+_, _-_}
 use native.Mathlib.Omega.{arith}
 use borrow.Author.Needs.{needs}
-use Rattle.play_store.specs.Rows.{fetched}
+use Rattle.play_store.specs.Rows.{row-length, row-start, fetched}
 use Rattle.play_store.proofs.fetch.Statement.{statement}
 use Rattle.play_store.proofs.fetch.Tie as tie
 
-mul-start : tie.Need-mul-start
-mul-start c = search needs
+mul-from : tie.Need-mul-from
+mul-from c = search needs
 
-add-end : tie.Need-add-end
-add-end c = search needs
+add-to : tie.Need-add-to
+add-to c = search needs
 
-sub-decode-row : tie.Need-sub-decode-row
-sub-decode-row c = search needs
+sub-decode-front : tie.Need-sub-decode-front
+sub-decode-front c = search needs
 
-part-decode-row-start : tie.Need-part-decode-row-start
-part-decode-row-start c = search needs
+part-decode-front-start : tie.Need-part-decode-front-start
+part-decode-front-start c = search needs
 
-part-decode-row-end : tie.Need-part-decode-row-end
-part-decode-row-end c = search needs
+part-decode-front-end : tie.Need-part-decode-front-end
+part-decode-front-end c = search needs
 
-decode-row-requires : tie.Need-decode-row-requires
-decode-row-requires c κs = search needs
+decode-front-requires : tie.Need-decode-front-requires
+decode-front-requires c κs = search needs
 
 returns : tie.Need-returns
 unfolding fetched
 returns c =
     let k = c .before .before .before .args .k in
-    let e : 28 * k + 28 - 28 * k ≡ 28 = omega arith in
-    rw e at (c .decode-row .ensures)
+    let e : row-start k + row-length - row-start k ≡ row-length = omega arith in
+    rw e at (c .decode-front .ensures)
 
 pub fetch-spec : {M : Type 1} → statement M
 fetch-spec =
     tie.close
     (tie.spec
-    mul-start
-    add-end
-    sub-decode-row
-    part-decode-row-start
-    part-decode-row-end
-    decode-row-requires
+    mul-from
+    add-to
+    sub-decode-front
+    part-decode-front-start
+    part-decode-front-end
+    decode-front-requires
     returns)

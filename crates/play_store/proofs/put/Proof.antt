@@ -1,7 +1,7 @@
 -- `play_store::put` meets its contract: the part lent is the row, which has room for any message. Assumes nothing.
 use mathlib.Core.Path.{_≡_, _∙_}
 use mathlib.Core.List.{append-assoc}
-use Prim.Native.Nat.{_+_, _-_, _*_, _≤_}
+use Prim.Native.Nat.{_+_, _-_, _≤_}
 use native.Mathlib.Omega.{arith}
 use lib.ListN.{length, take, drop, length-drop}
 use lib.Seq.{length-take-le, drop-drop}
@@ -9,15 +9,15 @@ use borrow.Author.Needs.{needs}
 use denote.Ref.{now}
 use Rattle.message.specs.Writing.{in-front}
 use Rattle.message.proofs.RoundTrip.{left-in-front}
-use Rattle.play_store.specs.Rows.{row-at}
+use Rattle.play_store.specs.Rows.{row-length, row-start, row-at}
 use Rattle.play_store.proofs.put.Statement.{statement}
 use Rattle.play_store.proofs.put.Tie as tie
 
-mul-a : tie.Need-mul-a
-mul-a c = search needs
+mul-start : tie.Need-mul-start
+mul-start c = search needs
 
-add-e : tie.Need-add-e
-add-e c = search needs
+add-end : tie.Need-add-end
+add-end c = search needs
 
 sub-write-message : tie.Need-sub-write-message
 sub-write-message c = search needs
@@ -36,21 +36,28 @@ same-length c = search needs
 
 returns : tie.Need-returns
 returns c =
-    let a = c .before .before .before .before .before .args in
+    let entry = c .before .before .before .before .before in
+    let a = entry .args in
     let s = now (a .s) in
-    let e : 28 * a .k + 28 - 28 * a .k ≡ 28 = omega arith in
-    let row : take (28 * a .k + 28 - 28 * a .k) (drop (28 * a .k) s) ≡ row-at s (a .k) = rw e in
-    let room : 28 ≤ length (row-at s (a .k)) = rw (length-take-le 28 (drop (28 * a .k) s) (rw (length-drop (28 * a .k) s) (omega arith))) (omega arith) in
+    let e : row-start (a .k) + row-length - row-start (a .k) ≡ row-length = omega arith in
+    let row : take (row-start (a .k) + row-length - row-start (a .k)) (drop (row-start (a .k)) s) ≡ row-at s (a .k) = rw e in
+    let room : row-length ≤ length (row-at s (a .k)) = rw (length-take-le row-length (drop (row-start (a .k)) s)
+    (rw (length-drop (row-start (a .k)) s) (omega arith))) (omega arith) in
     let w = rw row at (c .before .before .write-message .ensures .buffer) in
-    let put = w ∙ left-in-front (a .g) (row-at s (a .k)) room (c .before .before .before .before .before .pre .1) in
-    rw (e, put, append-assoc (take (28 * a .k) s) (in-front (a .g) (row-at s (a .k))) (drop (28 * a .k + 28) s), ← drop-drop 28 (28 * a .k) s)
+    let put = w ∙ left-in-front (a .g) (row-at s (a .k)) room (entry .pre .1) in
+    rw (
+      e,
+      put,
+      append-assoc (take (row-start (a .k)) s) (in-front (a .g) (row-at s (a .k))) (drop (row-start (a .k) + row-length) s),
+      ← drop-drop row-length (row-start (a .k)) s,
+    )
 
 pub put-spec : {M : Type 1} → statement M
 put-spec =
     tie.close
     (tie.spec
-    mul-a
-    add-e
+    mul-start
+    add-end
     sub-write-message
     part-write-message-start
     part-write-message-end

@@ -1,14 +1,20 @@
 -- `tree::fresh` meets its contract: 1, or what `write_fresh` left. Assumes nothing.
 use mathlib.Core.Path.{_≡_, refl, sym, _∙_}
 use mathlib.Core.Bool.{true, false}
+use mathlib.Core.List.{List}
+use Prim.Native.Nat.{ℕ}
 use borrow.Author.Needs.{needs}
 use borrow.Author.Tests.{not-true, not-false}
 use denote.Ref.{now}
 use Rattle.tree_theory.specs.Table.{sized, fresh-number, fresh-table}
 use Rattle.tree_theory.proofs.Steps.{fresh-written}
-use Rattle.tree.proofs.Stepping.{four}
+use Rattle.tree.proofs.Calling.{four}
 use Rattle.tree.proofs.fresh.Statement.{statement}
 use Rattle.tree.proofs.fresh.Tie as tie
+
+-- the table, seen from the test of its length
+abbrev table : tie.After-has-table-length → List ℕ
+table c = now (c .before .before .before .args .t)
 
 has-table-length-requires : tie.Need-has-table-length-requires
 has-table-length-requires c κs = search needs
@@ -19,15 +25,15 @@ same-length c = search needs
 returns : tie.Need-returns
 unfolding fresh-number fresh-table
 returns c =
-    let e : sized (now (c .before .before .before .before .args .t)) ≡ false = sym (c .before .has-table-length .ensures) ∙ not-true _ (c .if1 .taken) in
+    let e : sized (table (c .before)) ≡ false = sym (c .before .has-table-length .ensures) ∙ not-true _ (c .if1 .taken) in
     (rw e refl, rw e refl)
 
 -- the length is that of a table
-long : (c : tie.Else1) → sized (now (c .before .before .before .before .args .t)) ≡ true
+long : (c : tie.Else1) → sized (table (c .before)) ≡ true
 long c = sym (c .before .has-table-length .ensures) ∙ not-false _ (c .if1 .left)
 
 write-fresh-requires : tie.Need-write-fresh-requires
-write-fresh-requires c κs = four (now (c .before .before .before .before .before .args .t)) (long (c .before))
+write-fresh-requires c κs = four (table (c .before .before)) (long (c .before))
 
 same-length-2 : tie.Need-same-length-2
 same-length-2 c = search needs

@@ -1,9 +1,10 @@
 -- `tree_crossing::any_edge_crosses` meets its contract: no edge passed crosses the round. Assumes nothing.
-use mathlib.Core.Path.{_≡_, refl, sym, _∙_}
+use mathlib.Core.Path.{_≡_, sym, _∙_}
 use Prim.Native.Nat.{_-_}
 use native.Mathlib.Omega.{arith}
 use borrow.Author.Needs.{needs}
 use denote.Ref.{now}
+use Rattle.tree_theory.specs.Machine.{crosses}
 use Rattle.tree_theory.specs.Table.{row}
 use Rattle.tree_theory.specs.Check.{edge-over}
 use Rattle.tree_table.proofs.Rows.{Scanned, scan-start, scan-more, scan-hit, scan-end}
@@ -17,7 +18,7 @@ abbrev μ-loop : tie.MeasureT-loop
 μ-loop t n d i₀ i = n - i
 
 loop-holds : tie.Need-loop-holds Inv-loop μ-loop
-loop-holds c = scan-start _ _ _
+loop-holds c = scan-start
 
 round-at-requires : tie.Need-round-at-requires Inv-loop μ-loop
 round-at-requires c κs = omega arith
@@ -28,15 +29,21 @@ parent-at-requires c κs = omega arith
 crosses-requires : tie.Need-crosses-requires Inv-loop μ-loop
 crosses-requires c κs = search needs
 
+-- the turn of a row
+abbrev turn : tie.After-crosses Inv-loop μ-loop → tie.In-loop Inv-loop μ-loop
+turn c = c .before .before .before
+
 -- what was asked is whether the row's own edge crosses
 asked : (c : tie.After-crosses Inv-loop μ-loop) →
-    let l = c .before .before .before .before in
+    let l = turn c .before in
     edge-over (l .before .before .args .c) (row (now (l .before .before .args .t)) (l .loop .i)) ≡ c .crosses .result
-asked c = sym (c .crosses .ensures ∙ rw (c .before .before .round-at .ensures, c .before .parent-at .ensures) refl)
+asked c =
+    let o = c .before .before in
+    sym (c .crosses .ensures ∙ (λ j. crosses (o .round-at .ensures j) (c .before .parent-at .ensures j) (turn c .before .before .before .args .c)))
 
 returns : tie.Need-returns Inv-loop μ-loop
 returns c =
-    let t = c .before .before .before .before in
+    let t = turn (c .before) in
     sym (scan-hit (t .before .loop .inv) (t .loop-test .taken) (asked (c .before) ∙ c .if1 .taken))
 
 add-i : tie.Need-add-i Inv-loop μ-loop
@@ -47,7 +54,7 @@ loop-less c = omega arith
 
 loop-again : tie.Need-loop-again Inv-loop μ-loop
 loop-again c =
-    let t = c .before .before .before .before in
+    let t = turn (c .before) in
     scan-more (t .before .loop .inv) (t .loop-test .taken) (asked (c .before) ∙ c .if1 .left)
 
 returns-2 : tie.Need-returns-2 Inv-loop μ-loop

@@ -5,7 +5,7 @@ use native.Mathlib.Omega.{arith}
 use lib.ListN.{length}
 use borrow.Author.Needs.{needs}
 use denote.Ref.{now}
-use Rattle.tree_crossing.specs.Crossed.{strike-crossed}
+use Rattle.tree_theory.specs.Machine.{strike-crossed}
 use Rattle.tree_table.proofs.Rows.{Passed, pass-none, pass-end}
 use Rattle.tree_crossing.proofs.Striking.{struck-more}
 use Rattle.tree_crossing.proofs.strike.Statement.{statement}
@@ -34,7 +34,8 @@ loop-again c =
     let a = c .before .before .before .before .before .before .before .args in
     let l = c .before .before .before .before .before .loop in
     let h : 4 * l .i + 4 ≤ length (now (a .t)) = omega arith in
-    (omega arith, c .before .before .strike-row .kept .0 ∙ l .inv .1, struck-more (a .r) (a .p) (now (a .t)) (l .i) (l .t) _ (l .inv .2) h (c .before .before .strike-row .ensures))
+    let w = c .before .before in
+    (omega arith, w .strike-row .kept .0 ∙ l .inv .1, struck-more (a .r) (a .p) (now (a .t)) (l .i) (l .t) _ (l .inv .2) h (w .strike-row .ensures))
 
 same-length : tie.Need-same-length Inv-loop μ-loop
 same-length c = c .before .loop .inv .1

@@ -56,7 +56,8 @@ returns c =
     let e1 : 4 * a .i + 1 ≡ suc (4 * a .i) = omega arith in
     let e2 : 4 * a .i + 2 ≡ suc (suc (4 * a .i)) = omega arith in
     let e3 : 4 * a .i + 3 ≡ suc (suc (suc (4 * a .i))) = omega arith in
-    rw (e1, e2, e3) (sets-eq (a .r ∷ a .p ∷ a .v ∷ a .s ∷ []) ws (4 * a .i) (c .pre) ∙ append-assoc (take (4 * a .i) ws) (a .r ∷ a .p ∷ a .v ∷ a .s ∷ []) (drop (4 * a .i + 4) ws))
+    let put = a .r ∷ a .p ∷ a .v ∷ a .s ∷ [] in
+    rw (e1, e2, e3) (sets-eq put ws (4 * a .i) (c .pre) ∙ append-assoc (take (4 * a .i) ws) put (drop (4 * a .i + 4) ws))
 
 pub put-row-spec : {M : Type 1} → statement M
 put-row-spec =

@@ -1,44 +1,39 @@
 -- `crate::rows::round_fits` meets its contract: each return goes by the tests that led there. Assumes nothing.
-use mathlib.Core.Path.{_≡_, refl, sym, _∙_}
-use Prim.Native.Nat.{_≤_, _<_}
-use native.Mathlib.Omega.{arith}
+use mathlib.Core.Path.{_≡_, refl, sym, ap, _∙_}
+use mathlib.Core.Bool.{not}
 use borrow.Author.Needs.{needs}
-use borrow.Author.Tests.{eq-eqb, ne-eqb, lt-ltb, le-ltb}
+use borrow.Author.Tests.{not-true, not-false}
 use denote.Ref.{now}
+use Rattle.ids.specs.Ranges.{out-of-range}
 use Rattle.tree_theory.specs.Table.{row}
-use Rattle.tree_table.proofs.Rows.{found-absent}
+use Rattle.tree_table.proofs.Rows.{index-absent}
 use Rattle.tree_check.proofs.rows.round_fits.Statement.{statement}
 use Rattle.tree_check.proofs.rows.round_fits.Tie as tie
 
 round-at-requires : tie.Need-round-at-requires
 round-at-requires c κs = search needs
 
-returns : tie.Need-returns
-returns c =
+number-in-range-requires : tie.Need-number-in-range-requires
+number-in-range-requires c κs = search needs
+
+-- what was asked of the range was asked of the row's own round
+ranged : (c : tie.After-number-in-range) →
     let a = c .before .before .before .args in
-    let e : row (now (a .t)) (a .i) .round ≡ 0 = sym (c .before .round-at .ensures) ∙ c .if1 .taken in
-    rw (eq-eqb _ _ e) refl
+    not (out-of-range (row (now (a .t)) (a .i) .round)) ≡ c .number-in-range .result
+ranged c = ap (λ r. not (out-of-range r)) (sym (c .before .round-at .ensures)) ∙ sym (c .number-in-range .ensures)
 
-cast-if2 : tie.Need-cast-if2
-cast-if2 c = search needs
-
-returns-2 : tie.Need-returns-2
-returns-2 c =
-    let a = c .before .before .before .before .args in
-    let e : row (now (a .t)) (a .i) .round ≡ 0 → ⊥ = λ q. c .before .if1 .left (c .before .before .round-at .ensures ∙ q) in
-    let h : 1000000 < row (now (a .t)) (a .i) .round = omega arith in
-    rw (ne-eqb _ _ e, lt-ltb _ _ h) refl
+returns : tie.Need-returns
+returns c = rw (ranged (c .before) ∙ not-true _ (c .if1 .taken)) refl
 
 find-row-requires : tie.Need-find-row-requires
 find-row-requires c κs = search needs
 
-returns-3 : tie.Need-returns-3
-returns-3 c =
+returns-2 : tie.Need-returns-2
+returns-2 c =
     let b = c .before .before in
-    let a = b .before .before .before .args in
-    let e : row (now (a .t)) (a .i) .round ≡ 0 → ⊥ = λ q. b .if1 .left (b .before .round-at .ensures ∙ q) in
-    let h : row (now (a .t)) (a .i) .round ≤ 1000000 = omega arith in
-    rw (ne-eqb _ _ e, le-ltb _ _ h, ← (b .before .round-at .ensures)) (found-absent (c .find-row .ensures))
+    let o = b .before in
+    let a = o .before .before .args in
+    rw (ranged b ∙ not-false _ (c .before .if1 .left), ← (o .round-at .ensures)) (index-absent (now (a .t)) (a .i) (o .round-at .result) (c .find-row .ensures))
 
 pub round-fits-spec : {M : Type 1} → statement M
-round-fits-spec = tie.close (tie.spec round-at-requires returns cast-if2 returns-2 find-row-requires returns-3)
+round-fits-spec = tie.close (tie.spec round-at-requires number-in-range-requires returns find-row-requires returns-2)

@@ -17,12 +17,16 @@ round-at-requires c κs = search needs
 any-edge-crosses-requires : tie.Need-any-edge-crosses-requires
 any-edge-crosses-requires c κs = search needs
 
+-- where the code began
+abbrev begun : tie.After-any-edge-crosses → tie.Start
+begun c = c .before .before .before .before
+
 -- what was asked of the edges was asked of the row's own round
 crossing : (c : tie.After-any-edge-crosses) →
-    let a = c .before .before .before .before .args in
+    let a = begun c .args in
     crossed (row (now (a .t)) (a .i) .round) (rows-of (now (a .t)) (a .n)) ≡ c .any-edge-crosses .result
 crossing c =
-    let a = c .before .before .before .before .args in
+    let a = begun c .args in
     ap (λ q. crossed q (rows-of (now (a .t)) (a .n))) (sym (c .before .round-at .ensures)) ∙ sym (c .any-edge-crosses .ensures)
 
 returns : tie.Need-returns

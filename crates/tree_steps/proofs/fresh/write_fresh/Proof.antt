@@ -51,7 +51,8 @@ returns : tie.Need-returns Inv-loop μ-loop
 returns c =
     let s = c .before .before in
     let e = s .before .before in
-    s .set-status .ensures ∙ ap (λ l. set l 3 COMMITTED) (zeroed-all _ _ _ (e .before .loop .inv) (e .loop-test .left)) ∙ root-put _ (e .before .before .before .pre)
+    let zeros = zeroed-all _ _ _ (e .before .loop .inv) (e .loop-test .left) in
+    s .set-status .ensures ∙ ap (λ l. set l 3 COMMITTED) zeros ∙ root-put _ (e .before .before .before .pre)
 
 pub write-fresh-spec : {M : Type 1} → statement M
 write-fresh-spec =

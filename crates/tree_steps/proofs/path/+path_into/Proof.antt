@@ -38,9 +38,25 @@ module _ (m : ℕ) where
     path-into.Post,
   )
 
+  -- where the code began, seen from each place that looks back at it
+  abbrev start : lts.Else1 callees asked path-into.Post → lts.Start callees asked path-into.Post
+  start c = c .before .before .before
+
+  abbrev from-root : lts.Then1 callees asked path-into.Post → lts.Start callees asked path-into.Post
+  from-root c = c .before .before .before
+
+  abbrev from-found : lts.After-find-row callees asked path-into.Post → lts.Start callees asked path-into.Post
+  from-found c = start (c .before)
+
+  abbrev from-read : lts.After-parent-at callees asked path-into.Post → lts.Start callees asked path-into.Post
+  from-read c = from-found (c .before)
+
+  abbrev read : lts.After-path-into callees asked path-into.Post → lts.After-parent-at callees asked path-into.Post
+  read c = c .before .before
+
   returns : lts.Need-returns callees asked path-into.Post
   returns c =
-      let a = c .before .before .before .before .args in
+      let a = from-root (c .before) .args in
       rw (c .before .if1 .taken) (root-short (now (a .t)) (a .behind) (now (a .out)) (c .if2 .taken))
 
   slice-write-out : lts.Need-slice-write-out callees asked path-into.Post
@@ -51,40 +67,40 @@ module _ (m : ℕ) where
 
   returns-2 : lts.Need-returns-2 callees asked path-into.Post
   returns-2 c =
-      let a = c .before .before .before .before .args in
+      let a = from-root (c .before) .args in
       rw (c .before .if1 .taken) (root-written (now (a .t)) (a .behind) (now (a .out)) (c .if2 .left))
 
   find-row-requires : lts.Need-find-row-requires callees asked path-into.Post
   find-row-requires c κs =
-      let s = c .before .before .before in
+      let s = start c in
       omega (arith, s .pre .1 .rows-are, used-rows (now (s .args .t)))
 
   -- r isn't the root
-  behind-root : (c : lts.Else1 callees asked path-into.Post) → 0 < c .before .before .before .args .r
+  behind-root : (c : lts.Else1 callees asked path-into.Post) → 0 < start c .args .r
   behind-root c = omega (arith, c .if1 .left)
 
   -- the row found is that of r
   found : (c : lts.After-find-row callees asked path-into.Post) →
-      let a = c .before .before .before .before .args in
+      let a = from-found c .args in
       (c .find-row .result < used (now (a .t))) × (find (a .r) (nodes (now (a .t))) ≡ row (now (a .t)) (c .find-row .result))
-  found c = row-found (c .before .before .before .before .pre .1) (behind-root (c .before)) (c .find-row .ensures)
+  found c = row-found (from-found c .pre .1) (behind-root (c .before)) (c .find-row .ensures)
 
   parent-at-requires : lts.Need-parent-at-requires callees asked path-into.Post
-  parent-at-requires c κs = omega (arith, found c .0, used-rows (now (c .before .before .before .before .args .t)))
+  parent-at-requires c κs = omega (arith, found c .0, used-rows (now (from-found c .args .t)))
 
   -- what was read there is its parent
   parent-is : (c : lts.After-parent-at callees asked path-into.Post) →
-      let a = c .before .before .before .before .before .args in
+      let a = from-read c .args in
       c .parent-at .result ≡ find (a .r) (nodes (now (a .t))) .parent
   parent-is c = c .parent-at .ensures ∙ ap (λ (n : Node). n .parent) (sym (found (c .before) .1))
 
   add-path-into : lts.Need-add-path-into callees asked path-into.Post
-  add-path-into c = omega (arith, c .before .before .before .before .before .before .pre .1 .short)
+  add-path-into c = omega (arith, from-read (c .before) .pre .1 .short)
 
   path-into-requires : lts.Need-path-into-requires callees asked path-into.Post
   path-into-requires c κs =
       let q = c .before in
-      let s = q .before .before .before .before .before in
+      let s = from-read q in
       let P = s .pre .1 in
       let pos = behind-root (q .before .before) in
       (rw (← (s .pre .0)) (parent-lower P pos (parent-is q)), parent-of P pos (parent-is q))
@@ -95,16 +111,17 @@ module _ (m : ℕ) where
   returns-3 : lts.Need-returns-3 callees asked path-into.Post
   returns-3 c =
       let w = c .before .before .before in
-      let q = w .before .before in
-      climbed-short (q .before .before .before .before .before .pre .1) (behind-root (q .before .before)) (parent-is q) (w .path-into .ensures) (c .if3 .taken)
+      let q = read w in
+      climbed-short (from-read q .pre .1) (behind-root (q .before .before)) (parent-is q) (w .path-into .ensures) (c .if3 .taken)
 
   -- the parent's path was written, and there is a word for r
   room : (c : lts.Else3 callees asked path-into.Post) →
-      c .before .before .before .path-into .result < length (now (c .before .before .before .before .before .before .before .before .before .before .args .out))
+      let w = c .before .before .before in
+      w .path-into .result < length (now (from-read (read w) .args .out))
   room c =
       let w = c .before .before .before in
-      let q = w .before .before in
-      climbed-room (q .before .before .before .before .before .pre .1) (behind-root (q .before .before)) (parent-is q) (w .path-into .ensures) (c .if3 .left)
+      let q = read w in
+      climbed-room (from-read q .pre .1) (behind-root (q .before .before)) (parent-is q) (w .path-into .ensures) (c .if3 .left)
 
   mul-out : lts.Need-mul-out callees asked path-into.Post
   mul-out c = omega (arith, room c)
@@ -121,8 +138,8 @@ module _ (m : ℕ) where
   returns-4 : lts.Need-returns-4 callees asked path-into.Post
   returns-4 c =
       let w = c .before .before .before in
-      let q = w .before .before in
-      climbed (q .before .before .before .before .before .pre .1) (behind-root (q .before .before)) (parent-is q) (w .path-into .ensures) (c .if3 .left)
+      let q = read w in
+      climbed (from-read q .pre .1) (behind-root (q .before .before)) (parent-is q) (w .path-into .ensures) (c .if3 .left)
 
 pub +path-into-spec : {M : Type 1} → statement M
 +path-into-spec = close μ-path-into λ m. lts.spec (callees m) (asked m) path-into.Post

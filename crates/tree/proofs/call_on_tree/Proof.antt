@@ -1,0 +1,38 @@
+-- `tree::call_on_tree` meets its contract: the number is the plan's, and the table is changed only where it is OK. Assumes nothing.
+use borrow.Author.Needs.{needs}
+use Rattle.tree.proofs.Calling.{refused, done}
+use Rattle.tree.proofs.call_on_tree.Statement.{statement}
+use Rattle.tree.proofs.call_on_tree.Tie as tie
+
+-- where the code began, seen from its plan
+abbrev begun : tie.After-plan-call → tie.Start
+begun c = c .before .before .before
+
+plan-call-requires : tie.Need-plan-call-requires
+plan-call-requires c κs = search needs
+
+write-call-requires : tie.Need-write-call-requires
+write-call-requires c κs = let b = c .before in b .before .before .plan-call .ensures .fits (b .if1 .taken)
+
+same-length : tie.Need-same-length
+same-length c = search needs
+
+returns : tie.Need-returns
+returns c =
+    let w = c .before .before in
+    let b = w .before .before in
+    let q = b .before .before in
+    let s = begun q in
+    done (s .pre .0) (s .pre .1) (q .plan-call .ensures) (b .if1 .taken) (w .write-call .ensures)
+
+same-length-2 : tie.Need-same-length-2
+same-length-2 c = search needs
+
+returns-2 : tie.Need-returns-2
+returns-2 c =
+    let q = c .before .before in
+    let s = begun q in
+    refused (s .pre .0) (s .pre .1) (q .plan-call .ensures) (c .if1 .left)
+
+pub call-on-tree-spec : {M : Type 1} → statement M
+call-on-tree-spec = tie.close (tie.spec plan-call-requires write-call-requires same-length returns same-length-2 returns-2)

@@ -1,2 +1,0 @@
--- Rows that an edge crosses.
-pub mod Crossed

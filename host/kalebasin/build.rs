@@ -1,0 +1,33 @@
+//! Links the archive of the proved core, if the feature `core` asks for it. Where the archive is missing, what doesn't
+//! link (`cargo check`, `cargo doc`) still works.
+
+use std::env;
+use std::path::PathBuf;
+
+fn main() {
+    println!("cargo:rerun-if-changed=build.rs");
+    println!("cargo:rerun-if-env-changed=KALEBASIN_LIB");
+    if env::var_os("CARGO_FEATURE_CORE").is_none() {
+        return;
+    }
+    let folder = archive_folder();
+    let archive = folder.join("libexports.a");
+    println!("cargo:rerun-if-changed={}", archive.display());
+    println!("cargo:rustc-link-search=native={}", folder.display());
+    println!("cargo:rustc-link-lib=static=exports");
+    if !archive.is_file() {
+        println!("cargo:warning=the archive of the proved core isn't there, so nothing links: {}", archive.display());
+        println!("cargo:warning=build it at the repository's root with `rt staticlib exports`,");
+        println!("cargo:warning=or name the folder that holds libexports.a in KALEBASIN_LIB,");
+        println!("cargo:warning=or leave the core out with `--no-default-features`");
+    }
+}
+
+/// KALEBASIN_LIB, or the repository's target/staticlib.
+fn archive_folder() -> PathBuf {
+    if let Some(folder) = env::var_os("KALEBASIN_LIB") {
+        return PathBuf::from(folder);
+    }
+    let package = PathBuf::from(env::var_os("CARGO_MANIFEST_DIR").expect("cargo sets CARGO_MANIFEST_DIR"));
+    package.ancestors().nth(2).unwrap_or(&package).join("target").join("staticlib")
+}

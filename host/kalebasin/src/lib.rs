@@ -1,0 +1,46 @@
+//! The host side of Kalebasin, the proved core of an office vault that keeps shared passwords on three, five or seven
+//! machines.
+//!
+//! The core runs a list of events over a whole office: members start rounds, and messages reach members in any order,
+//! any number of times or never. It answers each event, keeps the messages sent, and leaves a quorum tree of what was
+//! proposed and decided. That the decided values are all equal is proved.
+//!
+//! # Calling the core
+//!
+//! Build an [`EventList`], lend [`play`] the memory it works in, and read what it left:
+//! the answers by [`Refusal::from_number`], the messages by [`sent`] and [`read_message`], the tree by [`nodes`].
+//! `examples/office.rs` is a program to start from. These functions need the feature `core` (on by default) and the
+//! archive of the core; without the feature the rest of this crate is still there.
+//!
+//! # Beside the core
+//!
+//! - [`notation`]: lists as people write them
+//! - `ffi`: the C functions, as the archive has them
+//!
+//! "Document 01" is the product's scope document; its numbers and terms are used throughout.
+
+#![deny(missing_docs)]
+#![cfg_attr(not(feature = "core"), allow(rustdoc::broken_intra_doc_links))]
+
+mod event;
+#[cfg(feature = "core")]
+pub mod ffi;
+mod ids;
+mod message;
+mod node;
+pub mod notation;
+mod played;
+#[cfg(feature = "core")]
+mod proved;
+mod refusal;
+mod store;
+
+pub use event::{Event, EventList};
+pub use ids::{Member, MessageNumber, Round};
+pub use message::{Message, Vote};
+pub use node::{nodes, Node, Status};
+pub use played::{Played, STORE_ROW, STORE_ROWS, TABLE_ROW, TABLE_ROWS};
+#[cfg(feature = "core")]
+pub use proved::{play, read_message, tree_add, tree_commit, tree_fresh, tree_path};
+pub use refusal::{number_of, NoRefusal, Refusal};
+pub use store::sent;

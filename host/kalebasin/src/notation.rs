@@ -1,0 +1,164 @@
+//! The rig's notation: events `s(member,round,offer)` and `d(message,member)`, with the number of members in front as
+//! `n=5`, or 3 members where that is left out. Blanks and line feeds may stand between any two parts; `#` starts a
+//! comment that runs to the end of its line.
+//!
+//! ```
+//! use kalebasin::notation::parse;
+//!
+//! let list = parse("n=5 s(1,1,70)\n# to member 0\nd(0, 0)", None).unwrap();
+//! assert_eq!(list.to_string(), "n=5 s(1,1,70) d(0,0)");
+//! assert_eq!(parse("s(1,1,70) d(0,0)", None).unwrap().to_string(), "n=3 s(1,1,70) d(0,0)");
+//! let mistake = parse("n=3\ns(1,x,70)", None).unwrap_err();
+//! assert_eq!(mistake.to_string(), "line 2, column 5: a round number is missing here");
+//! ```
+
+use crate::{Event, EventList, Member, MessageNumber, Round};
+use std::fmt;
+use std::str::FromStr;
+
+/// Where notation goes wrong, and how. Lines and columns count from 1.
+#[derive(Clone, Debug, PartialEq, Eq, Hash)]
+pub struct Mistake {
+    /// The line.
+    pub line: usize,
+    /// The column, in characters.
+    pub column: usize,
+    /// What is wrong there.
+    pub what: String,
+}
+
+impl fmt::Display for Mistake {
+    fn fmt(&self, f: &mut fmt::Formatter) -> fmt::Result {
+        write!(f, "line {}, column {}: {}", self.line, self.column, self.what)
+    }
+}
+
+impl std::error::Error for Mistake {}
+
+/// The members of a list of which nothing says how many: those of document 01's rehearsal.
+pub const MEMBERS: u32 = 3;
+
+/// The list that some notation says. `members` stands in for a missing `n=`, and has to agree with one that is there;
+/// where there is neither, the list is for [`MEMBERS`].
+pub fn parse(text: &str, members: Option<u32>) -> Result<EventList, Mistake> {
+    let mut reader = Reader { rest: text, line: 1, column: 1 };
+    let mut list = EventList::new(head(&mut reader, members)?);
+    while let Some(event) = event(&mut reader)? {
+        list.events.push(event);
+    }
+    Ok(list)
+}
+
+/// `n=5`, or the number of members from elsewhere.
+fn head(reader: &mut Reader, members: Option<u32>) -> Result<u32, Mistake> {
+    reader.skip_blanks();
+    let before = reader.clone();
+    if !reader.take('n') {
+        return Ok(members.unwrap_or(MEMBERS));
+    }
+    reader.expect('=', "after n")?;
+    let n = reader.number("number of members")?;
+    match members {
+        Some(other) if other != n => Err(before.mistake(&format!("n={n}, but {other} members were asked for"))),
+        _ => Ok(n),
+    }
+}
+
+fn event(reader: &mut Reader) -> Result<Option<Event>, Mistake> {
+    reader.skip_blanks();
+    match reader.rest.chars().next() {
+        None => Ok(None),
+        Some('s') => {
+            reader.take('s');
+            reader.expect('(', "after s")?;
+            let member = Member(reader.number("member number")?);
+            reader.expect(',', "after the member number")?;
+            let round = Round(reader.number("round number")?);
+            reader.expect(',', "after the round number")?;
+            let offer = reader.number("offer")?;
+            reader.expect(')', "after the offer")?;
+            Ok(Some(Event::Start { member, round, offer }))
+        }
+        Some('d') => {
+            reader.take('d');
+            reader.expect('(', "after d")?;
+            let message = MessageNumber(reader.number("message number")?);
+            reader.expect(',', "after the message number")?;
+            let member = Member(reader.number("member number")?);
+            reader.expect(')', "after the member number")?;
+            Ok(Some(Event::Deliver { message, member }))
+        }
+        Some('n') => Err(reader.mistake("n= stands once, in front of the events")),
+        Some(other) => Err(reader.mistake(&format!("an event starts with s( or d(, not with {other:?}"))),
+    }
+}
+
+/// What is left to read, and where that is.
+#[derive(Clone)]
+struct Reader<'a> {
+    rest: &'a str,
+    line: usize,
+    column: usize,
+}
+
+impl Reader<'_> {
+    fn mistake(&self, what: &str) -> Mistake {
+        Mistake { line: self.line, column: self.column, what: what.to_string() }
+    }
+
+    fn step(&mut self) {
+        let mut chars = self.rest.chars();
+        match chars.next() {
+            Some('\n') => {
+                self.line += 1;
+                self.column = 1;
+            }
+            Some(_) => self.column += 1,
+            None => {}
+        }
+        self.rest = chars.as_str();
+    }
+
+    fn skip_blanks(&mut self) {
+        let mut in_comment = false;
+        while let Some(next) = self.rest.chars().next() {
+            in_comment = next != '\n' && (in_comment || next == '#');
+            if !in_comment && !next.is_whitespace() {
+                break;
+            }
+            self.step();
+        }
+    }
+
+    fn take(&mut self, wanted: char) -> bool {
+        let there = self.rest.starts_with(wanted);
+        if there {
+            self.step();
+        }
+        there
+    }
+
+    fn expect(&mut self, wanted: char, place: &str) -> Result<(), Mistake> {
+        self.skip_blanks();
+        if self.take(wanted) {
+            Ok(())
+        } else {
+            Err(self.mistake(&format!("{wanted} is missing {place}")))
+        }
+    }
+
+    fn number<T: FromStr>(&mut self, what: &str) -> Result<T, Mistake> {
+        self.skip_blanks();
+        let before = self.clone();
+        while self.rest.starts_with(|next: char| next.is_ascii_digit()) {
+            self.step();
+        }
+        let digits = &before.rest[..before.rest.len() - self.rest.len()];
+        if digits.is_empty() {
+            let article = if what.starts_with('o') { "an" } else { "a" };
+            return Err(before.mistake(&format!("{article} {what} is missing here")));
+        }
+        let bits = 8 * size_of::<T>();
+        digits.parse().map_err(|_| before.mistake(&format!("the {what} {digits} doesn't fit into {bits} bits")))
+    }
+}

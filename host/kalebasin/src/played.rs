@@ -1,0 +1,26 @@
+//! What play counts, and the sizes of the memory lent to it.
+
+use crate::Message;
+
+/// What an accepted play counted. Play is accepted even if each of its events is refused. Later versions count more.
+#[derive(Clone, Copy, Debug, Default, PartialEq, Eq, Hash)]
+#[non_exhaustive]
+pub struct Played {
+    /// Events with the answer 0.
+    pub accepted: u32,
+    /// Rows of the store that hold a message.
+    pub messages: u32,
+    /// Nodes of the tree beside the root.
+    pub proposals: u32,
+    /// COMMITTED nodes beside the root.
+    pub decisions: u32,
+}
+
+/// The bytes of a row of the store.
+pub const STORE_ROW: usize = Message::LONGEST;
+/// The most rows of a store.
+pub const STORE_ROWS: usize = 2_000;
+/// The words of a row of the table.
+pub const TABLE_ROW: usize = 4;
+/// The most rows of a table, the root's among them.
+pub const TABLE_ROWS: usize = 256;

@@ -1,0 +1,117 @@
+//! The types that a host sees: lists from notation and from events, refusals from numbers, and numbers of every size.
+
+use kalebasin::{nodes, notation, sent, Event, EventList, Member, Message, MessageNumber, NoRefusal, Refusal, Round};
+use kalebasin::{Status, Vote};
+use std::collections::HashSet;
+
+#[test]
+fn lists_from_notation() {
+    assert_eq!("n=5 s(1,1,70) d(0,2)".parse(), notation::parse("n=5 s(1,1,70) d(0,2)", None));
+    assert_eq!("d(0,2)".parse::<EventList>().map(|list| list.n), Ok(notation::MEMBERS));
+    let mistake = "n=3\ns(1;1,70)".parse::<EventList>().unwrap_err();
+    assert_eq!((mistake.line, mistake.column), (2, 4));
+}
+
+#[test]
+fn lists_from_events() {
+    let events = [Event::start(Member(1), Round(1), 70), Event::deliver(MessageNumber(0), Member(2))];
+    let mut built = EventList::new(3);
+    built.start(Member(1), Round(1), 70).deliver(MessageNumber(0), Member(2));
+    assert_eq!(events.into_iter().collect::<EventList>(), built);
+    let mut extended = EventList::new(7);
+    extended.extend(events);
+    extended.extend(events);
+    assert_eq!(extended.to_string(), "n=7 s(1,1,70) d(0,2) s(1,1,70) d(0,2)");
+}
+
+#[test]
+fn refusals_from_numbers() {
+    for number in (0..1_000).chain([u32::MAX]) {
+        assert_eq!(Refusal::try_from(number).ok(), Refusal::from_number(number));
+        assert_eq!(Refusal::try_from(number).map_or_else(|none| none.0, u32::from), number);
+    }
+    assert_eq!(Refusal::try_from(19), Ok(Refusal::NotLeader));
+    assert_eq!(Refusal::try_from(0), Err(NoRefusal(0)));
+    assert_eq!(NoRefusal(31).to_string(), "31 isn't the number of a refusal");
+}
+
+/// What is equal counts once in a set.
+#[test]
+fn values_in_sets() {
+    let lists: HashSet<EventList> =
+        ["s(1,1,70)", "n=3 s(1,1,70)", "n=5 s(1,1,70)"].map(|text| text.parse().unwrap()).into();
+    assert_eq!(lists.len(), 2);
+    let table = [0, 0, 0, 3, 1, 0, 70, 1, 0, 0, 0, 0];
+    assert_eq!(nodes(&table).chain(nodes(&table)).collect::<HashSet<_>>().len(), 2);
+}
+
+const NUMBERS: [u32; 12] = [0, 1, 2, 3, 6, 7, 8, 999_999, 1_000_000, 1_000_001, u32::MAX - 1, u32::MAX];
+
+/// No number makes a function panic: neither an argument nor a byte or word of what it reads.
+#[test]
+fn numbers_of_every_size() {
+    for number in NUMBERS {
+        for n in NUMBERS {
+            let leader = Round(number).leader(n);
+            assert_eq!(leader.is_none(), n == 0);
+            assert!(leader.is_none_or(|leader| leader.0 < n));
+            let mut list = EventList::new(n);
+            list.start(Member(number), Round(number), u64::MAX).deliver(MessageNumber(number), Member(number));
+            assert_eq!(EventList::from_bytes(&list.to_bytes()).as_ref(), Ok(&list));
+            assert_eq!(list.to_string().parse().as_ref(), Ok(&list));
+        }
+        assert_eq!(Round(number).in_range(), (1..=1_000_000).contains(&number));
+        let (round, sender) = (Round(number), Member(number));
+        for message in [
+            Message::start(round, sender),
+            Message::join(round, sender, Some(Vote { round, value: u64::MAX })),
+            Message::propose(round, sender, u64::MAX),
+            Message::vote(round, sender),
+        ] {
+            assert_eq!((message.round(), message.sender()), (round, sender));
+            assert!(message.to_string().starts_with(message.kind()));
+        }
+        for length in 0..=3 * 28 {
+            assert!(sent(&vec![0xff; length], number).count() <= length / 28);
+            assert!(sent(&vec![0; length], number).all(|bytes| bytes.len() <= 28));
+        }
+    }
+    for word in [0, 1, 2, 3, 4, 1 << 32, u64::MAX] {
+        assert_eq!(Status::from_word(word).is_some(), (1..=3).contains(&word));
+        for length in 0..=13 {
+            assert!(nodes(&vec![word; length]).count() <= length / 4);
+        }
+    }
+}
+
+/// The same of the calls into the core.
+#[cfg(feature = "core")]
+#[test]
+fn calls_with_numbers_of_every_size() {
+    use kalebasin::{play, read_message, tree_add, tree_commit, tree_fresh, tree_path};
+    for length in 0..=13 {
+        let mut fresh = vec![9; length];
+        let is_table = [4, 8, 12].contains(&length);
+        assert_eq!(tree_fresh(&mut fresh).is_ok(), is_table);
+        for (table, is_tree) in [(&fresh, is_table), (&vec![u64::MAX; length], false)] {
+            for round in NUMBERS.map(Round) {
+                for parent in NUMBERS.map(Round) {
+                    let added = tree_add(&mut table.clone(), round, u64::MAX, parent).is_ok();
+                    assert_eq!(added, is_tree && length > 4 && round.in_range() && parent == Round::ROOT);
+                }
+                assert!(tree_commit(&mut table.clone(), round).is_err());
+                assert_eq!(tree_path(table, round, &mut [0; 2]).is_ok(), is_tree && round == Round::ROOT);
+            }
+        }
+    }
+    for number in NUMBERS {
+        for length in 0..=28 {
+            let words: Vec<u8> = number.to_be_bytes().into_iter().cycle().take(length).collect();
+            assert_eq!(read_message(&words).is_ok(), [(1, 12), (3, 20)].contains(&(number, length)), "{words:?}");
+            let mut list = EventList::new(number);
+            list.start(Member(number), Round(number), u64::MAX).deliver(MessageNumber(number), Member(number));
+            let played = play(&list.to_bytes(), &mut vec![9; length], &mut [9; 8], &mut vec![9; length]);
+            assert_eq!(played.is_ok(), [3, 7].contains(&number) && length == 28);
+        }
+    }
+}

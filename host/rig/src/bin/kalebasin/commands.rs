@@ -1,0 +1,211 @@
+//! What each command does.
+
+use crate::input::{judge, list, list_bytes, list_in_notation, list_of, list_refused, message_bytes};
+use crate::options::Options;
+use crate::search;
+use crate::stop::{Stop, REFUSED};
+use kalebasin::{EventList, Refusal};
+use kalebasin_rig::compare::{self, Left};
+use kalebasin_rig::generate::Case;
+use kalebasin_rig::rehearsal::{REHEARSAL_STORE_ROWS, REHEARSAL_TABLE_ROWS};
+use kalebasin_rig::search::clean_case;
+use kalebasin_rig::timeline::timeline;
+use kalebasin_rig::trace::{trace, Happened};
+use kalebasin_rig::{draw, explain, json, page, rehearsal};
+use kalebasin_rig::{second, Calls};
+use std::ffi::OsStr;
+use std::fs;
+use std::io::Write;
+use std::path::Path;
+use std::process::ExitCode;
+
+/// The status of a command that came to its end, or why it didn't.
+pub type Outcome = Result<ExitCode, Stop>;
+
+/// Does what is asked for and writes to `out`.
+pub fn run(options: &Options, out: &mut dyn Write) -> Outcome {
+    match options.command.name {
+        "run" => run_list(options, out),
+        "draw" => draw_list(options, out),
+        "encode" => encode(options, out),
+        "decode" => decode(options, out),
+        "rehearse" => rehearse(options, out),
+        "message" => message(options, out),
+        "search" => search::search(options, out),
+        "compare" => search::compare(options, out),
+        _ => causes(out),
+    }
+}
+
+/// The implementation to work on.
+pub fn calls(options: &Options) -> Calls {
+    #[cfg(feature = "core")]
+    if !options.second {
+        return kalebasin_rig::proved::CALLS;
+    }
+    let _ = options;
+    second::CALLS
+}
+
+/// Success, or the status of a refusal.
+pub fn status(good: bool) -> Outcome {
+    Ok(if good { ExitCode::SUCCESS } else { ExitCode::from(REFUSED) })
+}
+
+fn print(text: impl AsRef<[u8]>, out: &mut dyn Write) -> Outcome {
+    out.write_all(text.as_ref())?;
+    status(true)
+}
+
+/// A list with the memory that is asked for.
+fn case(options: &Options, list: EventList) -> Case {
+    let store_rows = options.store_rows.unwrap_or(REHEARSAL_STORE_ROWS);
+    clean_case(list, store_rows, options.table_rows.unwrap_or(REHEARSAL_TABLE_ROWS))
+}
+
+/// What play leaves of a case that it takes.
+pub fn play(options: &Options, case: &Case) -> Result<Left, Stop> {
+    let bytes = case.list.to_bytes();
+    let left = compare::play(&calls(options), &bytes, &case.lent);
+    match left.result {
+        Ok(_) => Ok(left),
+        Err(refusal) => Err(list_refused(refusal, &bytes)),
+    }
+}
+
+fn run_list(options: &Options, out: &mut dyn Write) -> Outcome {
+    let case = case(options, list(options)?);
+    let left = play(options, &case)?;
+    let (store_rows, table_rows) = case.lent.whole_rows();
+    let (n, name) = (case.list.n, calls(options).name);
+    let as_the_model = if options.json {
+        print_json(&traced(options, &case, &left), out)?
+    } else {
+        writeln!(out, "{n} members, {store_rows} store rows, {table_rows} table rows, on {name}\n")?;
+        explain_run(&case, &left, out)?
+    };
+    write_file(options.dot.as_deref(), || draw::dot(left.table()))?;
+    write_file(options.svg.as_deref(), || draw::svg(left.table()))?;
+    write_file(options.html.as_deref(), || page::page(n, name, &traced(options, &case, &left)))?;
+    status(as_the_model)
+}
+
+/// What happened at each event of a case that was played.
+fn traced(options: &Options, case: &Case, left: &Left) -> Vec<Happened> {
+    let (store_rows, table_rows) = case.lent.whole_rows();
+    trace(&calls(options), &case.list, left.answers(), store_rows, table_rows)
+}
+
+/// An object for each event; whether all answers are those of the model.
+fn print_json(trace: &[Happened], out: &mut dyn Write) -> Result<bool, Stop> {
+    for (at, one) in trace.iter().enumerate() {
+        writeln!(out, "{}", json::event(at, one))?;
+    }
+    Ok(trace.iter().all(Happened::as_the_model))
+}
+
+/// Each event in words, the counts and the tree; whether all answers are those of the model.
+pub fn explain_run(case: &Case, left: &Left, out: &mut dyn Write) -> Result<bool, Stop> {
+    let as_the_model = print_events(case, left.answers(), out)?;
+    print_counts(&case.list, left, out)?;
+    write!(out, "\n{}", draw::text(left.table()))?;
+    Ok(as_the_model)
+}
+
+/// One line for each event; whether all answers are those of the model.
+fn print_events(case: &Case, answers: &[u8], out: &mut dyn Write) -> Result<bool, Stop> {
+    let (store_rows, table_rows) = case.lent.whole_rows();
+    let explained = explain::explain(&case.list, store_rows, table_rows);
+    let width = explained.iter().map(|one| one.event.len()).max().unwrap_or(0);
+    let mut same = true;
+    for (at, (one, answer)) in explained.iter().zip(answers).enumerate() {
+        let number = u32::from(*answer);
+        writeln!(out, "{at:>4}  {:<width$}  {number:>2}  {}", one.event, one.words)?;
+        if number != one.answer {
+            same = false;
+            writeln!(out, "      THE MODEL ANSWERS {}", one.answer)?;
+        }
+    }
+    Ok(same)
+}
+
+fn print_counts(list: &EventList, left: &Left, out: &mut dyn Write) -> Result<(), Stop> {
+    let Ok(played) = left.result else { return Ok(()) };
+    let count = |number: u32, what: &str| format!("{number} {what}{}", if number == 1 { "" } else { "s" });
+    writeln!(
+        out,
+        "\n{} of {} accepted, {}, {}, {}",
+        played.accepted,
+        count(list.events.len() as u32, "event"),
+        count(played.messages, "message"),
+        count(played.proposals, "proposal"),
+        count(played.decisions, "decision")
+    )?;
+    Ok(())
+}
+
+/// Writes a file, if one is asked for.
+fn write_file(file: Option<&OsStr>, text: impl Fn() -> String) -> Result<(), Stop> {
+    match file {
+        Some(file) => fs::write(file, text()).map_err(|error| Stop::file(Path::new(file).display(), &error)),
+        None => Ok(()),
+    }
+}
+
+fn draw_list(options: &Options, out: &mut dyn Write) -> Outcome {
+    let draw: fn(&Options, &Case, &Left) -> String = match options.format.as_str() {
+        "text" => |_, _, left| draw::text(left.table()),
+        "dot" => |_, _, left| draw::dot(left.table()),
+        "svg" => |_, _, left| draw::svg(left.table()),
+        "timeline" => |options, case, left| timeline(case.list.n, &traced(options, case, left)),
+        other => return Err(format!("--format takes text, dot, svg or timeline, not {other}").into()),
+    };
+    let case = case(options, list(options)?);
+    let left = play(options, &case)?;
+    print(draw(options, &case, &left), out)
+}
+
+/// Writes the bytes of any list, and then tells of one that play refuses.
+fn encode(options: &Options, out: &mut dyn Write) -> Outcome {
+    let list = list_in_notation(options)?;
+    let bytes = list.to_bytes();
+    if options.hex {
+        bytes.iter().try_for_each(|byte| write!(out, "{byte:02x}"))?;
+        writeln!(out)?;
+    } else {
+        out.write_all(&bytes)?;
+    }
+    judge(&list)?;
+    status(true)
+}
+
+/// Writes any list that has the right shape, and then tells of one that play refuses.
+fn decode(options: &Options, out: &mut dyn Write) -> Outcome {
+    let list = list_of(&list_bytes(options)?)?;
+    writeln!(out, "{list}")?;
+    judge(&list)?;
+    status(true)
+}
+
+/// What the rehearsal program prints: of a refused list the number, which is then told as every command tells it.
+fn rehearse(options: &Options, out: &mut dyn Write) -> Outcome {
+    let bytes = list_bytes(options)?;
+    let (printed, result) = rehearsal::output(&calls(options), &bytes);
+    print(printed, out)?;
+    result.map_err(|refusal| list_refused(refusal, &bytes))?;
+    status(true)
+}
+
+fn message(options: &Options, out: &mut dyn Write) -> Outcome {
+    match (calls(options).read_message)(&message_bytes(options)?) {
+        Ok(message) => print(format!("{message}\n"), out),
+        Err(refusal) => Err(Stop::refused("message", refusal, None::<&str>)),
+    }
+}
+
+fn causes(out: &mut dyn Write) -> Outcome {
+    for refusal in Refusal::ALL {
+        writeln!(out, "{:>2}  {}", refusal.number(), refusal.cause())?;
+    }
+    status(true)
+}

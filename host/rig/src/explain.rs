@@ -1,0 +1,165 @@
+//! A run in words, event by event: who, which message, which answer and why.
+
+use crate::second::member::{quorum, Record, Step, COLLECTING, DECIDED, IDLE, PROPOSED};
+use crate::second::model::Model;
+use kalebasin::{Event, EventList, Member, Message, MessageNumber, Refusal};
+
+/// An event in words.
+#[derive(Clone, Debug, PartialEq, Eq, Hash)]
+pub struct Explained {
+    /// The event in the rig's notation.
+    pub event: String,
+    /// The answer that the model gives.
+    pub answer: u32,
+    /// What happened, or why nothing did.
+    pub words: String,
+}
+
+/// A list in words, for a store and a table of so many rows. N is 3, 5 or 7.
+///
+/// ```
+/// use kalebasin::notation::parse;
+/// use kalebasin_rig::explain::explain;
+///
+/// let list = parse("n=3 s(1,1,70) s(1,2,80)", None).unwrap();
+/// let words: Vec<String> = explain(&list, 1000, 64).into_iter().map(|explained| explained.words).collect();
+/// assert_eq!(words, [
+///     "member 1 starts round 1 with the offer 70 and sends START (message 0)",
+///     "member 1 can't start round 2: member 2 leads it",
+/// ]);
+/// ```
+pub fn explain(list: &EventList, store_rows: usize, table_rows: usize) -> Vec<Explained> {
+    let mut model = Model::new(list.n, store_rows, table_rows);
+    list.events.iter().map(|event| explain_event(&mut model, event)).collect()
+}
+
+/// Takes the next event of a run and puts it in words.
+pub fn explain_event(model: &mut Model, event: &Event) -> Explained {
+    let before = model.clone();
+    let (answer, words) = match model.take(event) {
+        Ok(step) => (0, accepted(&before, model, event, &step)),
+        Err(refusal) => (refusal.number(), refused(&before, event, refusal)),
+    };
+    Explained { event: event.to_string(), answer, words }
+}
+
+/// `JOIN (message 4)`, if something was sent.
+fn sent_as(before: &Model, step: &Step) -> String {
+    step.sent.map(|message| format!("{} (message {})", message.kind(), before.sent.len())).unwrap_or_default()
+}
+
+fn accepted(before: &Model, after: &Model, event: &Event, step: &Step) -> String {
+    let sent = sent_as(before, step);
+    match event {
+        Event::Start { member, round, offer, .. } => {
+            format!("member {member} starts round {round} with the offer {offer} and sends {sent}")
+        }
+        Event::Deliver { message, member, .. } => {
+            let (was, is) = (&before.members[member.0 as usize], &after.members[member.0 as usize]);
+            match &before.sent[message.0 as usize] {
+                Message::Start { round, .. } => match step.sent {
+                    Some(Message::Join { vote: Some(vote), .. }) => format!(
+                        "member {member} joins round {round} and sends {sent}, telling its vote for {} in round {}",
+                        vote.value, vote.round
+                    ),
+                    _ => format!("member {member} joins round {round} and sends {sent}; it has never voted"),
+                },
+                Message::Propose { round, value, .. } => {
+                    let again = if was.v == *round { " again" } else { "" };
+                    format!("member {member} votes{again} for {value} in round {round} and sends {sent}")
+                }
+                Message::Join { sender, .. } => counted_join(*sender, was, is, step, &sent),
+                Message::Vote { sender, .. } => counted_vote(*sender, is, step),
+            }
+        }
+        other => other.to_string(),
+    }
+}
+
+fn counted_join(sender: Member, was: &Record, is: &Record, step: &Step, sent: &str) -> String {
+    let needed = quorum(is.n);
+    let count = was.counted() + 1;
+    let mut words = format!("member {} counts the JOIN of member {sender}, {count} of {needed}", is.number);
+    if is.b != was.b {
+        words += &format!("; its vote for {} in round {} replaces {}", is.x, is.b, was.x);
+    }
+    if let Some(proposal) = step.proposal {
+        let source =
+            if proposal.parent.0 == 0 { "its own offer".into() } else { format!("from round {}", proposal.parent) };
+        words += &format!(
+            "; that is a quorum: it proposes {} ({source}), add({},{},{}), and sends {sent}",
+            proposal.value, proposal.round, proposal.value, proposal.parent
+        );
+    }
+    words
+}
+
+fn counted_vote(sender: Member, is: &Record, step: &Step) -> String {
+    let mut words =
+        format!("member {} counts the VOTE of member {sender}, {} of {}", is.number, is.counted(), quorum(is.n));
+    if let Some(decision) = step.decision {
+        words += &format!(
+            "; that is a quorum: round {} decides {}, commit({})",
+            decision.round, decision.value, decision.round
+        );
+    }
+    words
+}
+
+fn refused(before: &Model, event: &Event, refusal: Refusal) -> String {
+    let (member, what) = match event {
+        Event::Start { member, round, .. } => (*member, format!("member {member} can't start round {round}")),
+        Event::Deliver { message, member, .. } => match before.message(*message) {
+            Some(sent) => (*member, format!("member {member} doesn't take message {message}, {sent}")),
+            None => (*member, format!("member {member} is to get message {message}")),
+        },
+        other => (other.member(), other.to_string()),
+    };
+    format!("{what}: {}", why(before, event, member, refusal))
+}
+
+fn why(before: &Model, event: &Event, member: Member, refusal: Refusal) -> String {
+    let Some(record) = before.member(member) else {
+        return format!("the office has members 0 to {}", before.n() - 1);
+    };
+    match (refusal, event) {
+        (Refusal::NoMemberOrMessage, _) => match before.sent.len() {
+            0 => "no message was sent yet".into(),
+            1 => "only message 0 was sent yet".into(),
+            sent => format!("only messages 0 to {} were sent yet", sent - 1),
+        },
+        (Refusal::NotLeader, Event::Start { round, .. }) => format!("member {} leads it", before.leader(*round)),
+        (Refusal::NotAboveLed, _) => format!("it led round {} already", record.l),
+        (Refusal::RoundRange, _) => "rounds run from 1 to 1,000,000".into(),
+        (Refusal::MovedPast, _) => format!("it has joined or voted in round {}", record.j),
+        (Refusal::AnotherValue, _) => format!("it has voted for {} in round {}", record.w, record.v),
+        (Refusal::NotAwaited, _) => leading(record),
+        (Refusal::CountedAlready, Event::Deliver { message, .. }) => counted_already(before, *message),
+        (Refusal::StoreFull, _) => {
+            format!("it would send, and the {} messages sent fill the store", before.sent.len())
+        }
+        (Refusal::NoFreeRow, _) => {
+            format!("it would propose, and the {} proposals fill the table", before.proposals().count())
+        }
+        _ => refusal.cause().into(),
+    }
+}
+
+fn counted_already(before: &Model, message: MessageNumber) -> String {
+    match before.message(message) {
+        Some(sent) => format!("member {} is counted already", sent.sender()),
+        None => Refusal::CountedAlready.cause().into(),
+    }
+}
+
+/// What the member is doing as a leader, and so doesn't await.
+fn leading(record: &Record) -> String {
+    let round = record.l;
+    match record.phase {
+        IDLE => "it has led no round".into(),
+        COLLECTING => format!("it is collecting JOINs of round {round}"),
+        PROPOSED => format!("it has proposed in round {round} and is counting VOTEs"),
+        DECIDED => format!("it has decided round {round}"),
+        _ => Refusal::NotAwaited.cause().into(),
+    }
+}

@@ -1,0 +1,176 @@
+//! Random lists, steered by the second implementation's model so that most of them reach something.
+
+use crate::compare::Lent;
+use crate::random::Random;
+use crate::second::model::Model;
+use kalebasin::{
+    Event, EventList, Member, Message, MessageNumber, Round, STORE_ROW, STORE_ROWS, TABLE_ROW, TABLE_ROWS,
+};
+
+/// A list and the memory lent with it.
+#[derive(Clone, Debug, PartialEq, Eq, Hash)]
+pub struct Case {
+    /// The list.
+    pub list: EventList,
+    /// The memory.
+    pub lent: Lent,
+}
+
+/// How a list is made, each in a hundred.
+#[derive(Clone, Copy, Debug)]
+struct Style {
+    /// Events with any numbers.
+    wild: usize,
+    /// Starts where something else could go on.
+    hurry: usize,
+    /// Deliveries of any message sent, instead of one of the last.
+    late: usize,
+    /// Starts of a round below one that was led already.
+    below: usize,
+    /// Votes that wait for a proposal of a higher round.
+    put_off: usize,
+}
+
+/// A list of 0 to 1,000 events for 3, 5 or 7 members, with memory of any allowed size.
+pub fn case(random: &mut Random) -> Case {
+    let n = *random.pick(&[3, 3, 3, 5, 5, 7]);
+    let events = match random.below(100) {
+        0..=69 => random.between(0, 60),
+        70..=95 => random.between(40, 160),
+        _ => random.between(160, EventList::MOST),
+    };
+    let store_rows = match random.below(100) {
+        0..=69 => events.clamp(1, STORE_ROWS),
+        70..=94 => random.between(1, 40),
+        95..=98 => random.between(1, STORE_ROWS),
+        _ => STORE_ROWS,
+    };
+    let table_rows = match random.below(100) {
+        0..=59 => 64,
+        60..=89 => random.between(1, 4),
+        _ => random.between(1, TABLE_ROWS),
+    };
+    let spare = if random.chance(50) { 0 } else { random.between(1, 20) };
+    let lent = Lent {
+        store: store_rows * STORE_ROW,
+        table: table_rows * TABLE_ROW,
+        answers: events + spare,
+        dirt: random.number(),
+    };
+    Case { list: list(random, n, events, store_rows, table_rows), lent }
+}
+
+/// A list of so many events for `n` members (3, 5 or 7) and memory of so many rows.
+pub fn list(random: &mut Random, n: u32, events: usize, store_rows: usize, table_rows: usize) -> EventList {
+    let style = Style {
+        wild: *random.pick(&[0, 0, 3, 10, 60]),
+        hurry: *random.pick(&[0, 2, 5, 10, 20]),
+        late: *random.pick(&[0, 10, 30, 60, 100]),
+        below: *random.pick(&[0, 10, 30]),
+        put_off: *random.pick(&[0, 0, 90, 100]),
+    };
+    let mut model = Model::new(n, store_rows, table_rows);
+    let mut list = EventList::new(n);
+    while list.events.len() < events {
+        let event = next(random, &model, style);
+        let _ = model.take(&event);
+        list.events.push(event);
+    }
+    list
+}
+
+fn next(random: &mut Random, model: &Model, style: Style) -> Event {
+    if random.chance(style.wild) {
+        return wild(random, model);
+    }
+    if model.sent.is_empty() || random.chance(style.hurry) {
+        return start(random, model, style);
+    }
+    let mut tried = delivery(random, model, style);
+    for _ in 0..12 {
+        if model.look(&tried).is_ok() {
+            return tried;
+        }
+        tried = delivery(random, model, style);
+    }
+    if random.chance(60) {
+        start(random, model, style)
+    } else {
+        tried
+    }
+}
+
+/// Numbers in and just out of range.
+fn wild(random: &mut Random, model: &Model) -> Event {
+    let member = Member(match random.below(20) {
+        0 => random.number() as u32,
+        _ => random.below(model.n() as usize + 1) as u32,
+    });
+    if random.chance(30) {
+        let round = match random.below(10) {
+            0 => 0,
+            1 => 1_000_000,
+            2 => 1_000_001,
+            3 => random.number() as u32,
+            _ => random.between(1, 30) as u32,
+        };
+        return Event::start(member, Round(round), offer(random));
+    }
+    let message = match random.below(20) {
+        0 => random.number() as u32,
+        _ => random.below(model.sent.len() + 2) as u32,
+    };
+    Event::deliver(MessageNumber(message), member)
+}
+
+/// A start by a leader, of a round that it hasn't led.
+fn start(random: &mut Random, model: &Model, style: Style) -> Event {
+    let n = model.n();
+    let member = random.below(n as usize) as u32;
+    let highest = model.members.iter().map(|record| record.l.0).max().unwrap_or(0);
+    let own = model.members[member as usize].l.0;
+    let above = if random.chance(style.below) { own } else { highest };
+    let mut round = above + 1;
+    while round % n != member {
+        round += 1;
+    }
+    match random.below(200) {
+        0 => round = 1_000_000 - (1_000_000 - member) % n,
+        1..=30 => round += n * random.between(1, 3) as u32,
+        _ => {}
+    }
+    Event::start(Member(member), Round(round), offer(random))
+}
+
+fn offer(random: &mut Random) -> u64 {
+    match random.below(10) {
+        0 => 0,
+        1 => u64::MAX,
+        2 => random.number(),
+        _ => 10 * random.between(1, 9) as u64,
+    }
+}
+
+/// A message sent earlier, to a member that could await it.
+fn delivery(random: &mut Random, model: &Model, style: Style) -> Event {
+    let mut message = sent_earlier(random, model, style);
+    let highest = model.proposals().map(|proposal| proposal.round).max();
+    for _ in 0..6 {
+        if matches!(model.sent[message], Message::Vote { round, .. } if Some(round) == highest)
+            && random.chance(style.put_off)
+        {
+            message = sent_earlier(random, model, style);
+        }
+    }
+    let member = match model.sent[message] {
+        Message::Join { round, .. } | Message::Vote { round, .. } => model.leader(round),
+        Message::Start { .. } | Message::Propose { .. } => Member(random.below(model.n() as usize) as u32),
+    };
+    Event::deliver(MessageNumber(message as u32), member)
+}
+
+fn sent_earlier(random: &mut Random, model: &Model, style: Style) -> usize {
+    let sent = model.sent.len();
+    let back = if random.chance(style.late) { sent } else { sent.min(3 * model.n() as usize) };
+    sent - 1 - random.below(back)
+}

@@ -1,0 +1,133 @@
+//! The bytes of the four messages: XDR unsigned words, high byte first.
+
+use kalebasin::{Member, Message, Refusal, Round, Vote};
+
+const HIGHEST_SENDER: Member = Member(6);
+
+/// Reads a message.
+pub fn read(bytes: &[u8]) -> Result<Message, Refusal> {
+    if bytes.len() < 4 {
+        return Err(Refusal::MessageLength);
+    }
+    let message = match word(bytes, 0) {
+        1 => {
+            exact_length(bytes, 12)?;
+            Message::start(round(bytes), sender(bytes))
+        }
+        2 => read_join(bytes)?,
+        3 => {
+            exact_length(bytes, 20)?;
+            Message::propose(round(bytes), sender(bytes), double(bytes, 12))
+        }
+        4 => {
+            exact_length(bytes, 12)?;
+            Message::vote(round(bytes), sender(bytes))
+        }
+        _ => return Err(Refusal::MessageKind),
+    };
+    check_fields(&message)?;
+    Ok(message)
+}
+
+/// Under 16 bytes, presence, the rest of the length.
+fn read_join(bytes: &[u8]) -> Result<Message, Refusal> {
+    if bytes.len() < 16 {
+        return Err(Refusal::MessageLength);
+    }
+    let vote = match word(bytes, 12) {
+        0 => {
+            exact_length(bytes, 16)?;
+            None
+        }
+        1 => {
+            exact_length(bytes, 28)?;
+            Some(Vote { round: Round(word(bytes, 16)), value: double(bytes, 20) })
+        }
+        _ => return Err(Refusal::MessageField),
+    };
+    Ok(Message::join(round(bytes), sender(bytes), vote))
+}
+
+/// Writes a message to the front of the buffer, which has room for any; the number of bytes written. Fields out of
+/// range are refused before anything is written.
+pub fn write(message: &Message, buffer: &mut [u8]) -> Result<usize, Refusal> {
+    check_fields(message)?;
+    let mut writer = Writer { buffer, at: 0 };
+    let (round, sender) = (message.round(), message.sender());
+    match *message {
+        Message::Start { .. } => writer.words(&[1, round.0, sender.0]),
+        Message::Join { vote: None, .. } => writer.words(&[2, round.0, sender.0, 0]),
+        Message::Join { vote: Some(vote), .. } => {
+            writer.words(&[2, round.0, sender.0, 1, vote.round.0]);
+            writer.double(vote.value);
+        }
+        Message::Propose { value, .. } => {
+            writer.words(&[3, round.0, sender.0]);
+            writer.double(value);
+        }
+        Message::Vote { .. } => writer.words(&[4, round.0, sender.0]),
+    }
+    Ok(writer.at)
+}
+
+/// Rounds are 1 to 1,000,000, senders 0 to 6; a voted round is at least 1 and below the JOIN's round.
+fn check_fields(message: &Message) -> Result<(), Refusal> {
+    let vote_fits = match message {
+        Message::Join { round, vote: Some(vote), .. } => Round::ROOT < vote.round && vote.round < *round,
+        _ => true,
+    };
+    if message.round().in_range() && message.sender() <= HIGHEST_SENDER && vote_fits {
+        Ok(())
+    } else {
+        Err(Refusal::MessageField)
+    }
+}
+
+fn exact_length(bytes: &[u8], length: usize) -> Result<(), Refusal> {
+    if bytes.len() == length {
+        Ok(())
+    } else {
+        Err(Refusal::MessageLength)
+    }
+}
+
+fn round(bytes: &[u8]) -> Round {
+    Round(word(bytes, 4))
+}
+
+fn sender(bytes: &[u8]) -> Member {
+    Member(word(bytes, 8))
+}
+
+/// The word that starts at a byte.
+pub fn word(bytes: &[u8], at: usize) -> u32 {
+    u32::from_be_bytes([bytes[at], bytes[at + 1], bytes[at + 2], bytes[at + 3]])
+}
+
+/// The value that starts at a byte.
+pub fn double(bytes: &[u8], at: usize) -> u64 {
+    (u64::from(word(bytes, at)) << 32) | u64::from(word(bytes, at + 4))
+}
+
+/// The buffer lent for the reply, and how far it has got.
+struct Writer<'a> {
+    buffer: &'a mut [u8],
+    at: usize,
+}
+
+impl Writer<'_> {
+    fn words(&mut self, words: &[u32]) {
+        for word in words {
+            self.put(&word.to_be_bytes());
+        }
+    }
+
+    fn double(&mut self, value: u64) {
+        self.put(&value.to_be_bytes());
+    }
+
+    fn put(&mut self, bytes: &[u8]) {
+        self.buffer[self.at..][..bytes.len()].copy_from_slice(bytes);
+        self.at += bytes.len();
+    }
+}

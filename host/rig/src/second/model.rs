@@ -1,0 +1,197 @@
+//! The model that the third demand measures play by, and the third demand as a check of a run.
+
+use super::member::{self, Decision, Proposal, Record, Step};
+use super::tree;
+use kalebasin::{Event, EventList, Member, Message, MessageNumber, Refusal, Round, TABLE_ROW};
+use std::fmt;
+
+/// A proposal or a decision.
+#[derive(Clone, Copy, Debug, PartialEq, Eq, Hash)]
+pub enum Made {
+    /// An add.
+    Proposal(Proposal),
+    /// A commit.
+    Decision(Decision),
+}
+
+/// A made proposal or decision with the event that made it, counted from 0.
+#[derive(Clone, Copy, Debug, PartialEq, Eq, Hash)]
+pub struct MadeAt {
+    /// The event's place.
+    pub event: usize,
+    /// The proposal or decision.
+    pub made: Made,
+}
+
+/// The offer of an accepted start, with the event that made it, counted from 0.
+#[derive(Clone, Copy, Debug, PartialEq, Eq, Hash)]
+pub struct OfferAt {
+    /// The event's place.
+    pub event: usize,
+    /// The offer.
+    pub value: u64,
+}
+
+/// What the model keeps.
+#[derive(Clone, Debug)]
+pub struct Model {
+    store_rows: usize,
+    table_rows: usize,
+    /// Members 0 to N - 1.
+    pub members: Vec<Record>,
+    /// The messages sent.
+    pub sent: Vec<Message>,
+    /// Proposals and decisions in the order made.
+    pub made: Vec<MadeAt>,
+    /// Offers in the order of the starts.
+    pub offers: Vec<OfferAt>,
+    /// How many events were taken, refused ones too.
+    pub events: usize,
+}
+
+impl Model {
+    /// An office of `n` fresh members (3, 5 or 7) with a store and a table of so many rows, the root's among them.
+    pub fn new(n: u32, store_rows: usize, table_rows: usize) -> Model {
+        let members = (0..n).map(|number| member::fresh(Member(number), n).expect("n is 3, 5 or 7")).collect();
+        Model { store_rows, table_rows, members, sent: Vec::new(), made: Vec::new(), offers: Vec::new(), events: 0 }
+    }
+
+    /// The model after a list.
+    pub fn run(list: &EventList, store_rows: usize, table_rows: usize) -> (Model, Vec<Result<Step, Refusal>>) {
+        let mut model = Model::new(list.n, store_rows, table_rows);
+        let steps = list.events.iter().map(|event| model.take(event)).collect();
+        (model, steps)
+    }
+
+    /// The leader of a round.
+    pub fn leader(&self, round: Round) -> Member {
+        Member(round.0 % self.n())
+    }
+
+    /// The number of members.
+    pub fn n(&self) -> u32 {
+        self.members.len() as u32
+    }
+
+    /// The member of this number, if there is one.
+    pub fn member(&self, number: Member) -> Option<&Record> {
+        self.members.get(number.0 as usize)
+    }
+
+    /// The message of this number, if it is among those sent.
+    pub fn message(&self, number: MessageNumber) -> Option<&Message> {
+        self.sent.get(number.0 as usize)
+    }
+
+    /// What the event would do now: the member's record after it, and the step.
+    pub fn look(&self, event: &Event) -> Result<(Record, Step), Refusal> {
+        let mut record = *self.member(event.member()).ok_or(Refusal::NoMemberOrMessage)?;
+        let step = match event {
+            Event::Start { round, offer, .. } => record.start(*round, *offer)?,
+            Event::Deliver { message, .. } => {
+                record.deliver(self.message(*message).ok_or(Refusal::NoMemberOrMessage)?)?
+            }
+            _ => return Err(Refusal::ListShape),
+        };
+        if step.sent.is_some() && self.sent.len() == self.store_rows {
+            return Err(Refusal::StoreFull);
+        }
+        if step.proposal.is_some() && self.proposals().count() == self.table_rows - 1 {
+            return Err(Refusal::NoFreeRow);
+        }
+        Ok((record, step))
+    }
+
+    /// Takes the next event. A refused one changes nothing that the model keeps.
+    pub fn take(&mut self, event: &Event) -> Result<Step, Refusal> {
+        let at = self.events;
+        self.events += 1;
+        let (record, step) = self.look(event)?;
+        self.members[record.number.0 as usize] = record;
+        self.sent.extend(step.sent);
+        self.made.extend(step.proposal.map(|proposal| MadeAt { event: at, made: Made::Proposal(proposal) }));
+        self.made.extend(step.decision.map(|decision| MadeAt { event: at, made: Made::Decision(decision) }));
+        if let Event::Start { offer, .. } = event {
+            self.offers.push(OfferAt { event: at, value: *offer });
+        }
+        Ok(step)
+    }
+
+    /// The proposals in order.
+    pub fn proposals(&self) -> impl Iterator<Item = Proposal> + '_ {
+        self.made.iter().filter_map(|at| match at.made {
+            Made::Proposal(proposal) => Some(proposal),
+            Made::Decision(_) => None,
+        })
+    }
+
+    /// The decisions in order.
+    pub fn decisions(&self) -> impl Iterator<Item = Decision> + '_ {
+        self.made.iter().filter_map(|at| match at.made {
+            Made::Proposal(_) => None,
+            Made::Decision(decision) => Some(decision),
+        })
+    }
+
+    /// The third demand: the proposals and decisions in order get OK in a fresh tree, the decided values are equal,
+    /// and each was offered at an earlier accepted start. Returns that tree.
+    pub fn third_demand(&self) -> Result<Vec<u64>, Breach> {
+        let mut table = vec![0; self.table_rows * TABLE_ROW];
+        tree::fresh(&mut table).map_err(Breach::Table)?;
+        for at in &self.made {
+            let result = match at.made {
+                Made::Proposal(made) => tree::add(&mut table, made.round, made.value, made.parent),
+                Made::Decision(made) => tree::commit(&mut table, made.round),
+            };
+            result.map_err(|refusal| Breach::Refused(*at, refusal))?;
+        }
+        let mut first: Option<Decision> = None;
+        for at in &self.made {
+            let Made::Decision(decision) = at.made else { continue };
+            if !self.offers.iter().any(|offer| offer.event < at.event && offer.value == decision.value) {
+                return Err(Breach::NeverOffered(decision));
+            }
+            let first = *first.get_or_insert(decision);
+            if first.value != decision.value {
+                return Err(Breach::DecidedTwice(first, decision));
+            }
+        }
+        Ok(table)
+    }
+}
+
+/// How a run breaks the third demand.
+#[derive(Clone, Copy, Debug, PartialEq, Eq, Hash)]
+pub enum Breach {
+    /// The table's length isn't one of a tree.
+    Table(Refusal),
+    /// The tree refuses a proposal or decision.
+    Refused(MadeAt, Refusal),
+    /// A value was decided that no earlier accepted start offered.
+    NeverOffered(Decision),
+    /// Two decided values differ.
+    DecidedTwice(Decision, Decision),
+}
+
+impl fmt::Display for Breach {
+    fn fmt(&self, f: &mut fmt::Formatter) -> fmt::Result {
+        let call = |made: &Made| match made {
+            Made::Proposal(Proposal { round: Round(round), value, parent }) => format!("add({round},{value},{parent})"),
+            Made::Decision(Decision { round, .. }) => format!("commit({round})"),
+        };
+        match self {
+            Breach::Table(refusal) => write!(f, "the table is refused with {refusal}"),
+            Breach::Refused(at, refusal) => {
+                write!(f, "{} of event {} is refused by the tree with {refusal}", call(&at.made), at.event)
+            }
+            Breach::NeverOffered(made) => {
+                write!(f, "round {} decided {}, which no earlier accepted start offered", made.round, made.value)
+            }
+            Breach::DecidedTwice(first, second) => write!(
+                f,
+                "round {} decided {} and round {} decided {}",
+                first.round, first.value, second.round, second.value
+            ),
+        }
+    }
+}

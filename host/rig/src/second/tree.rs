@@ -1,0 +1,200 @@
+//! The tree: a lent table of 64-bit words, four a row.
+
+use kalebasin::{Refusal, Round, TABLE_ROW, TABLE_ROWS};
+
+// The words of a row.
+const ROUND: usize = 0;
+const PARENT: usize = 1;
+const VALUE: usize = 2;
+const STATUS: usize = 3;
+
+// The statuses.
+const FREE: u64 = 0;
+const ADDED: u64 = 1;
+const GHOST: u64 = 2;
+const COMMITTED: u64 = 3;
+
+const ROOT: [u64; TABLE_ROW] = [0, 0, 0, COMMITTED];
+
+/// Makes the table fresh.
+pub fn fresh(table: &mut [u64]) -> Result<(), Refusal> {
+    check_length(table)?;
+    table.fill(0);
+    table[..TABLE_ROW].copy_from_slice(&ROOT);
+    Ok(())
+}
+
+/// add(r, v, p).
+pub fn add(table: &mut [u64], round: Round, value: u64, parent: Round) -> Result<(), Refusal> {
+    check_table(table)?;
+    check_round(round)?;
+    machine_add(table, round.0.into(), value, parent.0.into())
+}
+
+/// commit(r).
+pub fn commit(table: &mut [u64], round: Round) -> Result<(), Refusal> {
+    check_table(table)?;
+    check_round(round)?;
+    machine_commit(table, round.0.into())
+}
+
+/// path(r): the number of rounds written.
+pub fn path(table: &[u64], round: Round, out: &mut [u64]) -> Result<usize, Refusal> {
+    check_table(table)?;
+    if round != Round::ROOT {
+        check_round(round)?;
+    }
+    let round = u64::from(round.0);
+    if find(table, round).is_none() {
+        return Err(Refusal::RoundAbsent);
+    }
+    let count = path_length(table, round);
+    if out.len() < count {
+        return Err(Refusal::PathTooLong);
+    }
+    write_path(table, round, &mut out[..count]);
+    Ok(count)
+}
+
+/// A length that a table can have.
+pub fn check_length(table: &[u64]) -> Result<(), Refusal> {
+    let rows = table.len() / TABLE_ROW;
+    if table.len() % TABLE_ROW == 0 && (1..=TABLE_ROWS).contains(&rows) {
+        Ok(())
+    } else {
+        Err(Refusal::TableLength)
+    }
+}
+
+/// Whether some list of calls from fresh leaves this table: the adds in row order, each COMMITTED node committed as
+/// soon as it is added. Any other order of the commits accepts no more adds, for an edge that crosses a node keeps it
+/// from being COMMITTED, whichever came first.
+pub fn is_tree(table: &[u64]) -> bool {
+    let mut memory = [0; TABLE_ROW * TABLE_ROWS];
+    let replay = &mut memory[..table.len()];
+    replay[..TABLE_ROW].copy_from_slice(&ROOT);
+    for row in table.chunks_exact(TABLE_ROW).skip(1) {
+        if row[STATUS] == FREE {
+            break;
+        }
+        let in_range = u32::try_from(row[ROUND]).is_ok_and(|round| Round(round).in_range());
+        if !in_range || machine_add(replay, row[ROUND], row[VALUE], row[PARENT]).is_err() {
+            return false;
+        }
+        if row[STATUS] == COMMITTED && machine_commit(replay, row[ROUND]).is_err() {
+            return false;
+        }
+    }
+    replay == table
+}
+
+fn check_table(table: &[u64]) -> Result<(), Refusal> {
+    check_length(table)?;
+    if is_tree(table) {
+        Ok(())
+    } else {
+        Err(Refusal::NotATree)
+    }
+}
+
+fn check_round(round: Round) -> Result<(), Refusal> {
+    if round.in_range() {
+        Ok(())
+    } else {
+        Err(Refusal::RoundRange)
+    }
+}
+
+/// The machine's add on a table that is a tree, with the round in range.
+pub fn machine_add(table: &mut [u64], r: u64, v: u64, p: u64) -> Result<(), Refusal> {
+    let nodes = count(table);
+    if find(table, r).is_some() {
+        return Err(Refusal::RoundPresent);
+    }
+    let Some(parent) = find(table, p) else {
+        return Err(Refusal::ParentAbsent);
+    };
+    if p >= r {
+        return Err(Refusal::ParentNotBelow);
+    }
+    if p != 0 && table[parent * TABLE_ROW + VALUE] != v {
+        return Err(Refusal::ValueDiffers);
+    }
+    if used(table, nodes).any(|node| node[STATUS] == COMMITTED && p < node[ROUND] && node[ROUND] < r) {
+        return Err(Refusal::CrossesCommitted);
+    }
+    if nodes * TABLE_ROW == table.len() {
+        return Err(Refusal::NoFreeRow);
+    }
+    let status = if used(table, nodes).any(|node| node[ROUND] > r) { GHOST } else { ADDED };
+    strike_out(table, nodes, r, p);
+    table[nodes * TABLE_ROW..][..TABLE_ROW].copy_from_slice(&[r, p, v, status]);
+    Ok(())
+}
+
+/// The machine's commit on a table that is a tree, with the round in range.
+pub fn machine_commit(table: &mut [u64], r: u64) -> Result<(), Refusal> {
+    let Some(row) = find(table, r) else {
+        return Err(Refusal::RoundAbsent);
+    };
+    let status = &mut table[row * TABLE_ROW + STATUS];
+    match *status {
+        COMMITTED => Err(Refusal::IsCommitted),
+        GHOST => Err(Refusal::IsGhost),
+        _ => {
+            *status = COMMITTED;
+            Ok(())
+        }
+    }
+}
+
+/// Every ADDED node below r that isn't an ancestor of r becomes GHOST; those that (r, p) crosses are among them. A
+/// parent stands before its children, so one way back over the rows meets the ancestors in order.
+fn strike_out(table: &mut [u64], nodes: usize, r: u64, p: u64) {
+    let mut ancestor = p;
+    for node in table[..nodes * TABLE_ROW].chunks_exact_mut(TABLE_ROW).rev() {
+        if node[ROUND] == ancestor {
+            ancestor = node[PARENT];
+        } else if node[STATUS] == ADDED && node[ROUND] < r {
+            node[STATUS] = GHOST;
+        }
+    }
+}
+
+/// How many rows aren't free.
+fn count(table: &[u64]) -> usize {
+    let rows = table.chunks_exact(TABLE_ROW);
+    rows.take_while(|row| row[STATUS] != FREE).count()
+}
+
+fn used(table: &[u64], nodes: usize) -> impl Iterator<Item = &[u64]> {
+    table.chunks_exact(TABLE_ROW).take(nodes)
+}
+
+/// The row of a round that is present.
+fn find(table: &[u64], round: u64) -> Option<usize> {
+    let mut rows = table.chunks_exact(TABLE_ROW).take_while(|row| row[STATUS] != FREE);
+    rows.position(|row| row[ROUND] == round)
+}
+
+/// The parent of a round that is present and isn't the root.
+fn parent_of(table: &[u64], round: u64) -> u64 {
+    let row = find(table, round).expect("a tree has each node's parent");
+    table[row * TABLE_ROW + PARENT]
+}
+
+fn path_length(table: &[u64], round: u64) -> usize {
+    match round {
+        0 => 1,
+        _ => path_length(table, parent_of(table, round)) + 1,
+    }
+}
+
+/// Fills `out` with the path: that of the parent with the round put after it.
+fn write_path(table: &[u64], round: u64, out: &mut [u64]) {
+    let (last, before) = out.split_last_mut().expect("a path has at least the root");
+    *last = round;
+    if round != 0 {
+        write_path(table, parent_of(table, round), before);
+    }
+}

@@ -1,0 +1,407 @@
+//! The comparison of two implementations, part by part. Each part returns how many calls it compared, or a report of
+//! the first difference with the smallest input that shows it.
+
+use crate::compare::{compare, compare_bytes, Lent};
+use crate::generate::{self, Case};
+use crate::random::Random;
+use crate::second::message;
+use crate::shrink::shortest;
+use crate::Calls;
+use kalebasin::notation::parse;
+use kalebasin::{Event, EventList, Member, Message, MessageNumber, Round, Vote, STORE_ROW, TABLE_ROW};
+
+/// The two implementations; the second is the reference.
+pub type Pair<'a> = [&'a Calls; 2];
+/// How many calls were compared, or a report of the first difference.
+pub type Compared = Result<usize, String>;
+
+/// Document 01's rehearsal.
+pub const REHEARSAL: &str = "n=3 s(1,1,70) d(0,0) d(0,1) d(1,1) d(1,1) d(2,1) d(3,0) s(2,2,80) d(5,0) d(5,2) d(7,2) \
+                             d(6,2) d(3,1) d(4,1) d(9,1)";
+
+fn rehearsal() -> EventList {
+    parse(REHEARSAL, None).expect("the rehearsal is written correctly")
+}
+
+fn deliveries(messages: u32, members: u32) -> impl Iterator<Item = Event> {
+    (0..messages)
+        .flat_map(move |message| (0..members).map(move |member| Event::deliver(MessageNumber(message), Member(member))))
+}
+
+fn start(member: u32, round: u32, offer: u64) -> Event {
+    Event::start(Member(member), Round(round), offer)
+}
+
+/// Every list of up to 4 events for three members from 27: the starts of rounds 1 to 3 by anyone, starts out of range,
+/// messages 0 to 3 to anyone, a member and a message that aren't there.
+pub fn short_lists(calls: Pair) -> Compared {
+    let mut alphabet: Vec<Event> =
+        (0..3).flat_map(|member| (1..=3).map(move |round| start(member, round, 7))).collect();
+    alphabet.extend([start(3, 1, 7), start(1, 0, 7), start(1, 1_000_001, 7), start(1, 4, 8)]);
+    alphabet.extend(
+        deliveries(4, 3)
+            .chain([(0, 3), (4, 0)].map(|(message, member)| Event::deliver(MessageNumber(message), Member(member)))),
+    );
+    let mut list = EventList::new(3);
+    each_tail(calls, &alphabet, 4, &mut list, Lent { dirt: 77, ..Lent::rows(3, 2, 0) })
+}
+
+/// Each beginning of the rehearsal, followed by every 3 events from 33: messages 0 to 9 to anyone,
+/// and later starts.
+pub fn rehearsal_tails(calls: Pair) -> Compared {
+    let mut alphabet: Vec<Event> = deliveries(10, 3).collect();
+    alphabet.extend([start(2, 2, 80), start(0, 3, 90), start(1, 4, 60)]);
+    let whole = rehearsal();
+    let mut compared = 0;
+    for length in 0..=whole.events.len() {
+        let mut list: EventList = whole.events[..length].iter().copied().collect();
+        compared += each_tail(calls, &alphabet, 3, &mut list, Lent { dirt: 99, ..Lent::rows(11, 3, 0) })?;
+    }
+    Ok(compared)
+}
+
+/// Compares the list and every longer one by up to `more` events.
+fn each_tail(calls: Pair, alphabet: &[Event], more: usize, list: &mut EventList, lent: Lent) -> Compared {
+    let lent = Lent { answers: list.events.len() + 1, ..lent };
+    if compare_bytes(calls, &list.to_bytes(), &lent).is_some() {
+        return Err(report(calls, Case { list: list.clone(), lent }));
+    }
+    let mut compared = 1;
+    if more > 0 {
+        for event in alphabet {
+            list.events.push(*event);
+            compared += each_tail(calls, alphabet, more - 1, list, lent)?;
+            list.events.pop();
+        }
+    }
+    Ok(compared)
+}
+
+/// The difference that a case shows, with the shortest list found that shows one.
+fn report(calls: Pair, case: Case) -> String {
+    let shortest = shortest(case, &mut |case| compare(calls, case).is_some());
+    let how = compare(calls, &shortest).unwrap_or_default();
+    format!("{how}\nthe shortest list found: {}\nlent: {:?}", shortest.list, shortest.lent)
+}
+
+fn report_bytes(calls: Pair, bytes: &[u8], lent: &Lent) -> Option<String> {
+    let how = compare_bytes(calls, bytes, lent)?;
+    match EventList::from_bytes(bytes) {
+        Ok(list) => Some(report(calls, Case { list, lent: *lent })),
+        Err(_) => Some(format!("{how}\nlist bytes: {bytes:02x?}\nlent: {lent:?}")),
+    }
+}
+
+/// Every one-byte damage of some lists, each shorter one, and each longer by a byte.
+pub fn damaged_lists(calls: Pair) -> Compared {
+    let others = ["n=5 s(1,1,70) d(0,4) s(2,1000000,18446744073709551615)", "n=7 s(6,6,0) d(0,6) d(1,6)", "n=3"];
+    let mut lists = vec![rehearsal().to_bytes()];
+    lists.extend(others.map(|text| parse(text, None).expect("the lists are written correctly").to_bytes()));
+    let lent = Lent { dirt: 11, ..Lent::rows(12, 4, 16) };
+    let mut compared = 0;
+    for list in lists {
+        each_damage(&list, &mut |damaged| {
+            compared += 1;
+            report_bytes(calls, damaged, &lent).map_or(Ok(()), Err)
+        })?;
+    }
+    Ok(compared)
+}
+
+/// Every byte string of up to 2 bytes as a list, and every sequence of a few small words.
+pub fn small_list_bytes(calls: Pair) -> Compared {
+    let lent = Lent { dirt: 12, ..Lent::rows(2, 2, 3) };
+    let mut compared = 0;
+    let mut look = |bytes: &[u8]| {
+        compared += 1;
+        report_bytes(calls, bytes, &lent).map_or(Ok(()), Err)
+    };
+    each_byte_string(2, &mut look)?;
+    each_word_string(&[0, 1, 2, 3, 4, 5, 7, 1_000, 1_001, u32::MAX], 5, &mut look)?;
+    each_word_string(&[0, 1, 2, 3], 8, &mut look)?;
+    Ok(compared)
+}
+
+/// Random lists, most as [`generate::case`] steers them, others with odd lengths, odd N or damaged bytes.
+pub fn random_lists(calls: Pair, seed: u64, lists: usize, tell: &mut dyn FnMut(usize)) -> Compared {
+    let mut random = Random::new(seed);
+    for number in 0..lists {
+        let mut case = generate::case(&mut random);
+        if random.chance(15) {
+            make_odd(&mut case, &mut random);
+        }
+        let mut bytes = case.list.to_bytes();
+        if random.chance(3) {
+            let at = random.below(bytes.len());
+            bytes[at] = random.number() as u8;
+        }
+        if let Some(how) = report_bytes(calls, &bytes, &case.lent) {
+            return Err(format!("{how}\nseed {seed}, list {number}"));
+        }
+        tell(number + 1);
+    }
+    Ok(lists)
+}
+
+/// Lengths and an N that may not be allowed.
+fn make_odd(case: &mut Case, random: &mut Random) {
+    match random.below(5) {
+        0 => case.lent.store = odd_length(case.lent.store, 2_001 * STORE_ROW, random),
+        1 | 2 => case.lent.table = odd_length(case.lent.table, 1_032, random),
+        3 => case.lent.answers = odd_length(case.list.events.len(), 1_100, random),
+        _ => case.list.n = random.below(10) as u32,
+    }
+}
+
+fn odd_length(length: usize, most: usize, random: &mut Random) -> usize {
+    match random.below(3) {
+        0 => random.between(0, most),
+        1 => length.saturating_sub(random.between(0, 8)),
+        _ => length + random.between(0, 8),
+    }
+}
+
+/// Messages of every kind, in range and just within it.
+pub fn valid_messages() -> Vec<Vec<u8>> {
+    let mut messages = Vec::new();
+    for round in [1, 2, 300, 1_000_000].map(Round) {
+        for sender in [0, 3, 6].map(Member) {
+            messages.extend([
+                Message::start(round, sender),
+                Message::vote(round, sender),
+                Message::join(round, sender, None),
+                Message::propose(round, sender, 0x0102_0304_0506_0708),
+            ]);
+            for voted in [1, 299, 999_999].map(Round).into_iter().filter(|voted| *voted < round) {
+                messages.push(Message::join(round, sender, Some(Vote { round: voted, value: u64::MAX })));
+            }
+        }
+    }
+    let bytes = |message: &Message| {
+        let mut buffer = vec![0; Message::LONGEST];
+        let length = message::write(message, &mut buffer).expect("the fields are in range");
+        buffer.truncate(length);
+        buffer
+    };
+    messages.iter().map(bytes).collect()
+}
+
+/// Looks at message bytes: every one-byte damage of valid messages, each shorter one, and each longer by a byte; every
+/// sequence of a few words; every byte string of up to 3 bytes.
+pub fn each_message(look: &mut Look) -> Result<(), String> {
+    valid_messages().iter().try_for_each(|message| each_damage(message, look))?;
+    each_word_string(&[0, 1, 2, 5, 7, 1_000_001], 7, look)?;
+    each_word_string(&[0, 1, 2, 3, 4, 5, 6, 7, 1_000_000, 1_000_001, u32::MAX], 5, look)?;
+    each_byte_string(3, look)
+}
+
+/// The message reader on all that [`each_message`] gives.
+pub fn messages(calls: Pair) -> Compared {
+    let mut compared = 0;
+    each_message(&mut |bytes| {
+        compared += 1;
+        let read = calls.map(|calls| (calls.read_message)(bytes));
+        if read[0] == read[1] {
+            return Ok(());
+        }
+        let names = calls.map(|calls| calls.name);
+        Err(format!("{} reads {:?}, {} reads {:?}\nmessage bytes: {bytes:02x?}", names[0], read[0], names[1], read[1]))
+    })?;
+    Ok(compared)
+}
+
+/// Looks at some bytes and reports what is wrong.
+pub type Look<'a> = dyn FnMut(&[u8]) -> Result<(), String> + 'a;
+
+fn each_byte_string(longest: usize, look: &mut Look) -> Result<(), String> {
+    for length in 0..=longest {
+        for code in 0..1u64 << (8 * length) {
+            look(&code.to_le_bytes()[..length])?;
+        }
+    }
+    Ok(())
+}
+
+/// Every sequence of up to `longest` of these words, whole and without its last byte.
+fn each_word_string(words: &[u32], longest: usize, look: &mut Look) -> Result<(), String> {
+    fn longer(words: &[u32], more: usize, bytes: &mut Vec<u8>, look: &mut Look) -> Result<(), String> {
+        look(bytes)?;
+        look(&bytes[..bytes.len().saturating_sub(1)])?;
+        if more > 0 {
+            for word in words {
+                bytes.extend(word.to_be_bytes());
+                longer(words, more - 1, bytes, look)?;
+                bytes.truncate(bytes.len() - 4);
+            }
+        }
+        Ok(())
+    }
+    longer(words, longest, &mut Vec::new(), look)
+}
+
+/// The bytes, each one-byte damage of them, each shorter string, and each that is longer by a byte.
+pub fn each_damage(bytes: &[u8], look: &mut Look) -> Result<(), String> {
+    look(bytes)?;
+    for at in 0..bytes.len() {
+        look(&bytes[..at])?;
+        for damage in 1..=255 {
+            let mut damaged = bytes.to_vec();
+            damaged[at] ^= damage;
+            look(&damaged)?;
+        }
+    }
+    (0..=255).try_for_each(|last| look(&[bytes, &[last]].concat()))
+}
+
+/// A call of the tree.
+#[derive(Clone, Copy, Debug, PartialEq, Eq, Hash)]
+pub enum TreeCall {
+    /// `tree_fresh`.
+    Fresh,
+    /// `tree_add`: round, value, parent.
+    Add(Round, u64, Round),
+    /// `tree_commit`.
+    Commit(Round),
+    /// `tree_path`: the round, and the words lent for the path.
+    Path(Round, usize),
+}
+
+/// What a tree call left: its answer, the table and the words lent for a path, with guards on both sides.
+#[derive(Clone, Debug, PartialEq, Eq)]
+struct TreeLeft {
+    answer: Result<usize, kalebasin::Refusal>,
+    table: Vec<u64>,
+    out: Vec<u64>,
+}
+
+const GUARD: usize = 3;
+const MARK: u64 = 77_777;
+
+fn tree_call(calls: &Calls, table: &[u64], call: TreeCall) -> TreeLeft {
+    let guarded = |words: &[u64]| [&[MARK; GUARD], words, &[MARK; GUARD]].concat();
+    let room = if let TreeCall::Path(_, room) = call { room } else { 0 };
+    let mut left = TreeLeft { answer: Ok(0), table: guarded(table), out: vec![MARK; room + 2 * GUARD] };
+    let lent = &mut left.table[GUARD..GUARD + table.len()];
+    left.answer = match call {
+        TreeCall::Fresh => (calls.tree_fresh)(lent).map(|()| 0),
+        TreeCall::Add(round, value, parent) => (calls.tree_add)(lent, round, value, parent).map(|()| 0),
+        TreeCall::Commit(round) => (calls.tree_commit)(lent, round).map(|()| 0),
+        TreeCall::Path(round, room) => (calls.tree_path)(lent, round, &mut left.out[GUARD..GUARD + room]),
+    };
+    left
+}
+
+fn compare_tree(calls: Pair, table: &[u64], call: TreeCall) -> Result<(), String> {
+    let left = calls.map(|calls| tree_call(calls, table, call));
+    if left[0] == left[1] {
+        return Ok(());
+    }
+    let smaller = |at: usize| [&table[..at * TABLE_ROW], &table[(at + 1) * TABLE_ROW..]].concat();
+    for at in 0..table.len() / TABLE_ROW {
+        compare_tree(calls, &smaller(at), call)?;
+    }
+    let names = calls.map(|calls| calls.name);
+    let of = |at: usize| {
+        format!("{}: {:?}, table {:?}, path {:?}", names[at], left[at].answer, left[at].table, left[at].out)
+    };
+    Err(format!("{call:?} on the table {table:?}\n{}\n{}", of(0), of(1)))
+}
+
+/// Every table of three rows with small words, and every call with small numbers on it.
+pub fn small_tables(calls: Pair) -> Compared {
+    let mut tree_calls = vec![TreeCall::Fresh];
+    for round in (0..=4).map(Round) {
+        tree_calls.extend([TreeCall::Commit(round), TreeCall::Path(round, 2), TreeCall::Path(round, 4)]);
+        for parent in (0..=4).map(Round) {
+            tree_calls.extend([0, 5].map(|value| TreeCall::Add(round, value, parent)));
+        }
+    }
+    let row = |code: u64| [code % 4, code / 4 % 4, code / 16 % 2 * 5, code / 32];
+    let mut compared = 0;
+    for code in 0..128 * 128 {
+        for spare in [0, 4] {
+            let mut table = [[0, 0, 0, 3], row(code % 128), row(code / 128)].concat();
+            table.resize(12 + spare, 0);
+            for call in &tree_calls {
+                compare_tree(calls, &table, *call)?;
+                compared += 1;
+            }
+        }
+    }
+    Ok(compared)
+}
+
+/// Random calls on random trees of 1 to 256 rows, and on damaged ones.
+pub fn random_trees(calls: Pair, seed: u64, trees: usize) -> Compared {
+    let mut random = Random::new(seed);
+    let mut compared = 0;
+    for _ in 0..trees {
+        let rows = match random.below(20) {
+            0 => random.between(1, 256),
+            1..=4 => random.between(1, 40),
+            _ => random.between(1, 10),
+        };
+        let mut table = vec![0; rows * TABLE_ROW];
+        (calls[1].tree_fresh)(&mut table).map_err(|refusal| refusal.to_string())?;
+        let highest = *random.pick(&[rows + 3, 3 * rows + 3, 1_000_002]);
+        for _ in 0..random.between(1, 2 * rows.min(60)) {
+            let call = random_call(&mut random, highest);
+            compare_tree(calls, &table, call)?;
+            compare_tree(calls, &damaged(&table, &mut random), call)?;
+            compared += 2;
+            advance(calls[1], &mut table, call);
+        }
+    }
+    Ok(compared)
+}
+
+fn random_call(random: &mut Random, highest: usize) -> TreeCall {
+    let round = Round(random.between(0, highest) as u32);
+    match random.below(100) {
+        0..=1 => TreeCall::Fresh,
+        2..=70 => {
+            let parent = if random.chance(50) { 0 } else { random.below(round.0 as usize + 2) };
+            TreeCall::Add(round, *random.pick(&[5, 5, 5, 6]), Round(parent as u32))
+        }
+        71..=85 => TreeCall::Commit(round),
+        _ => TreeCall::Path(round, random.below(8)),
+    }
+}
+
+/// Makes the call on the reference, but keeps what is in the table where it would be lost.
+fn advance(calls: &Calls, table: &mut [u64], call: TreeCall) {
+    let _ = match call {
+        TreeCall::Add(round, value, parent) => (calls.tree_add)(table, round, value, parent),
+        TreeCall::Commit(round) => (calls.tree_commit)(table, round),
+        TreeCall::Fresh | TreeCall::Path(..) => Ok(()),
+    };
+}
+
+/// The table with a word changed, two rows exchanged, or another length.
+fn damaged(table: &[u64], random: &mut Random) -> Vec<u64> {
+    let mut table = table.to_vec();
+    let rows = table.len() / TABLE_ROW;
+    match random.below(10) {
+        0 => {
+            let (one, other) = (random.below(rows) * TABLE_ROW, random.below(rows) * TABLE_ROW);
+            (0..TABLE_ROW).for_each(|word| table.swap(one + word, other + word));
+        }
+        1 => {
+            let length = (table.len() + 5).saturating_sub(random.below(10));
+            table.resize(length, 0);
+        }
+        2 => {
+            let at = random.below(table.len());
+            table[at] = *random.pick(&[1_000_001, 1 << 32, (1 << 32) + table[at], u64::MAX]);
+        }
+        3..=5 => {
+            let at = random.below(rows) * TABLE_ROW + TABLE_ROW - 1;
+            table[at] = random.below(5) as u64;
+        }
+        _ => {
+            let at = random.below(table.len());
+            table[at] = random.below(8) as u64;
+        }
+    }
+    table
+}

@@ -1,0 +1,105 @@
+//! What happened at each event of a run, as values: for the picture, the page and other tools.
+
+use crate::explain::{explain_event, Explained};
+use crate::second::member::Record;
+use crate::second::model::{Made, Model};
+use crate::Calls;
+use kalebasin::{nodes, Event, EventList, Member, Message, MessageNumber, Node, Round, TABLE_ROW};
+
+/// One event and what came of it. The answer is the one given by the implementation asked for; the tree is made by its
+/// calls; all else comes from the model.
+#[derive(Clone, Debug, PartialEq, Eq, Hash)]
+pub struct Happened {
+    /// The event.
+    pub event: Event,
+    /// The answer given: 0 or the number of a refusal.
+    pub answer: u32,
+    /// The event in words, with the model's answer.
+    pub explained: Explained,
+    /// The message delivered; none at a start, and where no such message was sent yet.
+    pub delivered: Option<Message>,
+    /// The message sent, with its number.
+    pub sent: Option<(MessageNumber, Message)>,
+    /// The proposal or decision made.
+    pub made: Option<Made>,
+    /// The highest round proposed, if the event decides a lower one.
+    pub late: Option<Round>,
+    /// The member's record before the event; none where there is no such member.
+    pub before: Option<Record>,
+    /// The member's record after the event.
+    pub after: Option<Record>,
+    /// The nodes of the tree that the event added or changed.
+    pub nodes: Vec<Node>,
+}
+
+impl Happened {
+    /// The round of the start or of the message delivered; none where there is no such message.
+    pub fn round(&self) -> Option<Round> {
+        match self.event {
+            Event::Start { round, .. } => Some(round),
+            _ => self.delivered.map(|message| message.round()),
+        }
+    }
+
+    /// The member that takes the event, if the office has it.
+    pub fn member(&self) -> Option<Member> {
+        self.before.map(|record| record.number)
+    }
+
+    /// Whether the answer given is the model's.
+    pub fn as_the_model(&self) -> bool {
+        self.answer == self.explained.answer
+    }
+}
+
+/// What happened at each event of a list that an implementation gave these answers to, with a store and a table of so many
+/// rows. N is 3, 5 or 7.
+pub fn trace(calls: &Calls, list: &EventList, answers: &[u8], store_rows: usize, table_rows: usize) -> Vec<Happened> {
+    let mut model = Model::new(list.n, store_rows, table_rows);
+    let mut table = vec![0; table_rows * TABLE_ROW];
+    let _ = (calls.tree_fresh)(&mut table);
+    list.events
+        .iter()
+        .zip(answers)
+        .map(|(event, answer)| happened(calls, &mut model, &mut table, event, *answer))
+        .collect()
+}
+
+fn happened(calls: &Calls, model: &mut Model, table: &mut [u64], event: &Event, answer: u8) -> Happened {
+    let before = model.member(event.member()).copied();
+    let (sent, made) = (model.sent.len(), model.made.len());
+    let delivered = match event {
+        Event::Deliver { message, .. } => model.message(*message).copied(),
+        _ => None,
+    };
+    let explained = explain_event(model, event);
+    let made = model.made.get(made).map(|at| at.made);
+    Happened {
+        event: *event,
+        answer: u32::from(answer),
+        explained,
+        delivered,
+        sent: model.sent.get(sent).map(|message| (MessageNumber(sent as u32), *message)),
+        made,
+        late: made.and_then(|made| later_proposed(model, made)),
+        before,
+        after: model.member(event.member()).copied(),
+        nodes: made.map(|made| changed_nodes(calls, table, made)).unwrap_or_default(),
+    }
+}
+
+/// The highest round proposed, if this is the decision of a lower one.
+fn later_proposed(model: &Model, made: Made) -> Option<Round> {
+    let Made::Decision(decision) = made else { return None };
+    model.proposals().map(|proposal| proposal.round).max().filter(|highest| *highest > decision.round)
+}
+
+/// Adds or commits, and gives the nodes that this changed. What a member makes gets OK: the third demand.
+fn changed_nodes(calls: &Calls, table: &mut [u64], made: Made) -> Vec<Node> {
+    let before: Vec<Node> = nodes(table).collect();
+    let _ = match made {
+        Made::Proposal(made) => (calls.tree_add)(table, made.round, made.value, made.parent),
+        Made::Decision(made) => (calls.tree_commit)(table, made.round),
+    };
+    nodes(table).enumerate().filter(|(row, node)| before.get(*row) != Some(node)).map(|(_, node)| node).collect()
+}

@@ -1,0 +1,167 @@
+//! The proved core against the second implementation, lent memory included.
+
+#![cfg(feature = "core")]
+
+use kalebasin::{ffi, notation, number_of, EventList, Message, Refusal, Round};
+use kalebasin::{tree_add, tree_commit, tree_fresh, tree_path};
+use kalebasin::{STORE_ROW, STORE_ROWS, TABLE_ROW, TABLE_ROWS};
+use kalebasin_rig::random::Random;
+use kalebasin_rig::suite::{self, Compared, REHEARSAL};
+use kalebasin_rig::{generate, rehearsal};
+use kalebasin_rig::{proved, second, Calls};
+
+const PAIR: [&Calls; 2] = [&proved::CALLS, &second::CALLS];
+
+/// The seed of the random parts; KALEBASIN_SEED chooses another.
+fn seed() -> u64 {
+    std::env::var("KALEBASIN_SEED").map_or(2026, |seed| seed.parse().expect("KALEBASIN_SEED is a number"))
+}
+
+fn same(what: &str, compared: Compared) {
+    match compared {
+        Ok(calls) => println!("{what}: {calls} calls compared"),
+        Err(report) => panic!("{what}: {report}"),
+    }
+}
+
+#[test]
+fn every_list_of_up_to_four_events() {
+    same("short lists", suite::short_lists(PAIR));
+}
+
+#[test]
+fn every_three_events_after_each_part_of_the_rehearsal() {
+    same("rehearsal tails", suite::rehearsal_tails(PAIR));
+}
+
+#[test]
+fn every_damaged_byte_of_some_lists() {
+    same("damaged lists", suite::damaged_lists(PAIR));
+}
+
+#[test]
+fn every_small_byte_string_as_a_list() {
+    same("small list bytes", suite::small_list_bytes(PAIR));
+}
+
+#[test]
+fn random_lists() {
+    same("random lists", suite::random_lists(PAIR, seed(), 120_000, &mut |_| ()));
+}
+
+#[test]
+fn every_small_message_and_every_damaged_byte() {
+    same("messages", suite::messages(PAIR));
+}
+
+#[test]
+fn every_small_table() {
+    same("small tables", suite::small_tables(PAIR));
+}
+
+#[test]
+fn random_trees() {
+    same("random trees", suite::random_trees(PAIR, seed(), 20_000));
+}
+
+#[test]
+fn rehearsal_to_the_letter() {
+    let list = notation::parse(REHEARSAL, None).unwrap().to_bytes();
+    let expected = "0 0 0 0 25 0 0 0 0 0 0 0 0 0 0\n0 0 0 3\n1 0 70 3\n2 1 70 1\n";
+    assert_eq!(rehearsal::output(&proved::CALLS, &list), (expected.into(), Ok(())));
+}
+
+/// The fields of a C result: number, kind, round, sender, present, voted; value.
+type Fields = ([u32; 6], u64);
+
+fn fields(raw: &ffi::MessageResult) -> Fields {
+    ([raw.number, raw.kind, raw.round, raw.sender, raw.present, raw.voted], raw.value)
+}
+
+/// The fields that a read should have: those that the kind doesn't have are 0, on a refusal all but the number.
+fn expected_fields(read: Result<Message, Refusal>) -> Fields {
+    let Ok(message) = read else { return ([number_of(&read), 0, 0, 0, 0, 0], 0) };
+    let (round, sender) = (message.round().0, message.sender().0);
+    match message {
+        Message::Start { .. } => ([0, 1, round, sender, 0, 0], 0),
+        Message::Join { vote: None, .. } => ([0, 2, round, sender, 0, 0], 0),
+        Message::Join { vote: Some(vote), .. } => ([0, 2, round, sender, 1, vote.round.0], vote.value),
+        Message::Propose { value, .. } => ([0, 3, round, sender, 0, 0], value),
+        Message::Vote { .. } => ([0, 4, round, sender, 0, 0], 0),
+    }
+}
+
+#[test]
+fn message_results_field_by_field() {
+    let look = &mut |bytes: &[u8]| {
+        // SAFETY: pointer and length come from one slice.
+        let raw = unsafe { ffi::kalebasin_read_message(bytes.as_ptr(), bytes.len()) };
+        assert_eq!(fields(&raw), expected_fields(second::message::read(bytes)), "{bytes:02x?}");
+        Ok(())
+    };
+    suite::each_message(look).unwrap();
+}
+
+/// A refused play or path has 0 in every other field.
+#[test]
+fn refused_results_field_by_field() {
+    let (mut store, mut table, mut answers, mut out) = ([0u8; 28], [0u64; 8], [0u8; 4], [0u64; 4]);
+    let list = notation::parse("n=4 s(1,1,70)", None).unwrap().to_bytes();
+    // SAFETY: each pointer and length come from one slice.
+    let (played, path) = unsafe {
+        (
+            ffi::kalebasin_play(
+                list.as_ptr(),
+                list.len(),
+                store.as_mut_ptr(),
+                store.len(),
+                table.as_mut_ptr(),
+                table.len(),
+                answers.as_mut_ptr(),
+                answers.len(),
+            ),
+            ffi::kalebasin_tree_path(table.as_ptr(), table.len(), 0, out.as_mut_ptr(), out.len()),
+        )
+    };
+    let counts = [played.accepted, played.messages, played.proposals, played.decisions];
+    assert_eq!((played.number, counts), (27, [0; 4]));
+    assert_eq!(path, ffi::PathResult { number: 2, count: 0 });
+}
+
+/// Runs some work on a thread whose whole stack is 64 KiB; more than that ends the program.
+fn on_a_small_stack<T: Send>(work: impl FnOnce() -> T + Send) -> T {
+    std::thread::scope(|scope| {
+        let thread = std::thread::Builder::new().stack_size(64 * 1024).spawn_scoped(scope, work);
+        thread.unwrap().join().unwrap()
+    })
+}
+
+/// The largest play, of any order: 1,000 events, seven members, 2,000 store rows, 256 table rows.
+#[test]
+fn the_largest_play_on_a_stack_of_64_kib() {
+    let list = generate::list(&mut Random::new(5), 7, EventList::MOST, STORE_ROWS, TABLE_ROWS).to_bytes();
+    let lent = || (vec![1; STORE_ROWS * STORE_ROW], vec![1; TABLE_ROWS * TABLE_ROW], vec![1; EventList::MOST]);
+    let play = |calls: &Calls, (store, table, answers): &mut (Vec<u8>, Vec<u64>, Vec<u8>)| {
+        (calls.play)(&list, store, table, answers).unwrap()
+    };
+    let (mut left, mut expected) = (lent(), lent());
+    let played = on_a_small_stack(|| play(&proved::CALLS, &mut left));
+    assert_eq!((played, &left), (play(&second::CALLS, &mut expected), &expected));
+    assert!(played.accepted > 900 && played.proposals > 30 && played.decisions > 1, "{played:?}");
+}
+
+/// The deepest recursion of the core: a path of 256 rounds.
+#[test]
+fn the_longest_path_on_a_stack_of_64_kib() {
+    let (mut table, mut path) = (vec![1; TABLE_ROWS * TABLE_ROW], vec![0; TABLE_ROWS]);
+    let count = on_a_small_stack(|| {
+        tree_fresh(&mut table)?;
+        for round in 1..TABLE_ROWS as u32 {
+            tree_add(&mut table, Round(round), 70, Round(round - 1))?;
+            tree_commit(&mut table, Round(round))?;
+        }
+        tree_path(&table, Round(TABLE_ROWS as u32 - 1), &mut path)
+    });
+    assert_eq!(count, Ok(TABLE_ROWS));
+    assert!(path.iter().copied().eq(0..TABLE_ROWS as u64));
+}

@@ -1,0 +1,60 @@
+//! The JSON of a run, from the tool: an object for each event, with the fields that docs/host-notes.md names.
+
+use kalebasin_rig::suite::REHEARSAL;
+use std::process::Command;
+
+/// Status, standard output and standard error of the tool.
+fn tool(args: &[&str]) -> (i32, String, String) {
+    let output = Command::new(env!("CARGO_BIN_EXE_kalebasin")).args(args).output().unwrap();
+    let text = |bytes| String::from_utf8(bytes).unwrap();
+    (output.status.code().unwrap(), text(output.stdout), text(output.stderr))
+}
+
+/// The JSON of a list on the second implementation; that of the core is the same.
+fn json(list: &str) -> String {
+    let (status, out, error) = tool(&["run", "--json", "--second", "-e", list]);
+    assert_eq!((status, error.as_str()), (0, ""));
+    assert_eq!(tool(&["run", "--json", "-e", list]).1, out);
+    out
+}
+
+/// The section of docs/host-notes.md about JSON.
+fn documented() -> &'static str {
+    let notes = include_str!("../../../docs/host-notes.md");
+    let (_, section) = notes.split_once("\n## A run as JSON\n").expect("the notes have the section");
+    section.split("\n## ").next().unwrap()
+}
+
+#[test]
+fn the_documented_line() {
+    let printed = json(REHEARSAL);
+    assert_eq!(printed.lines().count(), 15);
+    let example: String = documented().lines().filter_map(|line| line.strip_prefix("    ")).collect();
+    assert_eq!(printed.lines().last(), Some(example.as_str()));
+}
+
+/// Every name that occurs is in the notes; names are what stands in quotes in front of a colon.
+#[test]
+fn every_field_is_documented() {
+    let printed = json(REHEARSAL) + &json("s(3,1,7) d(0,0) s(2,1,7)");
+    let mut names: Vec<&str> =
+        printed.split("\":").filter_map(|part| part.rsplit_once('"')).map(|part| part.1).collect();
+    names.sort_unstable();
+    names.dedup();
+    assert_eq!(names.len(), 33, "{names:?}");
+    for name in names {
+        assert!(documented().contains(&format!("`{name}`")), "{name}");
+    }
+}
+
+/// A refused list has no events to tell of; a file that can't be written is a mistake, and the JSON is there all the same.
+#[test]
+fn refused_lists_and_files_that_fail() {
+    for more in [&["--json"][..], &["--html", "/nowhere/page.html"]] {
+        let (status, out, _) = tool(&[&["run", "-e", "n=4 s(1,1,7)"], more].concat());
+        assert!(status == 1 && !out.contains("notation"), "{out}");
+    }
+    let (status, out, error) = tool(&["run", "--json", "--html", "/nowhere/page.html", "-e", "s(1,1,7)"]);
+    assert_eq!((status, out.lines().count()), (2, 1));
+    assert!(error.starts_with("kalebasin: /nowhere/page.html: "), "{error}");
+}

@@ -1,0 +1,116 @@
+//! The lists that a search goes through, and what it finds on how many threads; shrinking, and where bytes go wrong.
+
+use kalebasin::notation::parse;
+use kalebasin::{Event, EventList, Refusal, Round};
+use kalebasin_rig::generate::Case;
+use kalebasin_rig::search::{clean_case, few_events, Search, Source, ALWAYS, SOMETIMES};
+use kalebasin_rig::shape::misshape;
+use kalebasin_rig::shrink::shrink;
+use kalebasin_rig::{second, suite};
+use std::collections::BTreeSet;
+
+fn case(text: &str) -> Case {
+    let list = parse(text, None).unwrap();
+    let events = list.events.len();
+    clean_case(list, events, 4)
+}
+
+/// Each list once, shorter ones first, each with an answer byte for each event.
+#[test]
+fn all_lists() {
+    let events = case("n=5 s(1,1,10) d(0,0) d(0,1)");
+    let source = Source::All { of: events.clone(), longest: 4 };
+    let lists = source.lists().unwrap();
+    assert_eq!(lists, 1 + 3 + 9 + 27 + 81);
+    let cases: Vec<Case> = (0..lists).map(|number| source.case(1, number)).collect();
+    assert!(cases.is_sorted_by_key(|case| case.list.events.len()));
+    assert!(cases.iter().all(|case| case.lent.answers == case.list.events.len() && case.list.n == 5));
+    assert!(cases.iter().flat_map(|case| &case.list.events).all(|event| events.list.events.contains(event)));
+    let texts: BTreeSet<String> = cases.iter().map(|case| case.list.to_string()).collect();
+    assert_eq!((texts.len() as u64, cases.last().map(|case| case.list.events.len())), (lists, Some(4)));
+    assert_eq!(Source::All { of: events, longest: 41 }.lists(), None);
+    assert_eq!(Source::All { of: case("n=3"), longest: 9 }.lists(), Some(1));
+}
+
+#[test]
+fn few_events_of_each_office() {
+    for n in [3, 5, 7] {
+        let list = few_events(n);
+        assert_eq!((list.n, list.events.len()), (n, 2 + 4 * n as usize));
+        assert_eq!(list.events[1], Event::start(Round(2).leader(n).unwrap(), Round(2), 20));
+    }
+}
+
+/// A seed and a number give the same list again; another of either gives another.
+#[test]
+fn random_lists_by_number() {
+    let source = Source::Random { lists: 100, members: Some(5) };
+    let cases: BTreeSet<String> = (0..10)
+        .flat_map(|seed| (0..100).map(move |number| (seed, number)))
+        .map(|(seed, number)| {
+            let case = source.case(seed, number);
+            assert_eq!((case.list.n, &case), (5, &source.case(seed, number)));
+            format!("{case:?}")
+        })
+        .collect();
+    assert_eq!(cases.len(), 1_000);
+}
+
+/// However many threads there are, the same list is found, and without one as many lists are tried as asked for.
+#[test]
+fn threads() {
+    for (seed, property) in (1..).zip(SOMETIMES) {
+        let found = [1, 2, 7].map(|threads| {
+            let source = Source::Random { lists: 10_000, members: None };
+            let search = Search { calls: &second::CALLS, properties: vec![property], seed, source };
+            search.run(threads, &mut |_| ()).unwrap_or_else(|| panic!("{} never fails", property.name)).case
+        });
+        assert!(found[0] == found[1] && found[0] == found[2], "{}: {found:?}", property.name);
+    }
+    for threads in [0, 1, 3] {
+        let source = Source::Random { lists: 333, members: None };
+        let search = Search { calls: &second::CALLS, properties: ALWAYS.iter().collect(), seed: 1, source };
+        let mut tried = 0;
+        assert!(search.run(threads, &mut |progress| tried = progress.lists).is_none());
+        assert_eq!(tried, 333);
+    }
+}
+
+fn offers(list: &EventList) -> Vec<u64> {
+    let offer = |event: &Event| if let Event::Start { offer, .. } = event { Some(*offer) } else { None };
+    list.events.iter().filter_map(offer).collect()
+}
+
+/// Offers get small and stay apart, also where one of them has to stay.
+#[test]
+fn shrunk_offers() {
+    let starts = "s(1,1,500) s(2,2,500) s(0,3,18446744073709551615) s(1,4,10)";
+    let all = |case: &Case| case.list.events.len() == 4;
+    assert_eq!(offers(&shrink(case(starts), &mut |case| all(case)).list), [10, 20, 30, 40]);
+    let kept = |case: &Case, kept: u64| all(case) && offers(&case.list).contains(&kept);
+    assert_eq!(offers(&shrink(case(starts), &mut |case| kept(case, u64::MAX)).list), [20, 30, u64::MAX, 10]);
+    let equal = |case: &Case| all(case) && offers(&case.list)[0] == offers(&case.list)[1];
+    let shrunk = offers(&shrink(case(starts), &mut |case| equal(case)).list);
+    assert_eq!(shrunk, [500, 500, 20, 10]);
+}
+
+/// What is wrong with the bytes of a list is told of exactly those that are refused with 26, at a byte that is there or
+/// right behind the last.
+#[test]
+fn shapes_of_lists() {
+    let lists =
+        ["n=3 s(1,1,70) d(0,0) d(1,1)", "n=5", "n=7 d(0,0) s(6,6,0)"].map(|text| parse(text, None).unwrap().to_bytes());
+    let mut refused = 0;
+    for list in lists {
+        suite::each_damage(&list, &mut |bytes| {
+            let misshape = misshape(bytes);
+            let read = EventList::from_bytes(bytes);
+            assert_eq!(read.as_ref().err(), misshape.as_ref().map(|_| &Refusal::ListShape), "{bytes:?}");
+            assert!(misshape.is_none_or(|misshape| misshape.byte <= bytes.len()), "{bytes:?}");
+            refused += usize::from(read.is_err());
+            Ok(())
+        })
+        .unwrap();
+    }
+    assert!(refused > 5_000, "{refused}");
+}

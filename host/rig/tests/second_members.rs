@@ -1,0 +1,266 @@
+//! The second implementation's members against document 01: soundness field by field, each row of the member table,
+//! and that a refused step changes nothing.
+
+use kalebasin::notation::parse;
+use kalebasin::{number_of, Event, Member, Message, Refusal, Round, Vote};
+use kalebasin_rig::second::member::{deliver, fresh, start, Record, COLLECTING, DECIDED, PROPOSED};
+use kalebasin_rig::second::member::{Decision, Proposal, Step};
+use kalebasin_rig::second::message::{read, write};
+use kalebasin_rig::suite::REHEARSAL;
+
+fn member(number: u32) -> Record {
+    fresh(Member(number), 3).unwrap()
+}
+
+/// Member 1 of 3, which has joined round 5, voted for 9 in round 3, and collects JOINs of round 4.
+fn collecting() -> Record {
+    Record { j: Round(5), v: Round(3), w: 9, l: Round(4), phase: COLLECTING, x: 70, ..member(1) }
+}
+
+fn put(message: Message) -> Vec<u8> {
+    let mut bytes = vec![0; 28];
+    let length = write(&message, &mut bytes).unwrap();
+    bytes.truncate(length);
+    bytes
+}
+
+/// The answer of a delivery, with the message sent; a refusal changes neither record nor reply.
+fn give(record: &mut Record, message: Message) -> Result<Option<Message>, u32> {
+    let before = *record;
+    let mut reply = [0xaa; 33];
+    match deliver(record, &mut reply, &put(message)) {
+        Ok((sent, step)) => {
+            assert!(reply[sent..].iter().all(|byte| *byte == 0xaa));
+            assert_eq!(step.sent, if sent == 0 { None } else { read(&reply[..sent]).ok() });
+            assert!(record.is_sound());
+            Ok(step.sent)
+        }
+        Err(refusal) => {
+            assert_eq!(*record, before);
+            assert_eq!(reply, [0xaa; 33]);
+            Err(refusal.number())
+        }
+    }
+}
+
+#[test]
+fn fresh_members() {
+    for n in 0..=9 {
+        for number in 0..=9 {
+            let allowed = [3, 5, 7].contains(&n) && number < n;
+            let made = fresh(Member(number), n);
+            assert_eq!(number_of(&made), if allowed { 0 } else { 17 });
+            assert!(made.is_ok_and(|record| record.is_sound()) == allowed);
+        }
+    }
+}
+
+#[test]
+fn soundness() {
+    let flags = |set: &[usize]| {
+        let mut flags = [false; 7];
+        set.iter().for_each(|at| flags[*at] = true);
+        flags
+    };
+    let base = collecting();
+    let proposed = Record { phase: PROPOSED, ..base };
+    let decided = Record { phase: DECIDED, flags: flags(&[0, 2]), ..base };
+    let sound = [
+        base,
+        proposed,
+        decided,
+        Record { flags: flags(&[2]), ..base },
+        Record { w: 0, ..base },
+        Record { v: Round(0), w: 0, ..base },
+        Record { b: Round(3), ..base },
+        Record { j: Round(1_000_000), l: Round(1_000_000), ..base },
+        Record { j: Round(0), v: Round(0), w: 0, ..base },
+        Record { j: Round(7), v: Round(7), ..member(2) },
+    ];
+    let unsound = [
+        Record { n: 4, ..base },
+        Record { n: 0, ..base },
+        Record { number: Member(3), ..base },
+        Record { phase: 4, ..base },
+        Record { v: Round(6), ..base },
+        Record { j: Round(1_000_001), ..base },
+        Record { v: Round(0), w: 9, ..base },
+        Record { flags: flags(&[3]), ..base },
+        Record { flags: flags(&[0, 1]), ..base },
+        Record { flags: flags(&[0, 1]), ..proposed },
+        Record { flags: flags(&[0]), ..decided },
+        Record { flags: flags(&[0, 1, 2]), ..decided },
+        Record { phase: 0, ..base },
+        Record { l: Round(0), ..base },
+        Record { l: Round(5), ..base },
+        Record { l: Round(1_000_003), ..base },
+        Record { b: Round(4), ..base },
+        Record { x: 1, ..member(0) },
+        Record { b: Round(1), ..member(0) },
+        Record { flags: flags(&[0]), ..member(0) },
+    ];
+    sound.iter().for_each(|record| assert!(record.is_sound(), "{record:?}"));
+    for mut record in unsound {
+        let before = record;
+        assert!(!record.is_sound(), "{record:?}");
+        assert_eq!(start(&mut record, &mut [], Round(0), 0), Err(Refusal::RecordUnsound));
+        assert_eq!(deliver(&mut record, &mut [], &[]), Err(Refusal::RecordUnsound));
+        assert_eq!(record, before);
+    }
+}
+
+#[test]
+fn short_reply_before_message_and_round() {
+    let mut record = member(1);
+    assert_eq!(start(&mut record, &mut [0; 27], Round(0), 0), Err(Refusal::ReplyTooShort));
+    assert_eq!(deliver(&mut record, &mut [0; 27], &[]), Err(Refusal::ReplyTooShort));
+    assert_eq!(deliver(&mut record, &mut [0; 28], &[]), Err(Refusal::MessageLength));
+    assert_eq!(deliver(&mut record, &mut [0; 28], &[0, 0, 0, 9]), Err(Refusal::MessageKind));
+}
+
+#[test]
+fn starts() {
+    let mut record = collecting();
+    let before = record;
+    let mut reply = [0xaa; 30];
+    for (round, number) in [(0, 3), (1_000_001, 3), (u32::MAX, 3), (5, 19), (2, 19), (1, 20), (4, 20)] {
+        assert_eq!(number_of(&start(&mut record, &mut reply, Round(round), 80)), number, "{round}");
+        assert_eq!((record, reply), (before, [0xaa; 30]));
+    }
+    let (sent, step) = start(&mut record, &mut reply, Round(7), 80).unwrap();
+    assert_eq!(step.sent, Some(Message::start(Round(7), Member(1))));
+    assert_eq!(read(&reply[..sent]).ok(), step.sent);
+    assert!(reply[sent..].iter().all(|byte| *byte == 0xaa));
+    assert_eq!(record, Record { l: Round(7), phase: COLLECTING, x: 80, b: Round(0), flags: [false; 7], ..before });
+}
+
+#[test]
+fn start_messages() {
+    let start = |round, sender| Message::start(Round(round), Member(sender));
+    let mut record = member(2);
+    assert_eq!(give(&mut record, start(4, 0)), Err(21));
+    assert_eq!(give(&mut record, start(4, 1)), Ok(Some(Message::join(Round(4), Member(2), None))));
+    assert_eq!(record, Record { j: Round(4), ..member(2) });
+    assert_eq!(give(&mut record, start(4, 1)), Err(22));
+    assert_eq!(give(&mut record, start(3, 0)), Err(22));
+    let mut voted = Record { j: Round(4), v: Round(3), w: 0, ..member(2) };
+    let vote = Some(Vote { round: Round(3), value: 0 });
+    assert_eq!(give(&mut voted, start(6, 0)), Ok(Some(Message::join(Round(6), Member(2), vote))));
+}
+
+#[test]
+fn join_messages() {
+    let join = |round, sender, vote: Option<(u32, u64)>| {
+        Message::join(Round(round), Member(sender), vote.map(|(round, value)| Vote { round: Round(round), value }))
+    };
+    let mut record = collecting();
+    assert_eq!(give(&mut record, join(4, 3, None)), Err(21));
+    assert_eq!(give(&mut record, join(7, 0, None)), Err(24));
+    assert_eq!(give(&mut record, join(4, 0, Some((2, 66)))), Ok(None));
+    assert_eq!((record.b, record.x, record.counted()), (Round(2), 66, 1));
+    assert_eq!(give(&mut record, join(4, 0, Some((3, 67)))), Err(25));
+    let mut same = record;
+    assert_eq!(give(&mut same, join(4, 2, Some((2, 99)))), Ok(Some(Message::propose(Round(4), Member(1), 66))));
+    let mut reply = [0; 28];
+    let (_, step) = deliver(&mut record, &mut reply, &put(join(4, 2, Some((3, 67))))).unwrap();
+    assert_eq!(step.proposal, Some(Proposal { round: Round(4), value: 67, parent: Round(3) }));
+    assert_eq!((record.phase, record.flags), (PROPOSED, [false; 7]));
+    assert_eq!(give(&mut record, join(4, 1, None)), Err(24));
+}
+
+#[test]
+fn propose_messages() {
+    let propose = |round, sender, value| Message::propose(Round(round), Member(sender), value);
+    let vote = |round| Ok(Some(Message::vote(Round(round), Member(2))));
+    let mut record = Record { j: Round(5), ..member(2) };
+    assert_eq!(give(&mut record, propose(5, 1, 9)), Err(21));
+    assert_eq!(give(&mut record, propose(4, 1, 9)), Err(22));
+    assert_eq!(give(&mut record, propose(5, 2, 9)), vote(5));
+    assert_eq!(record, Record { j: Round(5), v: Round(5), w: 9, ..member(2) });
+    assert_eq!(give(&mut record, propose(5, 2, 8)), Err(23));
+    assert_eq!(give(&mut record, propose(5, 2, 9)), vote(5));
+    assert_eq!(give(&mut record, propose(9, 0, 0)), vote(9));
+    assert_eq!(record, Record { j: Round(9), v: Round(9), w: 0, ..member(2) });
+    assert_eq!(give(&mut record, propose(5, 2, 8)), Err(22));
+}
+
+#[test]
+fn vote_messages() {
+    let vote = |round, sender| Message::vote(Round(round), Member(sender));
+    let mut record = Record { phase: PROPOSED, ..collecting() };
+    assert_eq!(give(&mut collecting(), vote(4, 0)), Err(24));
+    assert_eq!(give(&mut record, vote(4, 3)), Err(21));
+    assert_eq!(give(&mut record, vote(7, 0)), Err(24));
+    assert_eq!(give(&mut record, vote(4, 0)), Ok(None));
+    assert_eq!(give(&mut record, vote(4, 0)), Err(25));
+    let mut reply = [0; 28];
+    let (sent, step) = deliver(&mut record, &mut reply, &put(vote(4, 2))).unwrap();
+    assert_eq!((sent, step.decision), (0, Some(Decision { round: Round(4), value: 70 })));
+    assert_eq!((record.phase, record.counted()), (DECIDED, 2));
+    assert_eq!(give(&mut record, vote(4, 1)), Err(24));
+}
+
+#[test]
+fn quorums() {
+    assert_eq!([3, 5, 7].map(kalebasin_rig::second::member::quorum), [2, 3, 4]);
+}
+
+/// A step's line: the number, the message sent, what is proposed or decided.
+fn line(answer: Result<Step, Refusal>) -> String {
+    let mut line = number_of(&answer).to_string();
+    let Ok(step) = answer else { return line };
+    if let Some(message) = step.sent {
+        let (name, numbers) = match message {
+            Message::Start { .. } => ("START", String::new()),
+            Message::Join { vote: None, .. } => ("JOIN", String::new()),
+            Message::Join { vote: Some(vote), .. } => ("JOIN", format!(" {} {}", vote.round, vote.value)),
+            Message::Propose { value, .. } => ("PROPOSE", format!(" {value}")),
+            Message::Vote { .. } => ("VOTE", String::new()),
+        };
+        line += &format!(" {name} {} {}{numbers}", message.round(), message.sender());
+    }
+    if let Some(Proposal { round, value, parent }) = step.proposal {
+        line += &format!(" add {round} {value} {parent}");
+    }
+    if let Some(Decision { round, value }) = step.decision {
+        line += &format!(" commit {round} {value}");
+    }
+    line
+}
+
+/// The lines of the rehearsal: member 1 proposes 70 in round 1, member 2 takes over in round 2 before all votes have
+/// arrived and has to propose 70 again.
+const CONTEST: &str = "\
+0 START 1 1
+0 JOIN 1 0
+0 JOIN 1 1
+0
+25
+0 PROPOSE 1 1 70 add 1 70 0
+0 VOTE 1 0
+0 START 2 2
+0 JOIN 2 0 1 70
+0 JOIN 2 2
+0
+0 PROPOSE 2 2 70 add 2 70 1
+0 VOTE 1 1
+0
+0 commit 1 70
+";
+
+#[test]
+fn the_rehearsal_step_by_step() {
+    let mut members = [0, 1, 2].map(member);
+    let (mut sent, mut lines) = (Vec::new(), String::new());
+    for event in parse(REHEARSAL, None).unwrap().events {
+        let record = &mut members[event.member().0 as usize];
+        let answer = match event {
+            Event::Start { round, offer, .. } => record.start(round, offer),
+            Event::Deliver { message, .. } => record.deliver(&sent[message.0 as usize]),
+            other => panic!("the rehearsal has starts and deliveries, not {other}"),
+        };
+        sent.extend(answer.ok().and_then(|step| step.sent));
+        lines += &(line(answer) + "\n");
+    }
+    assert_eq!(lines, CONTEST);
+}

@@ -1,0 +1,204 @@
+//! The second implementation's play against document 01: the rehearsal to the letter, the list refusals in order, the
+//! faults seen on earlier builds, and the third demand on random lists.
+
+use kalebasin::notation::parse;
+use kalebasin::{nodes, number_of, sent, EventList, Played, Refusal, Status};
+use kalebasin_rig::compare::{play, Left, Lent};
+use kalebasin_rig::random::Random;
+use kalebasin_rig::search::{Run, ALWAYS};
+use kalebasin_rig::second;
+use kalebasin_rig::second::model::Made;
+use kalebasin_rig::suite::REHEARSAL;
+use kalebasin_rig::{generate, rehearsal};
+
+fn list(notation: &str) -> EventList {
+    parse(notation, None).unwrap()
+}
+
+fn run(notation: &str, store: usize, table: usize) -> Left {
+    let list = list(notation);
+    play(&second::CALLS, &list.to_bytes(), &Lent { dirt: 5, ..Lent::rows(store, table, list.events.len()) })
+}
+
+fn answers(notation: &str) -> Vec<u8> {
+    run(notation, 100, 64).answers().to_vec()
+}
+
+/// Accepted events, messages, proposals, decisions.
+fn counts(played: Played) -> [u32; 4] {
+    [played.accepted, played.messages, played.proposals, played.decisions]
+}
+
+#[test]
+fn rehearsal_to_the_letter() {
+    let expected = "0 0 0 0 25 0 0 0 0 0 0 0 0 0 0\n0 0 0 3\n1 0 70 3\n2 1 70 1\n";
+    let output = |list: &[u8]| rehearsal::output(&second::CALLS, list);
+    assert_eq!(output(&list(REHEARSAL).to_bytes()), (expected.into(), Ok(())));
+    assert_eq!(output(&list("n=3").to_bytes()), ("\n0 0 0 3\n".into(), Ok(())));
+    assert_eq!(output(&list("n=4").to_bytes()), ("27\n".into(), Err(Refusal::OfficeSize)));
+    assert_eq!(output(&[0; 7]), ("26\n".into(), Err(Refusal::ListShape)));
+    let left = run(REHEARSAL, 1000, 64);
+    assert_eq!(left.result.map(counts), Ok([14, 10, 2, 1]));
+    let kinds = sent(left.store(), 10).map(|bytes| second::message::read(bytes).unwrap().kind());
+    let order = ["START", "JOIN", "JOIN", "PROPOSE", "VOTE", "START", "JOIN", "JOIN", "PROPOSE", "VOTE"];
+    assert_eq!(kinds.collect::<Vec<_>>(), order);
+}
+
+fn number(list: &[u8], lent: Lent) -> u32 {
+    let lent = Lent { dirt: 3, ..lent };
+    let left = play(&second::CALLS, list, &lent);
+    if left.result.is_err() {
+        let refused = play(&second::CALLS, &[], &lent);
+        assert_eq!((left.store(), left.table(), left.answers()), (refused.store(), refused.table(), refused.answers()));
+    }
+    number_of(&left.result)
+}
+
+#[test]
+fn list_refusals_in_order() {
+    let good = list("n=3 s(1,1,70) d(0,0)").to_bytes();
+    let with_n = |n| list(&format!("n={n} s(1,1,70) d(0,0)")).to_bytes();
+    let lent = Lent::rows(2, 2, 2);
+    assert_eq!(number(&good, lent), 0);
+    for length in 0..good.len() {
+        assert_eq!(number(&good[..length], Lent { table: 0, store: 0, ..lent }), 26, "{length}");
+    }
+    assert_eq!(number(&[&good[..], &[0]].concat(), lent), 26);
+    for (at, byte) in [(7, 1), (7, 3), (4, 1), (11, 0), (11, 2), (11, 3), (8, 1)] {
+        let mut damaged = good.clone();
+        damaged[at] = byte;
+        assert_eq!(number(&damaged, lent), 26, "byte {at} is {byte}");
+    }
+    for n in [0, 1, 2, 4, 6, 8, 9, u32::MAX] {
+        assert_eq!(number(&with_n(n), Lent { table: 0, store: 0, ..lent }), 27, "{n}");
+    }
+    for store in [0, 1, 27, 29, 55, 28 * 2_000 + 1, 28 * 2_001] {
+        assert_eq!(number(&good, Lent { store, table: 0, ..lent }), 28, "{store}");
+    }
+    assert_eq!(number(&good, Lent { answers: 1, table: 0, ..lent }), 28);
+    assert_eq!(number(&good, Lent { store: 28 * 2_000, ..lent }), 0);
+    for table in [0, 1, 5, 1_023, 1_025, 1_028] {
+        assert_eq!(number(&good, Lent { table, ..lent }), 1, "{table}");
+    }
+    let mut long = EventList::new(3);
+    long.events = vec![list("n=3 d(0,0)").events[0]; 1_001];
+    assert_eq!(number(&long.to_bytes(), Lent::rows(1, 1, 1_001)), 26);
+    long.events.pop();
+    assert_eq!(number(&long.to_bytes(), Lent::rows(1, 1, 1_000)), 0);
+}
+
+#[test]
+fn event_refusals() {
+    assert_eq!(answers("n=3 s(3,1,70) s(1,0,70) s(1,1000001,70) s(2,1,70) s(1,1,70) s(1,1,70)"), [29, 3, 3, 19, 0, 20]);
+    assert_eq!(
+        answers("n=3 d(0,0) s(1,1,70) d(0,3) d(1,0) d(0,0) d(0,0) d(1,0) d(1,2)"),
+        [29, 0, 29, 29, 0, 22, 24, 24]
+    );
+}
+
+/// 30 before 9; an event refused with either changes nothing, its flag too.
+#[test]
+fn full_store_and_full_table() {
+    let to_proposal = "n=3 s(1,1,70) d(0,0) d(0,1) d(1,1) d(2,1) d(2,1)";
+    let full_store = run(to_proposal, 3, 1);
+    assert_eq!(full_store.answers(), [0, 0, 0, 0, 30, 30]);
+    assert_eq!(full_store.result.map(counts), Ok([4, 3, 0, 0]));
+    let full_table = run(to_proposal, 4, 1);
+    assert_eq!(full_table.answers(), [0, 0, 0, 0, 9, 9]);
+    assert_eq!(run(to_proposal, 4, 2).answers(), [0, 0, 0, 0, 0, 24]);
+    assert_eq!(run("n=3 s(1,1,70) s(2,2,80) d(0,0)", 1, 1).answers(), [0, 30, 30]);
+}
+
+/// Faults seen on earlier builds, each with a list that shows it.
+#[test]
+fn faults_seen_on_earlier_builds() {
+    // Presence left out and taken as 0: round 2 proposes 80.
+    let table = run(REHEARSAL, 1000, 64).table().to_vec();
+    assert_eq!(nodes(&table).map(|node| node.value).collect::<Vec<_>>(), [0, 70, 70]);
+    // One sender's JOIN counted twice.
+    assert_eq!(answers("n=3 s(1,1,70) d(0,0) d(1,1) d(1,1)"), [0, 0, 0, 25]);
+    // START accepted when J = r.
+    assert_eq!(answers("n=3 s(1,1,70) d(0,0) d(0,0)"), [0, 0, 22]);
+    // Status GHOST written over COMMITTED: round 1 is decided, round 3 follows it and strikes out round 2.
+    let committed =
+        "n=3 s(1,1,70) d(0,0) d(0,1) d(1,1) d(2,1) d(3,0) d(3,1) d(4,1) d(5,1) s(2,2,80) d(6,0) d(6,2) d(7,2) \
+                     d(8,2) s(0,3,90) d(10,0) d(10,1) d(11,0) d(12,0)";
+    let table = run(committed, 1000, 64).table().to_vec();
+    let statuses: Vec<Status> = nodes(&table).map(|node| node.status).collect();
+    assert_eq!(statuses, [Status::Committed, Status::Committed, Status::Ghost, Status::Added]);
+    // The first JOIN's value taken in place of the highest voted round's: member 1 voted for 70 in round 1, member 2
+    // for 80 in round 2, and round 3 hears of round 1 first.
+    let highest = "n=3 s(1,1,70) d(0,0) d(0,1) d(1,1) d(2,1) d(3,1) s(2,2,80) d(5,0) d(5,2) d(6,2) d(7,2) d(8,2) \
+                   s(0,3,90) d(10,1) d(10,2) d(11,0) d(12,0)";
+    let left = run(highest, 1000, 64);
+    assert!(left.answers().iter().all(|answer| *answer == 0), "{:?}", left.answers());
+    let rows: Vec<_> = nodes(left.table()).map(|node| (node.round.0, node.parent.0, node.value)).collect();
+    assert_eq!(rows, [(0, 0, 0), (1, 0, 70), (2, 0, 80), (3, 2, 80)]);
+}
+
+#[derive(Default, Debug)]
+struct Reached {
+    lists: usize,
+    events: usize,
+    longest: usize,
+    proposed: usize,
+    decided: usize,
+    taken_over: usize,
+    late_decision: usize,
+    two_decisions: usize,
+    full_store: usize,
+    full_table: usize,
+}
+
+impl Reached {
+    fn count(&mut self, run: &Run) {
+        let mut highest = 0;
+        let mut late = false;
+        for at in &run.model.made {
+            match at.made {
+                Made::Proposal(made) => highest = highest.max(made.round.0),
+                Made::Decision(made) => late |= made.round.0 < highest,
+            }
+        }
+        self.lists += 1;
+        self.events += run.answers.len();
+        self.longest = self.longest.max(run.answers.len());
+        self.proposed += usize::from(run.model.proposals().next().is_some());
+        self.decided += usize::from(run.model.decisions().next().is_some());
+        self.taken_over += usize::from(run.model.proposals().any(|made| made.parent.0 > 0));
+        self.late_decision += usize::from(late);
+        self.two_decisions += usize::from(run.model.decisions().count() > 1);
+        self.full_store += usize::from(run.answers.contains(&30));
+        self.full_table += usize::from(run.answers.contains(&9));
+    }
+}
+
+/// What document 01 says of every run, on steered lists; and that the steering reaches what it is to reach.
+#[test]
+fn third_demand_on_random_lists() {
+    let mut random = Random::new(1);
+    let mut reached = Reached::default();
+    for _ in 0..40_000 {
+        let run = Run::new(&second::CALLS, &generate::case(&mut random));
+        for property in ALWAYS {
+            if let Some(how) = (property.fails)(&second::CALLS, &run) {
+                panic!("{}: {how}\n{}", property.name, run.case.list);
+            }
+        }
+        reached.count(&run);
+    }
+    println!("{reached:#?}");
+    assert!(reached.longest > 900);
+    let shares = [
+        (reached.proposed, 60),
+        (reached.decided, 35),
+        (reached.taken_over, 30),
+        (reached.late_decision, 6),
+        (reached.two_decisions, 10),
+        (reached.full_store, 10),
+        (reached.full_table, 5),
+    ];
+    for (count, percent) in shares {
+        assert!(count * 100 >= reached.lists * percent, "{percent}: {reached:#?}");
+    }
+}

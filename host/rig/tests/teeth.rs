@@ -1,0 +1,166 @@
+//! The comparison has teeth: copies of the second implementation, each with one fault, are told apart from it, and the
+//! report has a short list. A fault is an edit of the source; the copies are compiled beside the crates and compared
+//! with the reference by the parts of the comparison.
+
+use std::fs;
+use std::path::{Path, PathBuf};
+use std::process::{Child, Command, Stdio};
+
+/// A fault: its name, the file, the text there and what stands in its place.
+struct Fault(&'static str, &'static str, &'static str, &'static str);
+
+const FAULTS: &[Fault] = &[
+    Fault("nothing is changed", "member.rs", "", ""),
+    Fault("presence is taken as 0", "member.rs", "if self.v > Round(0) { Some", "if self.v > Round::HIGHEST { Some"),
+    Fault("a JOIN is counted twice", "member.rs", "*flag = true;", "*flag = phase == PROPOSED;"),
+    Fault("START is accepted when J = r", "member.rs", "if self.j >= round {", "if self.j > round {"),
+    Fault(
+        "GHOST over COMMITTED",
+        "tree.rs",
+        "ancestor = node[PARENT];",
+        "ancestor = node[PARENT]; if node[ROUND] > 0 && node[STATUS] == COMMITTED { node[STATUS] = GHOST; }",
+    ),
+    Fault("the first JOIN's value is taken", "member.rs", "if vote.round > self.b {", "if self.b == Round(0) {"),
+    Fault("the last JOIN's value is taken", "member.rs", "if vote.round > self.b {", "if vote.round != self.b {"),
+    Fault("flags are kept when proposing", "member.rs", "PROPOSED;\n        self.flags = [false; 7];", "PROPOSED;"),
+    Fault("PROPOSE is refused when J = r", "member.rs", "if self.j > round {", "if self.j >= round {"),
+    Fault("a vote leaves J", "member.rs", "self.j = round;\n        self.v = round;", "self.v = round;"),
+    Fault(
+        "9 before 30",
+        "play.rs",
+        "return Err(Refusal::StoreFull);",
+        "let full = (self.played.proposals as usize + 1) * 4 == self.table.len();
+         return Err(if full && step.proposal.is_some() { Refusal::NoFreeRow } else { Refusal::StoreFull });",
+    ),
+    Fault("the table isn't cleared", "tree.rs", "    table.fill(0);\n", ""),
+    Fault("the store isn't cleared", "play.rs", "    store.fill(0);\n", ""),
+    Fault(
+        "only the highest COMMITTED is asked",
+        "tree.rs",
+        "if used(table, nodes).any(|node| node[STATUS] == COMMITTED &&",
+        "let highest = used(table, nodes).filter(|node| node[STATUS] == COMMITTED).max_by_key(|node| node[ROUND]);
+         if highest.is_some_and(|node|",
+    ),
+    Fault(
+        "the first crossed round is spared",
+        "tree.rs",
+        "node[ROUND] < r {",
+        "node[ROUND] < r && node[ROUND] > p + 1 {",
+    ),
+    Fault(
+        "a JOIN under 16 bytes is read as one that never voted",
+        "message.rs",
+        "if bytes.len() < 16 {",
+        "if bytes.len() == 12 {
+        return Ok(Message::join(round(bytes), sender(bytes), None));
+    }
+    if bytes.len() < 16 {",
+    ),
+    Fault(
+        "presence after the rest of the length",
+        "message.rs",
+        "_ => return Err(Refusal::MessageField),",
+        "_ => return Err(if bytes.len() == 28 { Refusal::MessageField } else { Refusal::MessageLength }),",
+    ),
+    Fault("a voted round may be the JOIN's", "message.rs", "vote.round < *round", "vote.round <= *round"),
+    Fault(
+        "a free row may hold a word",
+        "tree.rs",
+        "replay == table\n",
+        "replay[..table.len() - 1] == table[..table.len() - 1]\n",
+    ),
+    Fault("a path that just fits is refused", "tree.rs", "if out.len() < count {", "if out.len() <= count {"),
+];
+
+/// Compares the faulty copy with the number given to the program with the reference, and prints the first report.
+const MAIN: &str = r#"
+fn main() {
+    use kalebasin_rig::suite;
+    let number: usize = std::env::args().nth(1).unwrap().parse().unwrap();
+    let calls = kalebasin_rig::Calls { name: "the faulty copy", ..FAULTY[number] };
+    let pair = [&calls, &kalebasin_rig::second::CALLS];
+    let compared = suite::random_lists(pair, 1, 5_000, &mut |_| ())
+        .and_then(|_| suite::random_trees(pair, 1, 2_000))
+        .and_then(|_| suite::small_tables(pair))
+        .and_then(|_| suite::messages(pair));
+    if let Err(report) = compared {
+        println!("{report}");
+    }
+}
+"#;
+
+fn rustc(folder: &Path, args: &[&str]) {
+    let rustc = std::env::var("RUSTC").unwrap_or("rustc".into());
+    let mut command = Command::new(rustc);
+    let output =
+        command.current_dir(folder).args(["--edition=2021", "-Cdebuginfo=0", "-L."]).args(args).output().unwrap();
+    assert!(output.status.success(), "{args:?}\n{}", String::from_utf8_lossy(&output.stderr));
+}
+
+const LIBRARY: &str = "--extern=kalebasin=libkalebasin.rlib";
+const RIG: &str = "--extern=kalebasin_rig=libkalebasin_rig.rlib";
+
+/// A crate without the core.
+fn crate_of(folder: &Path, root: &Path, args: &[&str]) {
+    let features = "--check-cfg=cfg(feature, values(\"core\"))";
+    let without = ["--crate-type=rlib", "-Copt-level=2", features, root.to_str().unwrap()];
+    rustc(folder, &[&without, args].concat());
+}
+
+/// Copies the second implementation with a fault into a folder.
+fn faulty_copy(fault: &Fault, source: &Path, folder: &Path) {
+    let Fault(name, file_to_edit, old, new) = fault;
+    fs::create_dir_all(folder).unwrap();
+    for entry in fs::read_dir(source.join("second")).unwrap() {
+        let entry = entry.unwrap();
+        let mut text = fs::read_to_string(entry.path()).unwrap();
+        if entry.file_name() == *file_to_edit && !old.is_empty() {
+            assert_eq!(text.matches(old).count(), 1, "{name}: the text to edit stands once in {file_to_edit}");
+            text = text.replace(old, new);
+        }
+        fs::write(folder.join(entry.file_name()), text).unwrap();
+    }
+}
+
+/// A program with all faulty copies, each a module. They take `Calls` from the crate's front, as the original does.
+fn build(source: &Path, folder: &Path) -> PathBuf {
+    fs::create_dir_all(folder).unwrap();
+    let mut main = String::from("#![allow(dead_code, unused)]\npub use kalebasin_rig::Calls;\n");
+    let mut faulty = String::new();
+    for (at, fault) in FAULTS.iter().enumerate() {
+        faulty_copy(fault, source, &folder.join(format!("fault_{at}")));
+        main += &format!("mod fault_{at};\n");
+        faulty += &format!("fault_{at}::CALLS, ");
+    }
+    main += &format!("const FAULTY: [kalebasin_rig::Calls; {}] = [{faulty}];\n{MAIN}", FAULTS.len());
+    fs::write(folder.join("main.rs"), main).unwrap();
+    crate_of(folder, &source.join("../../kalebasin/src/lib.rs"), &["--crate-name=kalebasin"]);
+    crate_of(folder, &source.join("lib.rs"), &["--crate-name=kalebasin_rig", LIBRARY]);
+    rustc(folder, &["-Copt-level=0", LIBRARY, RIG, "-o", "compare", "main.rs"]);
+    folder.join("compare")
+}
+
+/// Starts the comparison of a fault.
+fn start(program: &Path, number: usize) -> Child {
+    let mut command = Command::new(program);
+    command.arg(number.to_string()).stdout(Stdio::piped()).stderr(Stdio::piped()).spawn().unwrap()
+}
+
+/// What the comparison reports of a fault.
+fn report(name: &str, started: Child) -> String {
+    let output = started.wait_with_output().unwrap();
+    assert!(output.status.success(), "{name}\n{}", String::from_utf8_lossy(&output.stderr));
+    String::from_utf8(output.stdout).unwrap()
+}
+
+#[test]
+fn each_fault_is_found() {
+    let source = PathBuf::from(env!("CARGO_MANIFEST_DIR")).join("src");
+    let program = build(&source, &PathBuf::from(env!("CARGO_TARGET_TMPDIR")).join("teeth"));
+    let started: Vec<Child> = (0..FAULTS.len()).map(|number| start(&program, number)).collect();
+    for (started, Fault(name, _, old, _)) in started.into_iter().zip(FAULTS) {
+        let report = report(name, started);
+        println!("{name}:\n{report}");
+        assert_eq!(report.is_empty(), old.is_empty(), "{name}: {report}");
+    }
+}

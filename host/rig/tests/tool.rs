@@ -1,0 +1,632 @@
+//! The rig's tool from the outside, its notation and its drawings. What plays a list is tried on each implementation.
+
+// Some of it is for the tests of timelines alone.
+#[allow(dead_code)]
+mod svg;
+
+use kalebasin::notation::parse;
+use kalebasin::{Event, EventList, Refusal};
+use kalebasin_rig::draw;
+use kalebasin_rig::suite::REHEARSAL;
+use std::ffi::OsStr;
+use std::io::{BufRead, BufReader, Write};
+use std::os::unix::ffi::OsStrExt;
+use std::process::{Command, Stdio};
+use svg::elements;
+
+/// An implementation: the option that chooses it, if one is needed, and its name.
+struct On(Option<&'static str>, &'static str);
+
+const SECOND: On = On(Some("--second"), "the second implementation");
+
+/// The implementations that there are, the core first: it is the one that the tool takes by itself.
+const IMPLEMENTATIONS: &[On] = &[
+    #[cfg(feature = "core")]
+    On(None, "the proved core"),
+    SECOND,
+];
+
+fn command(on: &On, args: &[&str]) -> Command {
+    let mut command = Command::new(env!("CARGO_BIN_EXE_kalebasin"));
+    command.args(on.0).args(args).stdin(Stdio::piped()).stdout(Stdio::piped()).stderr(Stdio::piped());
+    command
+}
+
+/// Status, standard output and standard error of the tool on an implementation.
+fn tool_on(on: &On, args: &[&str], input: &[u8]) -> (i32, String, String) {
+    let mut child = command(on, args).spawn().unwrap();
+    let _ = child.stdin.take().unwrap().write_all(input);
+    let output = child.wait_with_output().unwrap();
+    let text = |bytes| String::from_utf8(bytes).unwrap();
+    (output.status.code().unwrap(), text(output.stdout), text(output.stderr))
+}
+
+/// The same where the implementation doesn't matter.
+fn tool(args: &[&str], input: &[u8]) -> (i32, String, String) {
+    tool_on(&On(None, ""), args, input)
+}
+
+/// Every command, with arguments that it takes.
+const COMMANDS: &[&[&str]] = &[
+    &["run", "-e", REHEARSAL],
+    &["draw", "-e", REHEARSAL],
+    &["encode", "-e", REHEARSAL],
+    &["decode", "--hex", "-"],
+    &["rehearse", "--hex", "-"],
+    &["message", "000000040000000900000002"],
+    &["search", "--lists", "3"],
+    #[cfg(feature = "core")]
+    &["compare", "--random", "--lists", "5"],
+    &["causes"],
+];
+
+#[test]
+fn mistakes_have_line_and_column() {
+    let cases = [
+        ("n 3", 1, 3, "= is missing after n"),
+        ("n=", 1, 3, "a number of members is missing here"),
+        ("n=3 x(1)", 1, 5, "an event starts with s( or d(, not with 'x'"),
+        ("n=3 s(1,1,70) n=3", 1, 15, "n= stands once, in front of the events"),
+        ("n=3\n\n  s[1,1,70)", 3, 4, "( is missing after s"),
+        ("n=3 s(1,1,70", 1, 13, ") is missing after the offer"),
+        ("n=3 s(1,1)", 1, 10, ", is missing after the round number"),
+        ("n=3 s(1,1,)", 1, 11, "an offer is missing here"),
+        ("n=3 d(-1,0)", 1, 7, "a message number is missing here"),
+        ("n=3 # ö d(\nd(0,0,0)", 2, 6, ") is missing after the member number"),
+        ("n=3 d(4294967296,0)", 1, 7, "the message number 4294967296 doesn't fit into 32 bits"),
+        ("n=3 s(1,1,18446744073709551616)", 1, 11, "the offer 18446744073709551616 doesn't fit into 64 bits"),
+    ];
+    for (text, line, column, what) in cases {
+        let mistake = parse(text, None).unwrap_err();
+        assert_eq!((mistake.line, mistake.column, mistake.what.as_str()), (line, column, what), "{text}");
+    }
+    assert_eq!(parse("n=3", Some(5)).unwrap_err().to_string(), "line 1, column 1: n=3, but 5 members were asked for");
+    let (status, _, error) = tool(&["run"], b"n=3 s(1,1,70)\n  d(0;0)");
+    assert_eq!(
+        (status, error.as_str()),
+        (2, "kalebasin: standard input: line 2, column 6: , is missing after the message number\n")
+    );
+}
+
+#[test]
+fn notation_and_bytes_and_back() {
+    let list = parse(REHEARSAL, None).unwrap();
+    assert_eq!(list.to_string(), REHEARSAL);
+    assert_eq!(EventList::from_bytes(&list.to_bytes()), Ok(list.clone()));
+    assert_eq!(EventList::from_bytes(&list.to_bytes()[1..]), Err(Refusal::ListShape));
+    let largest = "n=4294967295 s(4294967295,4294967295,18446744073709551615) d(4294967295,4294967295)";
+    assert_eq!(parse(largest, None).unwrap().to_string(), largest);
+    let (status, hex, _) = tool(&["encode", "--hex", "-e", "s(1,1,70) d(0,0)"], b"");
+    assert_eq!(
+        (status, hex.trim()),
+        (0, "00000003000000020000000100000001000000010000000000000046000000020000000000000000")
+    );
+    assert_eq!(tool(&["decode", "--hex"], hex.as_bytes()).1, "n=3 s(1,1,70) d(0,0)\n");
+}
+
+/// Where nothing says how many, an office has three members.
+#[test]
+fn members_of_a_list() {
+    let members = |text, members| parse(text, members).map(|list| list.n);
+    assert_eq!([members("s(1,1,70) d(0,0)", None), members("", None), members(" # none", None)], [Ok(3), Ok(3), Ok(3)]);
+    assert_eq!([members("s(1,1,70)", Some(7)), members("n=5", Some(5)), members("n=5", None)], [Ok(7), Ok(5), Ok(5)]);
+    for on in IMPLEMENTATIONS {
+        let first_line = |args: &[&str]| tool_on(on, args, b"").1.lines().next().unwrap().to_string();
+        let with = |members| format!("{members} members, 1000 store rows, 64 table rows, on {}", on.1);
+        assert_eq!(first_line(&["run", "-e", "s(1,1,70) d(0,0)"]), with(3));
+        assert_eq!(first_line(&["run", "--members", "5", "-e", "s(1,1,70) d(0,0)"]), with(5));
+    }
+}
+
+#[test]
+fn rehearsal_from_standard_input() {
+    let bytes = parse(REHEARSAL, None).unwrap().to_bytes();
+    let expected = "0 0 0 0 25 0 0 0 0 0 0 0 0 0 0\n0 0 0 3\n1 0 70 3\n2 1 70 1\n";
+    for on in IMPLEMENTATIONS {
+        assert_eq!(tool_on(on, &["rehearse"], &bytes), (0, expected.into(), String::new()));
+    }
+}
+
+/// README's explained rehearsal: the program's own input in words, to the letter.
+#[test]
+fn the_rehearsal_in_words() {
+    let file = concat!(env!("CARGO_MANIFEST_DIR"), "/../../crates/rehearsal/stdin");
+    for on in IMPLEMENTATIONS {
+        let (status, out, error) = tool_on(on, &["run", "--bytes", file], b"");
+        assert_eq!((status, error.as_str()), (0, ""));
+        let head = format!("3 members, 1000 store rows, 64 table rows, on {}\n\n", on.1);
+        assert_eq!(out, head + include_str!("rehearsal.txt"));
+    }
+}
+
+#[test]
+fn runs_in_words() {
+    let every_refusal =
+        "s(3,1,7) d(0,0) s(1,1,7) s(1,0,7) s(2,1,7) s(1,1,7) d(0,0) d(0,0) d(1,0) d(1,1) d(1,1) d(5,1) s(1,4,8)";
+    let full_table = "s(1,1,70) d(0,0) d(0,1) d(1,1) d(2,1)";
+    for on in IMPLEMENTATIONS {
+        let (status, out, _) = tool_on(on, &["run", "--store-rows", "2", "-e", every_refusal], b"");
+        assert_eq!(status, 0);
+        for words in [
+            "the office has members 0 to 2",
+            "no message was sent yet",
+            "rounds run from 1 to 1,000,000",
+            "member 1 leads it",
+            "it led round 1 already",
+            "it has joined or voted in round 1",
+            "it has led no round",
+            "member 0 is counted already",
+            "only messages 0 to 1 were sent yet",
+            "it would send, and the 2 messages sent fill the store",
+        ] {
+            assert!(out.contains(words), "{words}\n{out}");
+        }
+        let (_, out, _) = tool_on(on, &["run", "--table-rows", "1", "-e", full_table], b"");
+        assert!(out.contains("it would propose, and the 0 proposals fill the table"), "{out}");
+    }
+}
+
+#[test]
+fn drawings_of_the_rehearsal() {
+    let text = "root\n└─ round 1, value 70, COMMITTED\n   └─ round 2, value 70, ADDED\n";
+    let dot = "\
+digraph tree {
+  rankdir = BT;
+  node [shape = box, style = filled];
+  r0 [label = \"root\", fillcolor = \"#a8d8a8\"];
+  r1 [label = \"round 1\\nvalue 70\\nCOMMITTED\", fillcolor = \"#a8d8a8\"];
+  r1 -> r0;
+  r2 [label = \"round 2\\nvalue 70\\nADDED\", fillcolor = \"#ffffff\"];
+  r2 -> r1;
+}
+";
+    for on in IMPLEMENTATIONS {
+        let drawn = |format| tool_on(on, &["draw", "--format", format, "-e", REHEARSAL], b"");
+        assert_eq!(drawn("text"), (0, text.into(), String::new()));
+        assert_eq!(drawn("dot"), (0, dot.into(), String::new()));
+        let (status, svg, _) = drawn("svg");
+        let elements = elements(&svg);
+        let texts =
+            |name| elements.iter().filter(|one| one.name == name).map(|one| one.text.as_str()).collect::<Vec<_>>();
+        assert_eq!((status, elements[0].name.as_str(), elements.len()), (0, "svg", 1 + 3 + 2 + 7), "{svg}");
+        assert_eq!((texts("rect"), texts("line")), (vec![""; 3], vec![""; 2]));
+        let mut labels = texts("text");
+        labels.sort_unstable();
+        assert_eq!(labels, ["ADDED", "COMMITTED", "root", "round 1", "round 2", "value 70", "value 70"]);
+    }
+}
+
+#[test]
+fn drawings_into_files() {
+    let folder = env!("CARGO_TARGET_TMPDIR");
+    for (on, number) in IMPLEMENTATIONS.iter().zip(0..) {
+        let [dot, svg] = ["dot", "svg"].map(|kind| format!("{folder}/rehearsal-{number}.{kind}"));
+        assert_eq!(tool_on(on, &["run", "--dot", &dot, "--svg", &svg, "-e", REHEARSAL], b"").0, 0);
+        for (file, format) in [(dot, "dot"), (svg, "svg")] {
+            let drawn = tool_on(on, &["draw", "--format", format, "-e", REHEARSAL], b"").1;
+            assert_eq!(std::fs::read_to_string(file).unwrap(), drawn);
+        }
+    }
+}
+
+#[test]
+fn a_drawn_tree_with_branches() {
+    let table = [[0, 0, 0, 3], [1, 0, 5, 2], [3, 0, 6, 1], [2, 1, 5, 2]].concat();
+    let text = "root\n├─ round 1, value 5, GHOST\n│  └─ round 2, value 5, GHOST\n└─ round 3, value 6, ADDED\n";
+    assert_eq!(draw::text(&table), text);
+    let names: Vec<String> = elements(&draw::svg(&table)).into_iter().map(|one| one.name).collect();
+    let count = |name| names.iter().filter(|one| *one == name).count();
+    assert_eq!([count("rect"), count("line"), count("text")], [4, 3, 10]);
+}
+
+/// The list that a search found: the line in notation, and what stands behind the line with the rows.
+fn found(out: &str) -> (EventList, &str) {
+    let line = out.lines().find(|line| line.starts_with("n=")).unwrap();
+    let (_, explained) = out.split_once(" table rows\n\n").unwrap();
+    (parse(line, None).unwrap(), explained)
+}
+
+/// The offers of a list's starts.
+fn offers(list: &EventList) -> Vec<u64> {
+    let offer = |event: &Event| if let Event::Start { offer, .. } = event { Some(*offer) } else { None };
+    list.events.iter().filter_map(offer).collect()
+}
+
+#[test]
+fn searches() {
+    let orders = "s(1,1,70) d(0,0) d(0,1) d(1,1) d(2,1)";
+    for on in IMPLEMENTATIONS {
+        let (status, out, error) = tool_on(on, &["search", "--lists", "300", "--seed", "9"], b"");
+        assert_eq!((status, out.as_str()), (0, "No property fails on 300 lists with seed 9.\n"));
+        assert!(error.starts_with("300 of 300 lists, ") && error.lines().count() == 1, "{error}");
+        let (status, out, _) = tool_on(on, &["search", "--property", "no-decision"], b"");
+        assert_eq!((status, found(&out).0.events.len()), (1, 9), "{out}");
+        let (status, out, _) = tool_on(on, &["search", "--property", "no-proposal", "-e", orders], b"");
+        assert!(status == 1 && out.contains("round 1 proposes"), "{out}");
+    }
+}
+
+/// The list found is explained as a run of it is, and its offers tell the starts apart.
+#[test]
+fn found_lists() {
+    for on in IMPLEMENTATIONS {
+        for property in ["no-takeover", "no-late-decision", "one-decision", "no-ghost"] {
+            let (status, out, _) = tool_on(on, &["search", "--property", property], b"");
+            let (list, explained) = found(&out);
+            let (_, run, _) = tool_on(on, &["run", "-e", &list.to_string()], b"");
+            assert_eq!((status, explained), (1, run.split_once("\n\n").unwrap().1), "{out}");
+            let offers = offers(&list);
+            assert!(offers.len() > 1 && offers.iter().zip(1..).all(|(offer, place)| *offer == 10 * place), "{list}");
+        }
+    }
+}
+
+/// All lists up to a length: of events that are given, or of few.
+#[test]
+fn searches_of_all_lists() {
+    for on in IMPLEMENTATIONS {
+        let all = |args: &[&str]| tool_on(on, &[&["search", "--all"], args].concat(), b"");
+        let (status, out, error) = all(&["3", "--members", "5"]);
+        let lists = 1 + 22 + 22 * 22 + 22 * 22 * 22;
+        let words = format!("No property fails on {lists} lists of up to 3 events, each one of 22.\n");
+        assert_eq!((status, out), (0, words));
+        assert!(error.starts_with(&format!("{lists} of {lists} lists, ")), "{error}");
+        let events = "d(2,1) d(1,1) d(0,1) d(0,0) s(1,1,70)";
+        let (status, out, _) = all(&["6", "--property", "no-proposal", "-e", events]);
+        assert_eq!((status, found(&out).0.events.len()), (1, 5), "{out}");
+        let (status, out, _) = all(&["4", "--property", "no-proposal", "-e", events]);
+        assert_eq!((status, out.as_str()), (0, "No property fails on 781 lists of up to 4 events, each one of 5.\n"));
+        let (_, out, _) = all(&["5", "--property", "no-full-store", "--store-rows", "2", "-e", events]);
+        assert!(found(&out).1.contains("fill the store"), "{out}");
+    }
+}
+
+/// A search keeps as many threads busy as there are cores.
+#[test]
+fn searches_on_all_cores() {
+    let cores = std::thread::available_parallelism().unwrap().get();
+    let mut child = command(&IMPLEMENTATIONS[0], &["search", "--lists", &u64::MAX.to_string()]).spawn().unwrap();
+    BufReader::new(child.stderr.take().unwrap()).lines().next().unwrap().unwrap();
+    let threads = std::fs::read_dir(format!("/proc/{}/task", child.id())).unwrap().count();
+    child.kill().unwrap();
+    child.wait().unwrap();
+    assert_eq!(threads, 1 + cores);
+}
+
+/// On a terminal a search shows a bar with the time left, again and again on one line, and then what it shows elsewhere.
+#[test]
+fn a_bar_on_a_terminal() {
+    let lists = 10_000 * std::thread::available_parallelism().unwrap().get();
+    let search = format!("{} search --lists {lists}", env!("CARGO_BIN_EXE_kalebasin"));
+    let mut terminal = Command::new("script");
+    terminal.args(["--quiet", "--return", "--command", &search, "/dev/null"]);
+    let output = terminal.stdin(Stdio::null()).output().unwrap();
+    assert_eq!(output.status.code(), Some(0));
+    let shown = String::from_utf8(output.stdout).unwrap();
+    let (bars, last) = shown.rsplit_once("\r\x1b[K").unwrap();
+    assert!(last.starts_with(&format!("{lists} of {lists} lists, ")), "{shown:?}");
+    assert!(last.ends_with(&format!("\nNo property fails on {lists} lists with seed 1.\r\n")), "{shown:?}");
+    let mut before = 0;
+    for bar in bars.strip_prefix("\r\x1b[K").unwrap().split("\r\x1b[K") {
+        let (bar, words) = bar.strip_prefix("[").unwrap().split_once("] ").unwrap();
+        let (percent, words) = words.split_once(&format!("% of {lists} lists, ")).unwrap();
+        let percent: usize = percent.parse().unwrap();
+        assert!(before <= percent && percent <= 100 && words.ends_with(" left"), "{shown:?}");
+        let filled = bar.trim_end_matches('.');
+        assert!(bar.len() == 30 && filled.chars().all(|part| part == '#'), "{shown:?}");
+        assert!((filled.len() * 100).abs_diff(percent * 30) < 100, "{shown:?}");
+        before = percent;
+    }
+}
+
+/// A search that doesn't end by itself says how far it is while it runs, each time further.
+#[test]
+fn progress_of_a_search() {
+    let mut child = command(&IMPLEMENTATIONS[0], &["search", "--lists", &u64::MAX.to_string()]).spawn().unwrap();
+    let lines = BufReader::new(child.stderr.take().unwrap()).lines().take(2).map(Result::unwrap);
+    let tried: Vec<u64> = lines.map(|line| line.split(' ').next().unwrap().parse().unwrap()).collect();
+    child.kill().unwrap();
+    child.wait().unwrap();
+    assert!(tried.len() == 2 && 0 < tried[0] && tried[0] < tried[1], "{tried:?}");
+}
+
+/// The comparison's random parts, with as many lists as asked for; a seed gives the same lists again.
+#[cfg(feature = "core")]
+#[test]
+fn comparisons() {
+    let compare = |seed| tool_on(&IMPLEMENTATIONS[0], &["compare", "--random", "--seed", seed, "--lists", "500"], b"");
+    let (status, out, error) = compare("9");
+    assert_eq!(status, 0, "{out}");
+    let lines: Vec<&str> = out.lines().collect();
+    assert!(lines[0].starts_with("random trees: ") && lines[0].ends_with(" calls, no difference"), "{out}");
+    assert_eq!(lines[1..], ["random lists: 500 calls, no difference"]);
+    assert!(error.starts_with("500 of 500 lists, "), "{error}");
+    assert_eq!(compare("9").1, out);
+    assert_ne!(compare("10").1, out);
+}
+
+#[test]
+fn help() {
+    let (status, out, error) = tool(&["--help"], b"");
+    assert_eq!((status, error.as_str()), (0, ""));
+    assert_eq!(tool(&["help"], b"").1, out);
+    for command in COMMANDS.iter().map(|args| args[0]) {
+        assert!(out.contains(&format!("\n  {command} ")), "{out}");
+        let (status, own, error) = tool(&[command, "--help"], b"");
+        assert_eq!((status, error.as_str()), (0, ""));
+        assert!(own.starts_with(&format!("usage: kalebasin {command} ")), "{own}");
+        assert_eq!([&["help", command][..], &["-h", command]].map(|args| tool(args, b"").1), [&*own, &*own]);
+    }
+    let (status, out, _) = tool(&["--version"], b"");
+    assert!(status == 0 && out.starts_with(&format!("kalebasin {}, ", env!("CARGO_PKG_VERSION"))), "{out}");
+}
+
+/// Status 2, and one line that has these words.
+fn is_mistake(args: &[&str], input: &[u8], words: &str) {
+    let (status, out, error) = tool(args, input);
+    assert_eq!((status, out.as_str(), error.lines().count()), (2, "", 1), "{args:?}: {error}");
+    assert!(error.starts_with("kalebasin: ") && error.contains(words), "{args:?}: {error}");
+}
+
+#[test]
+fn mistakes_on_the_command_line() {
+    for (args, words) in [
+        (&[][..], "a command is missing"),
+        (&["fly"], "there is no command fly; see kalebasin --help"),
+        (&["serach"], "there is no command serach (did you mean search?)"),
+        (&["mesage", "-"], "(did you mean message?)"),
+        (&["reh"], "(did you mean rehearse?)"),
+        (&["search", "--property", "no-decison"], "(did you mean no-decision?)"),
+        (&["run", "--store-rows", "0"], "--store-rows takes a number from 1 to 2000, not 0"),
+        (&["run", "--table-rows=257"], "--table-rows takes a number from 1 to 256, not 257"),
+        (&["search", "--seed"], "--seed needs a value"),
+        (&["run", "--bytes=yes"], "--bytes takes no value"),
+        (&["draw", "--format", "gif", "-e", ""], "--format takes text, dot, svg or timeline, not gif"),
+        (&["run", "-e", "", "file"], "give one of them"),
+        (&["run", "-e", "", "--bytes"], "--bytes and --hex are for FILE"),
+        (&["run", "--members", "3", "--bytes"], "the bytes say how many members there are"),
+        (&["search", "--bytes"], "--bytes and --hex are for FILE"),
+        (&["search", "--members", "4"], "--members takes 3, 5 or 7"),
+        (&["search", "--all", "40"], "more such lists than can be counted"),
+        (&["run", "no such file"], "no such file: "),
+        (&["run", "no\nsuch\x1b[7mfile"], "no\\nsuch\\u{1b}[7mfile: "),
+    ] {
+        is_mistake(args, b"", words);
+    }
+}
+
+/// What a command doesn't take is refused with its own help, whether another command takes it or none does.
+#[test]
+fn options_that_a_command_does_not_take() {
+    let options = ["-e", "--members", "--bytes", "--hex", "--store-rows", "--table-rows", "--format", "--dot", "--svg"];
+    let options = options.iter().chain(&[
+        "--html",
+        "--json",
+        "--seed",
+        "--lists",
+        "--all",
+        "--property",
+        "--random",
+        "--second",
+        "--fly",
+    ]);
+    let mut refused = 0;
+    for option in options {
+        for command in COMMANDS.iter().map(|args| args[0]) {
+            let help = tool(&[command, "--help"], b"").1;
+            if help.contains(&format!("\n  {option} ")) {
+                continue;
+            }
+            let (status, out, error) = tool(&[command, option, "1"], b"");
+            assert_eq!((status, out.as_str()), (2, ""), "{command} {option}");
+            assert_eq!(error, format!("kalebasin: {command} doesn't take {option}\n\n{help}"));
+            refused += 1;
+        }
+    }
+    assert!(refused > 80, "{refused}");
+    let error = tool(&["search", "--sed=4"], b"").2;
+    assert!(error.starts_with("kalebasin: search doesn't take --sed (did you mean --seed?)\n\nusage: "), "{error}");
+    let error = tool(&["causes", "now"], b"").2;
+    assert!(error.starts_with("kalebasin: now is one argument too many for causes\n\nusage: "), "{error}");
+}
+
+#[test]
+fn values_and_operands() {
+    let drawn = tool(&["draw", "--format", "dot", "--members", "5", "-e", "s(1,1,70)"], b"");
+    assert_eq!(drawn.0, 0);
+    assert_eq!(tool(&["--format=dot", "draw", "--members=5", "-e", "s(1,1,70)"], b""), drawn);
+    let folder = env!("CARGO_TARGET_TMPDIR");
+    std::fs::write(format!("{folder}/--seed=1"), "s(1,1,70)").unwrap();
+    let mut encode = command(&On(None, ""), &["encode", "--hex", "--", "--seed=1"]);
+    let output = encode.current_dir(folder).output().unwrap();
+    assert_eq!(String::from_utf8(output.stdout).unwrap(), tool(&["encode", "--hex", "-e", "s(1,1,70)"], b"").1);
+}
+
+/// The digits of a message, as an argument and on standard input.
+#[test]
+fn messages_in_digits() {
+    let words = "JOIN of round 5 from member 0, which never voted\n";
+    for on in IMPLEMENTATIONS {
+        for digits in [
+            "00000002 00000005 00000000 00000000",
+            "00000002000000050000000000000000",
+            "00:00:00:02:00:00:00:05:00:00:00:00:00:00:00:00",
+            "0x00000002 0x00000005 0x00000000 0x00000000",
+            "0X0000000200000005:0000000000000000\n",
+        ] {
+            assert_eq!(tool_on(on, &["message", digits], b""), (0, words.into(), String::new()), "{digits}");
+            assert_eq!(tool_on(on, &["message", "-"], digits.as_bytes()), (0, words.into(), String::new()), "{digits}");
+        }
+        let refused = "kalebasin: the message is refused with 14: the message's length isn't that of its kind\n";
+        for digits in ["000000020000000500000000", ""] {
+            assert_eq!(tool_on(on, &["message", digits], b""), (1, String::new(), refused.into()));
+            assert_eq!(tool_on(on, &["message", "-"], digits.as_bytes()), (1, String::new(), refused.into()));
+        }
+    }
+    is_mistake(&["message"], b"", "message needs hexadecimal digits");
+    is_mistake(&["message", "0000000g"], b"", "'g' is no hexadecimal digit");
+    is_mistake(&["message", "-"], b"0:0:0:2", "0 has an odd number of hexadecimal digits");
+    is_mistake(&["message", "0x"], b"", "0x has an odd number of hexadecimal digits");
+}
+
+/// Bytes and digits given where notation is due get the option to use.
+#[test]
+fn bytes_where_notation_is_due() {
+    let bytes = parse(REHEARSAL, None).unwrap().to_bytes();
+    let digits = tool(&["encode", "--hex", "-e", REHEARSAL], b"").1;
+    for command in ["run", "draw", "search"] {
+        is_mistake(&[command, "-"], &bytes, "these are bytes, not notation; --bytes is for the bytes of a list");
+        is_mistake(&[command, "-"], &[0xff, 0xfe], "--bytes is for the bytes of a list");
+        is_mistake(&[command, "-"], digits.as_bytes(), "--hex is for the bytes of a list");
+    }
+    is_mistake(&["encode"], &bytes, "decode takes the bytes of a list");
+    let run = tool(&["run", "-e", REHEARSAL], b"");
+    assert_eq!(tool(&["run", "--bytes"], &bytes), run);
+    assert_eq!(tool(&["run", "--hex"], digits.as_bytes()), run);
+}
+
+/// A refused list has the same status and the same line on standard error in every command.
+#[test]
+fn refused_lists() {
+    let whole = parse("s(1,1,70) d(0,2)", None).unwrap().to_bytes();
+    let changed = |at: usize, to: u8| [&whole[..at], &[to], &whole[at + 1..]].concat();
+    let shape = "the list is refused with 26: the count is above 1,000, or bytes, count and kinds don't match exactly";
+    let many = parse(&"d(0,0)".repeat(1_001), None).unwrap().to_bytes();
+    let size = "the list is refused with 27: the number of members isn't 3, 5 or 7".to_string();
+    let at = |place: &str| format!("{shape} ({place})");
+    for (bytes, words) in [
+        (changed(3, 4), size),
+        (many, at("byte 4: the count is 1001, above 1,000")),
+        (whole[..7].to_vec(), at("byte 7: the list ends within its first 8 bytes")),
+        (Vec::new(), at("byte 0: the list ends within its first 8 bytes")),
+        (changed(11, 3), at("byte 8, event 0: the kind is 3, not 1 or 2")),
+        (changed(28, 1), at("byte 28, event 1: the kind is 16777218, not 1 or 2")),
+        (changed(7, 3), at("byte 40, event 2: the list ends here, and the count is 3")),
+        (changed(7, 1), at("byte 28, event 0: the list should end here, not at byte 40")),
+        (changed(7, 0), at("byte 8: the list should end here, not at byte 40")),
+        (whole[..39].to_vec(), at("byte 39, event 1: the list ends within a delivery of 12 bytes")),
+        (whole[..27].to_vec(), at("byte 27, event 0: the list ends within a start of 20 bytes")),
+        (whole[..30].to_vec(), at("byte 30, event 1: the list ends within the kind")),
+    ] {
+        let line = format!("kalebasin: {words}\n");
+        for on in IMPLEMENTATIONS {
+            for args in [&["run", "--bytes"][..], &["draw", "--bytes"], &["search", "--bytes", "-"]] {
+                assert_eq!(tool_on(on, args, &bytes), (1, String::new(), line.clone()), "{args:?}");
+            }
+            let number = format!("{}\n", &words["the list is refused with ".len()..][..2]);
+            assert_eq!(tool_on(on, &["rehearse"], &bytes), (1, number, line.clone()));
+        }
+        let (status, _, error) = tool(&["decode"], &bytes);
+        assert_eq!((status, error), (1, line));
+    }
+    for (text, words) in [("n=4 s(1,1,70)".into(), "refused with 27"), ("d(0,0)".repeat(1_001), "(byte 4: the count")] {
+        let (status, out, line) = tool(&["run", "-e", &text], b"");
+        assert!(status == 1 && out.is_empty() && line.contains(words), "{line}");
+        for command in ["draw", "search"] {
+            assert_eq!(tool(&[command, "-e", &text], b""), (1, String::new(), line.clone()));
+        }
+        let (status, out, error) = tool(&["encode", "--hex", "-e", &text], b"");
+        assert_eq!((status, &error), (1, &line));
+        assert_eq!(tool(&["run", "--hex"], out.as_bytes()), (1, String::new(), line));
+    }
+}
+
+/// Where standard output can't be written, each command ends with one line and status 2.
+#[test]
+fn output_that_can_not_be_written() {
+    let full = || Stdio::from(std::fs::File::options().write(true).open("/dev/full").unwrap());
+    let closed = || {
+        let mut reader = Command::new("true").stdin(Stdio::piped()).spawn().unwrap();
+        let pipe = reader.stdin.take().unwrap();
+        reader.wait().unwrap();
+        Stdio::from(pipe)
+    };
+    let digits = tool(&["encode", "--hex", "-e", REHEARSAL], b"").1;
+    let run = |args: &[&str], out: Stdio, error: Stdio| {
+        let mut child = command(&On(None, ""), args).stdout(out).stderr(error).spawn().unwrap();
+        let _ = child.stdin.take().unwrap().write_all(digits.as_bytes());
+        let output = child.wait_with_output().unwrap();
+        (output.status.code(), String::from_utf8(output.stderr).unwrap())
+    };
+    for args in COMMANDS.iter().copied().chain([&["--help"][..], &["run", "--help"], &["--version"]]) {
+        for (out, words) in [(full(), "No space left on device"), (closed(), "Broken pipe")] {
+            let (status, error) = run(args, out, Stdio::piped());
+            let last = error.lines().last().unwrap_or_default();
+            assert!(last.starts_with(&format!("kalebasin: standard output: {words}")), "{args:?}: {error}");
+            let progress = usize::from(args[0] == "search");
+            assert_eq!((status, error.lines().count()), (Some(2), 1 + progress), "{args:?}: {error}");
+        }
+        assert_eq!(run(args, full(), full()).0, Some(2), "{args:?}");
+        assert_eq!(run(args, closed(), closed()).0, Some(2), "{args:?}");
+    }
+    // A refusal is told only where all that goes before it was written.
+    for args in [&["encode", "-e", "n=4"][..], &["rehearse"]] {
+        let (status, error) = run(args, full(), Stdio::piped());
+        assert!(status == Some(2) && error.starts_with("kalebasin: standard output: "), "{args:?}: {error}");
+    }
+    for option in ["--svg", "--dot"] {
+        let (status, error) = run(&["run", option, "/dev/full", "-e", REHEARSAL], Stdio::null(), Stdio::piped());
+        assert_eq!(
+            (status, error.as_str()),
+            (Some(2), "kalebasin: /dev/full: No space left on device (os error 28)\n")
+        );
+    }
+}
+
+/// Arguments that aren't UTF-8 name files, and are mistakes elsewhere.
+#[test]
+fn arguments_that_are_not_text() {
+    let odd = OsStr::from_bytes(b"list-\xff");
+    let folder = std::path::Path::new(env!("CARGO_TARGET_TMPDIR"));
+    std::fs::write(folder.join(odd), REHEARSAL).unwrap();
+    let run = |args: &[&OsStr]| {
+        let mut command = Command::new(env!("CARGO_BIN_EXE_kalebasin"));
+        let output = command.args(args).current_dir(folder).stdin(Stdio::null()).output().unwrap();
+        (output.status.code().unwrap(), output.stdout, String::from_utf8(output.stderr).unwrap())
+    };
+    let text = OsStr::new;
+    assert_eq!(run(&[text("draw"), odd]), run(&[text("draw"), text("-e"), text(REHEARSAL)]));
+    assert_eq!(run(&[text("run"), text("--svg"), odd, text("-e"), text(REHEARSAL)]).0, 0);
+    assert!(std::fs::read_to_string(folder.join(odd)).unwrap().starts_with("<svg"));
+    for args in [
+        &[odd][..],
+        &[text("run"), text("-e"), odd],
+        &[text("run"), text("--members"), odd],
+        &[text("message"), odd],
+        &[text("search"), text("--property"), odd],
+        &[text("run"), OsStr::from_bytes(b"--svg=\xff")],
+        &[text("run"), OsStr::from_bytes(b"--\xff")],
+        &[OsStr::from_bytes(b"-\xff")],
+    ] {
+        let (status, out, error) = run(args);
+        assert_eq!((status, out.len(), error.lines().count()), (2, 0, 1), "{args:?}: {error}");
+        assert!(error.starts_with("kalebasin: "), "{error}");
+    }
+}
+
+/// The numbers of refusals are 1 to 30 in order, and the C header has the same causes.
+/// The name of a refusal's number in the header: that of the variant in capitals.
+fn header_name(refusal: &Refusal) -> String {
+    let mut name = String::from("KALEBASIN");
+    for letter in format!("{refusal:?}").chars() {
+        if letter.is_uppercase() {
+            name.push('_');
+        }
+        name.extend(letter.to_uppercase());
+    }
+    name
+}
+
+#[test]
+fn refusals_and_the_header() {
+    let header = include_str!("../../include/kalebasin.h");
+    for (at, refusal) in Refusal::ALL.iter().enumerate() {
+        assert_eq!(refusal.number() as usize, at + 1);
+        assert_eq!(Refusal::from_number(refusal.number()), Some(*refusal));
+        let name = header_name(refusal);
+        assert!(header.contains(&format!("    {name} = {}", refusal.number())), "{refusal}");
+        assert!(header.contains(&format!("case {name}: return \"{}\";", refusal.cause())), "{refusal}");
+    }
+    assert_eq!(Refusal::ALL.len(), 30);
+    assert_eq!([0, 31].map(Refusal::from_number), [None, None]);
+}

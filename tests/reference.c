@@ -1,0 +1,57 @@
+/* Asks the archive what the examples of docs/REFERENCE.md ask. A line is a question, and gets a line of answer, an accepted list two:
+     message HEX, list HEX, cause NUMBER; fresh(ROWS), add(ROUND,VALUE,PARENT), commit(ROUND), path(ROUND), path(ROUND) into COUNT words and
+     nodes of one table. */
+#include "hex.h"
+#include "words.h"
+#include <string.h>
+
+enum { ROOM = 8 + 20 * 1000 + 100, STORE_ROWS = 1000, TABLE_ROWS = 64 };
+
+static char line[2 * ROOM + 20], data[ROOM];
+static uint8_t store[STORE_ROWS * KALEBASIN_STORE_ROW], answers[1000];
+static uint64_t table[TABLE_ROWS * KALEBASIN_TABLE_ROW], rounds[TABLE_ROWS];
+
+static void put_nodes(size_t rows) {
+    for (size_t i = 0; i < rows && table[4 * i + 3]; i++) {
+        if (i) printf(", ");
+        for (size_t k = 0; k < 4; k++) printf("%s%llu", k ? " " : "", (unsigned long long)table[4 * i + k]);
+    }
+}
+
+static void put_played(size_t n) {
+    KalebasinPlayResult r = kalebasin_play((uint8_t *)data, n, store, sizeof store, table, sizeof table / 8, answers, sizeof answers);
+    if (r.number) {
+        printf("refused with %u: %s", r.number, kalebasin_cause(r.number));
+        return;
+    }
+    printf("answers:");
+    for (int i = 0; i < data[7]; i++) printf(" %u", answers[i]); /* the count's low byte: an example has fewer events than 128 */
+    printf("\nnodes: ");
+    put_nodes(TABLE_ROWS);
+}
+
+static void put_path(size_t rows, uint32_t round, size_t room) {
+    KalebasinPathResult r = kalebasin_tree_path(table, 4 * rows, round, rounds, room);
+    printf("%u", r.number);
+    for (uint32_t i = 0; i < r.count; i++) printf("%s %llu", i ? "" : ":", (unsigned long long)rounds[i]);
+}
+
+int main(void) {
+    size_t rows = 0;
+    while (fgets(line, sizeof line, stdin)) {
+        unsigned a, p;
+        unsigned long long v;
+        if (!strncmp(line, "message ", 8)) put_words(stdout, kalebasin_read_message((uint8_t *)data, bytes_of(line + 8, data, ROOM)));
+        else if (!strncmp(line, "list ", 5)) put_played(bytes_of(line + 5, data, ROOM));
+        else if (sscanf(line, "cause %u", &a) == 1) printf("%s", kalebasin_cause(a));
+        else if (sscanf(line, "fresh(%u)", &a) == 1 && a <= TABLE_ROWS) printf("%u", kalebasin_tree_fresh(table, 4 * (rows = a)));
+        else if (sscanf(line, "add(%u,%llu,%u)", &a, &v, &p) == 3) printf("%u", kalebasin_tree_add(table, 4 * rows, a, v, p));
+        else if (sscanf(line, "commit(%u)", &a) == 1) printf("%u", kalebasin_tree_commit(table, 4 * rows, a));
+        else if (sscanf(line, "path(%u) into %u words", &a, &p) == 2 && p <= TABLE_ROWS) put_path(rows, a, p);
+        else if (sscanf(line, "path(%u)", &a) == 1) put_path(rows, a, TABLE_ROWS);
+        else if (!strncmp(line, "nodes", 5)) put_nodes(rows);
+        else printf("no question: %s", line);
+        putchar('\n');
+    }
+    return 0;
+}
