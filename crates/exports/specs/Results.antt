@@ -7,13 +7,13 @@ use Rattle.message.specs.declared.Message.the-variants.{Start, Join, JoinVoted,
 use Rattle.message.specs.declared.Read.{Read}
 use Rattle.message.specs.declared.Read.the-variants.{Got, Refused}
 use Rattle.message.specs.Layout.{START-KIND, JOIN-KIND, PROPOSE-KIND, VOTE-KIND}
-use Rattle.play.specs.declared.answers.Counts.{Counts}
+use Rattle.play.specs.declared.PlayAnswer.{PlayAnswer}
 use Rattle.exports.specs.declared.PlayResult.{PlayResult}
 use Rattle.exports.specs.declared.MessageResult.{MessageResult}
 
--- the four counts of a result of play
-abbrev pub counts-of : PlayResult → Counts
-counts-of r = record { accepted = r .accepted; messages = r .messages; proposals = r .proposals; decisions = r .decisions }
+-- a result of play as play answers it
+abbrev pub as-play-answer : PlayResult → PlayAnswer
+as-play-answer r = record { number = r .number; accepted = r .accepted; messages = r .messages; proposals = r .proposals; decisions = r .decisions }
 
 -- a message that tells no vote; a value that its kind doesn't have is 0
 abbrev pub voteless : ℕ → Round → Member → ℕ → MessageResult

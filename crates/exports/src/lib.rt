@@ -8,15 +8,15 @@ use message::PROPOSE_KIND;
 use message::Read;
 use message::START_KIND;
 use message::VOTE_KIND;
-use play::answers::PlayAnswer;
 ghost use mathlib.Core.Path.{_≡_};
 ghost use mathlib.Core.Bool.{true};
 ghost use Rattle.tree_theory.specs.Machine.{add, commit};
 ghost use Rattle.tree_theory.specs.Table.{fresh-number, fresh-table};
 ghost use Rattle.tree.specs.Promises.{CalledOnTable, PathGiven};
 ghost use Rattle.message.specs.Reading.{reading};
+ghost use Rattle.play.specs.Lent.{as-lent};
 ghost use Rattle.play.specs.Promise.{Given};
-ghost use Rattle.exports.specs.Results.{counts-of, voteless, message-result, refused-result, read-result};
+ghost use Rattle.exports.specs.Results.{as-play-answer, voteless, message-result, refused-result, read-result};
 
 // With a refusal each count is 0.
 #[repr(C)]
@@ -36,24 +36,16 @@ pub extern "C" fn kalebasin_play(
     nodes: &mut [u64],
     answered: &mut [u8],
 ) -> PlayResult
-    ensures { λ r. ⌜ Given (now (list .entry)) (now (messages .entry)) (now (nodes .entry)) (now (answered .entry)) (r .number) (counts-of r) (now (messages .exit)) (now (nodes .exit)) (now (answered .exit)) ⌝ }
+    ensures { λ r. ⌜ Given (now (list .entry)) (as-lent (now (messages .entry)) (now (nodes .entry)) (now (answered .entry))) (as-play-answer r)
+        (as-lent (now (messages .exit)) (now (nodes .exit)) (now (answered .exit))) ⌝ }
 {
-    let a = play::play(list, messages, nodes, answered);
-    match a {
-        PlayAnswer::Played(c) => PlayResult {
-            number: 0,
-            accepted: c.accepted,
-            messages: c.messages,
-            proposals: c.proposals,
-            decisions: c.decisions,
-        },
-        PlayAnswer::Refused(k) => PlayResult {
-            number: play::answers::number(k),
-            accepted: 0,
-            messages: 0,
-            proposals: 0,
-            decisions: 0,
-        },
+    let p = play::play(list, messages, nodes, answered);
+    PlayResult {
+        number: p.number,
+        accepted: p.accepted,
+        messages: p.messages,
+        proposals: p.proposals,
+        decisions: p.decisions,
     }
 }
 

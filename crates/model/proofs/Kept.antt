@@ -100,18 +100,22 @@ accepted z o e h =
 pub message-in : (o : Office) (k m : ℕ) → unsent o (deliver k m) ≡ false → message-at o k ∈ o .sent
 message-in o k m h = getD-in (o .sent) k _ (omega tests)
 
-module _ (z : Sizes) (o : Office) (K : KeptOffice z o) (e : Event) where
-  -- whatever its number, a step is of a sound record, at a message within its ranges, if 29 isn't given
+-- whatever its number, a step is of a sound record, at a message within its ranges, if 29 isn't given
+module _ (z : Sizes) (o : Office) (ranged : (g : Message) → g ∈ o .sent → in-range g ≡ true) (e : Event) where
   pub event-fits : unsent o e ≡ false → fitting (event-of o e) ≡ true
   event-fits = fits-of e
     where
       fits-of : (e : Event) → unsent o e ≡ false → fitting (event-of o e) ≡ true
       fits-of (start m r x) h = refl
-      fits-of (deliver k m) h = K .ranged (message-at o k) (message-in o k m h)
+      fits-of (deliver k m) h = ranged (message-at o k) (message-in o k m h)
 
-  pub step-is-sound : at-member e < z .n → unsent o e ≡ false → outcome z o e ≡ sound-step (member-at z o (at-member e)) (event-of o e)
+  pub step-is-sound : sound (member-at z o (at-member e)) ≡ true → unsent o e ≡ false → outcome z o e ≡ sound-step (member-at z o (at-member e)) (event-of o e)
   unfolding outcome
-  step-is-sound l h = step-of-sound (member-at z o (at-member e)) (event-of o e) (K .each (at-member e) l .is-sound) (event-fits h)
+  step-is-sound s h = step-of-sound (member-at z o (at-member e)) (event-of o e) s (event-fits h)
+
+module _ (z : Sizes) (o : Office) (K : KeptOffice z o) (e : Event) where
+  accepted-sound : Accepted z o e → outcome z o e ≡ sound-step (member-at z o (at-member e)) (event-of o e)
+  accepted-sound a = step-is-sound z o (K .ranged) e (K .each (at-member e) (a .member) .is-sound) (a .there)
 
   -- an accepted event is its row of the member table, none of whose causes holds
   pub accepted-row : Accepted z o e →
@@ -119,7 +123,7 @@ module _ (z : Sizes) (o : Office) (K : KeptOffice z o) (e : Event) where
   unfolding sound-step
   accepted-row a =
       let m : MemberState = member-at z o (at-member e) in
-      let same : outcome z o e ≡ sound-step m (event-of o e) = step-is-sound (a .member) (a .there) in
+      let same : outcome z o e ≡ sound-step m (event-of o e) = accepted-sound a in
       by-test (eqb (first (causes m (event-of o e))) 0)
       (λ t. (omega tests, same ∙ rw t refl))
       (λ t. let n : outcome z o e .number ≡ first (causes m (event-of o e)) = ap (λ u. u .number) same ∙ rw t refl in absurd (omega (tests, a .ok)))
@@ -131,8 +135,8 @@ module _ (z : Sizes) (o : Office) (K : KeptOffice z o) (e : Event) where
   outcome-kept : Accepted z o e → Kept (outcome z o e)
   outcome-kept a =
       let M : KeptMember z (at-member e) (member-at z o (at-member e)) = K .each (at-member e) (a .member) in
-      subst Kept (sym (step-is-sound (a .member) (a .there)))
-      (step-kept (member-at z o (at-member e)) (event-of o e) (M .seven) (M .is-sound) (event-fits (a .there)))
+      subst Kept (sym (accepted-sound a))
+      (step-kept (member-at z o (at-member e)) (event-of o e) (M .seven) (M .is-sound) (event-fits z o (K .ranged) e (a .there)))
 
   pub taken-member : Accepted z o e → KeptMember z (at-member e) (outcome z o e .state)
   taken-member a =

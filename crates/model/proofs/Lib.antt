@@ -15,3 +15,4 @@ pub mod Committed
 pub mod Fold
 pub mod Tree
 pub mod Numbers
+pub mod Sound

@@ -10,6 +10,7 @@ use Rattle.tree_theory.specs.Properties.{adds-in}
 use Rattle.member.specs.Table.{Named, nothing, proposal, decision}
 use Rattle.model.specs.Model.{proposals}
 use Rattle.model.specs.Demand.{calls}
+use Rattle.model.specs.Counts.{decisions}
 
 pub calls-append : (l k : List Named) → calls (l ++ k) ≡ calls l ++ calls k
 unfolding calls
@@ -24,6 +25,13 @@ proposals-append [] k = omega arith
 proposals-append (nothing ∷ l) k = proposals-append l k
 proposals-append (proposal r x b ∷ l) k = omega (arith, proposals-append l k)
 proposals-append (decision r x ∷ l) k = proposals-append l k
+
+pub decisions-append : (l k : List Named) → decisions (l ++ k) ≡ decisions l + decisions k
+unfolding decisions
+decisions-append [] k = omega arith
+decisions-append (nothing ∷ l) k = decisions-append l k
+decisions-append (proposal r x b ∷ l) k = decisions-append l k
+decisions-append (decision r x ∷ l) k = omega (arith, decisions-append l k)
 
 -- as many adds as proposals
 pub adds-in-calls : (l : List Named) → adds-in (calls l) ≡ proposals l

@@ -31,6 +31,7 @@ use Rattle.model.proofs.Made.{proposal-call}
 use Rattle.model.proofs.Kept.{KeptMember, KeptOffice, message-in, step-is-sound, ended-kept}
 use Rattle.model.proofs.Invariant.{Added, Stands, Invariant}
 use Rattle.model.proofs.Events.{holds}
+use Rattle.model.proofs.Demanded.{all-ok}
 use Rattle.model.proofs.Tree.{nodes-counted}
 
 -- 0, and what the rows round, start and deliver of the place table give, 21 and 23 apart
@@ -138,7 +139,7 @@ module _ (z : Sizes) (o : Office) (offers : List ℕ) (K : KeptOffice z o) (I : 
   step-numbered e h =
       let low : at-member e < z .n = omega (tests, or-left (leb (z .n) (at-member e)) (unsent o e) h) in
       let sent : unsent o e ≡ false = or-right (leb (z .n) (at-member e)) (unsent o e) h in
-      rw (step-is-sound z o K e low sent, step-number (member-at z o (at-member e)) (event-of o e)) (own-number e low sent)
+      rw (step-is-sound z o (K .ranged) e (K .each (at-member e) low .is-sound) sent, step-number (member-at z o (at-member e)) (event-of o e)) (own-number e low sent)
 
   pub answer-numbers : (e : Event) → answer z o e ∈ event-numbers
   unfolding answer
@@ -194,7 +195,7 @@ module _ (z : Sizes) (es : List Event) (e : Event) (ok : allowed (z .n) ≡ true
   table-full rows h =
       omega (
         arith,
-        nodes-counted z es ok rows,
+        nodes-counted z (ended z es) (all-ok z es ok rows),
         holds z ok es .made-so .room rows,
         nine-full z (ended z es) (offered z (first-office (z .n)) es) (ended-kept z es ok) (holds z ok es) e h,
       )

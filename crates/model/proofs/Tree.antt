@@ -8,10 +8,10 @@ use native.Mathlib.Omega.{arith}
 use lib.ListN.{length}
 use Rattle.tree_theory.specs.Machine.{Call, add, commit, fresh, step}
 use Rattle.tree_theory.specs.Machine.{answer as answer-call, after as after-calls}
-use Rattle.tree_theory.specs.Properties.{Properties, InRange, adds-in}
+use Rattle.tree_theory.specs.Properties.{Properties, InRange, AllOk, adds-in}
 use Rattle.tree_theory.proofs.Rebuilt.{length-added}
 use Rattle.tree_theory.proofs.History.{told-fresh, told-grown}
-use Rattle.tree_theory.proofs.FourProperties.{next-ok}
+use Rattle.tree_theory.proofs.FourProperties.{next-ok, told-ok}
 use Rattle.tree_theory.proofs.Steps.{after-append}
 use Rattle.member_record.specs.Record.{allowed}
 use Rattle.member.specs.Table.{Named, nothing, proposal, decision}
@@ -19,7 +19,7 @@ use Rattle.model.specs.Model.{Sizes, Event, Office, first-office, outcom
 use Rattle.model.specs.Demand.{calls, ended}
 use Rattle.model.specs.Counts.{tree, decisions, committed-nodes}
 use Rattle.model.proofs.Made.{calls-append, adds-in-calls}
-use Rattle.model.proofs.Demanded.{four, rounds-in-range, adds-fit, all-ok, tree-told}
+use Rattle.model.proofs.Demanded.{four, rounds-in-range, adds-fit}
 use Rattle.model.proofs.Committed.{commits-in, committed-count}
 use Rattle.model.proofs.Fold.{next-taken, after-last}
 
@@ -74,15 +74,17 @@ module _ (z : Sizes) (es : List Event) (ok : allowed (z .n) ≡ true) (rows : 0 
     unfolding calls
     takes-decision r x h = takes (decision r x) (commit r) h refl
 
+-- where the tree says OK to each call, the nodes count what was made
+module _ (z : Sizes) (o : Office) (ok : AllOk true (z .table) (calls (o .made))) where
   -- proposals are the nodes less the root
-  pub nodes-counted : length (tree z (ended z es)) ≡ suc (proposals (ended z es .made))
-  nodes-counted = rw (tree-told z es ok rows .nodes, length-added (calls (ended z es .made)) (calls (ended z es .made)), adds-in-calls (ended z es .made)) refl
+  pub nodes-counted : length (tree z o) ≡ suc (proposals (o .made))
+  nodes-counted = rw (told-ok true (z .table) (calls (o .made)) ok .nodes, length-added (calls (o .made)) (calls (o .made)), adds-in-calls (o .made)) refl
 
   -- decisions are the COMMITTED nodes less the root
-  pub committed-counted : committed-nodes (tree z (ended z es)) ≡ suc (decisions (ended z es .made))
+  pub committed-counted : 0 < z .table → committed-nodes (tree z o) ≡ suc (decisions (o .made))
   unfolding committed-nodes
-  committed-counted =
+  committed-counted rows =
       rw (
-        committed-count true (z .table) fresh (calls (ended z es .made)) rows (told-grown true (z .table) [] fresh (told-fresh true (z .table))) (all-ok z es ok rows),
-        commits-in-calls (ended z es .made),
+        committed-count true (z .table) fresh (calls (o .made)) rows (told-grown true (z .table) [] fresh (told-fresh true (z .table))) ok,
+        commits-in-calls (o .made),
       ) (omega arith)

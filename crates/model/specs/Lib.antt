@@ -2,3 +2,4 @@
 pub mod Model
 pub mod Demand
 pub mod Counts
+pub mod Sound

@@ -6,6 +6,7 @@ use lib.ListN.{length, getD, set}
 use lib.Dec.{leb, eqb}
 use Rattle.laws.specs.First.{Cause, _gives_, first}
 use Rattle.ids.specs.declared.Member.{Member}
+use Rattle.numbers.specs.Numbers.{TABLE-FULL, NO-SUCH, STORE-FULL, no-row-left}
 use Rattle.message.specs.declared.Message.{Message}
 use Rattle.message.specs.declared.Message.the-variants.{Start}
 use Rattle.member_record.specs.declared.MemberState.{MemberState}
@@ -92,20 +93,20 @@ absent z o e = leb (z .n) (at-member e) || unsent o e
 
 -- it would send, and the messages sent fill the store
 abbrev pub no-store-row : Sizes → Office → Event → Bool
-no-store-row z o e = sends-one (outcome z o e .sent) && leb (z .store) (length (o .sent))
+no-store-row z o e = sends-one (outcome z o e .sent) && no-row-left (z .store) (length (o .sent))
 
 -- it would propose, and there are as many proposals as table rows beside the root
 abbrev pub no-table-row : Sizes → Office → Event → Bool
-no-table-row z o e = proposes-one (outcome z o e .named) && leb (z .table) (suc (proposals (o .made)))
+no-table-row z o e = proposes-one (outcome z o e .named) && no-row-left (z .table) (suc (proposals (o .made)))
 
 -- the numbers of the place table without its add and commit rows: 29, the member's own, 30, 9
 unfoldable pub event-causes : Sizes → Office → Event → List Cause
 unfolding outcome proposals
 event-causes z o e =
-    absent z o e gives 29 ∷
+    absent z o e gives NO-SUCH ∷
     not (eqb (outcome z o e .number) 0) gives (outcome z o e .number) ∷
-    no-store-row z o e gives 30 ∷
-    no-table-row z o e gives 9 ∷ []
+    no-store-row z o e gives STORE-FULL ∷
+    no-table-row z o e gives TABLE-FULL ∷ []
 
 unfoldable pub answer : Sizes → Office → Event → ℕ
 unfolding event-causes

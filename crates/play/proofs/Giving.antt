@@ -1,15 +1,19 @@
 -- Play's promise: a refused list leaves everything; a list that is taken has the model's answers, store and tree, and the third demand.
 -- Assumes nothing.
 use mathlib.Core.Path.{_≡_, refl, sym, ap, subst, _∙_}
-use mathlib.Core.Bool.{true, false}
+use mathlib.Core.Bool.{true, false, not}
 use mathlib.Core.List.{List, [], _++_}
-use Prim.Native.Nat.{ℕ, suc, _/_, _≤_, _<_}
+use Prim.Native.Nat.{ℕ, suc, _≤_, _<_}
 use native.Mathlib.Omega.{arith}
 use lib.ListN.{length, drop, replicate, length-replicate}
-use borrow.Author.Tests.{lt-ltb, le-ltb}
-use Rattle.laws.specs.Tests.{by-test}
+use lib.Dec.{ltb}
+use borrow.Author.Tests.{not-false, lt-ltb, le-ltb, ltb-false}
+use Rattle.laws.specs.Tests.{by-test, or-left, or-right}
+use Rattle.laws.specs.First.{passed}
+use Rattle.numbers.specs.Numbers.{OK, TABLE-LENGTH, LIST-FORM, OFFICE-SIZE, STORE-OR-ANSWERS}
 use Rattle.tree_theory.specs.Machine.{fresh}
 use Rattle.tree_theory.specs.Table.{nodes, rows, sized, table, fresh-number, fresh-table}
+use Rattle.tree_theory.proofs.Grown.{Grown}
 use Rattle.tree_theory.proofs.Words.{length-table, nodes-table}
 use Rattle.tree_theory.proofs.History.{all-grown}
 use Rattle.tree_theory.proofs.Trees.{sized-rows, grown-fit, grown-stated}
@@ -18,121 +22,175 @@ use Rattle.member_record.specs.Record.{allowed}
 use Rattle.model.specs.Model.{Sizes, first-office, answers, proposals}
 use Rattle.model.specs.Demand.{calls, ended}
 use Rattle.model.specs.Counts.{tree, zeros, decisions, committed-nodes}
-use Rattle.model.proofs.Demanded.{demand}
+use Rattle.model.proofs.Demanded.{all-ok, demand}
 use Rattle.model.proofs.Tree.{nodes-counted, committed-counted}
 use Rattle.play_events.specs.List.{members-of, count-of, list-fits, events-of}
 use Rattle.play_store.specs.Rows.{store-sized, stored}
 use Rattle.play_store.proofs.Stored.{cleared}
-use Rattle.play.specs.declared.answers.Counts.{Counts}
-use Rattle.play.specs.declared.answers.ListRefusal.{ListRefusal}
-use Rattle.play.specs.declared.answers.ListRefusal.the-variants.{NotExact, Members, StoreOrAnswers, TableLength}
-use Rattle.play.specs.Answers.{refusal-number, no-counts}
-use Rattle.play.specs.Promise.{play-number, sizes-of, Ready, Worked, Given}
-
-refusal-some : (k : ListRefusal) → refusal-number k ≡ 0 → ⊥
-refusal-some NotExact e = omega arith
-refusal-some Members e = omega arith
-refusal-some StoreOrAnswers e = omega arith
-refusal-some TableLength e = omega arith
-
-module _ (list store ws answered : List ℕ) where
-  given-refused : (k : ListRefusal) → play-number list store ws answered ≡ refusal-number k → Given list store ws answered (refusal-number k) no-counts store ws answered
-  given-refused k e =
-      record {
-        number-is = sym e;
-        taken = λ z. absurd (refusal-some k z);
-        refused = λ z. record { counts-none = refl; store-stays = refl; table-stays = refl; answers-stay = refl };
-      }
-
-  pub not-exact : list-fits list ≡ false → Given list store ws answered (refusal-number NotExact) no-counts store ws answered
-  unfolding play-number
-  not-exact a = given-refused NotExact (rw a refl)
-
-  module _ (a : list-fits list ≡ true) where
-    pub not-allowed : allowed (members-of list) ≡ false → Given list store ws answered (refusal-number Members) no-counts store ws answered
-    unfolding play-number
-    not-allowed b = given-refused Members (rw (a, b) refl)
-
-    module _ (b : allowed (members-of list) ≡ true) where
-      pub store-odd : store-sized store ≡ false → Given list store ws answered (refusal-number StoreOrAnswers) no-counts store ws answered
-      unfolding play-number
-      store-odd d = given-refused StoreOrAnswers (rw (a, b, d) refl)
-
-      module _ (d : store-sized store ≡ true) where
-        pub answers-few : length answered < count-of list → Given list store ws answered (refusal-number StoreOrAnswers) no-counts store ws answered
-        unfolding play-number
-        answers-few l = given-refused StoreOrAnswers (rw (a, b, d, lt-ltb (length answered) (count-of list) l) refl)
-
-        module _ (l : count-of list ≤ length answered) where
-          pub table-odd : sized ws ≡ false → Given list store ws answered (refusal-number TableLength) no-counts store ws answered
-          unfolding play-number
-          table-odd t = given-refused TableLength (rw (a, b, d, le-ltb (length answered) (count-of list) l, t) refl)
-
-          module _ (t : sized ws ≡ true) where
-            number-zero : play-number list store ws answered ≡ 0
-            unfolding play-number
-            number-zero = rw (a, b, d, le-ltb (length answered) (count-of list) l, t) refl
-
-            length-fresh : length (fresh-table ws) ≡ length ws
-            length-fresh = ap length (fresh-written ws t) ∙ length-table (length ws) fresh (omega (arith, sized-rows ws t))
-
-            -- a cleared store and a fresh table are ready
-            pub ready : Ready list (replicate (length store) 0) (fresh-table ws) answered
-            ready =
-                let n : length {A = ℕ} (replicate (length store) 0) ≡ length store = length-replicate (length store) 0 in
-                record {
-                  fits = a;
-                  members = b;
-                  store-length = rw n d;
-                  cleared = cleared (length store) ∙ ap (λ m. stored m []) (sym n);
-                  table-length = rw length-fresh t;
-                  is-fresh = fresh-written ws t ∙ ap (λ m. table m fresh) (sym length-fresh);
-                  room = l;
-                }
-
-            -- what the events came to
-            pub played : (c : Counts) (store′ ws′ answered′ : List ℕ) →
-                Worked (sizes-of list (replicate (length store) 0) (fresh-table ws)) (events-of list) (replicate (length store) 0) (fresh-table ws) answered c store′ ws′ answered′ →
-                Given list store ws answered 0 c store′ ws′ answered′
-            played c store′ ws′ answered′ W =
-                let z : Sizes = sizes-of list store ws in
-                let es = events-of list in
-                let n : length {A = ℕ} (replicate (length store) 0) ≡ length store = length-replicate (length store) 0 in
-                let y₀ = sizes-of list (replicate (length store) 0) (fresh-table ws) in
-                let e : sizes-of list (replicate (length store) 0) (fresh-table ws) ≡ z = λ i. record { n = members-of list; store = n i / 28; table = length-fresh i / 4 } in
-                let U : Worked z es store ws answered c store′ ws′ answered′ =
-                record {
-                  answers-are = subst (λ y. answered′ ≡ answers y (first-office (y .n)) es ++ drop (length es) answered) e (W .answers-are);
-                  store-is = subst (λ y. store′ ≡ stored (length store) (ended y es .sent)) e (W .store-is ∙ ap (λ m. stored m (ended y₀ es .sent)) n);
-                  table-is = subst (λ y. ws′ ≡ table (length ws) (tree y (ended y es))) e (W .table-is ∙ ap (λ m. table m (tree y₀ (ended y₀ es))) length-fresh);
-                  accepted-is = subst (λ y. c .accepted ≡ zeros (answers y (first-office (y .n)) es)) e (W .accepted-is);
-                  messages-are = subst (λ y. c .messages ≡ length (ended y es .sent)) e (W .messages-are);
-                  proposals-made = subst (λ y. c .proposals ≡ proposals (ended y es .made)) e (W .proposals-made);
-                  decisions-made = subst (λ y. c .decisions ≡ decisions (ended y es .made)) e (W .decisions-made);
-                } in
-                let long : length ws′ ≡ length ws =
-                ap length (U .table-is) ∙ length-table (length ws) (tree z (ended z es)) (grown-fit true ws (tree z (ended z es)) t (all-grown true (rows ws) (calls (ended z es .made)))) in
-                let held : nodes ws′ ≡ tree z (ended z es) =
-                ap nodes (U .table-is) ∙
-                nodes-table (length ws) (tree z (ended z es)) (grown-fit true ws (tree z (ended z es)) t (all-grown true (rows ws) (calls (ended z es .made))))
-                (grown-stated true (rows ws) (tree z (ended z es)) (all-grown true (rows ws) (calls (ended z es .made)))) in
-                record {
-                  number-is = sym number-zero;
-                  taken = λ q.
-                      record {
-                        worked = U;
-                        demand = demand z es b (sized-rows ws t) ws′ (U .table-is ∙ ap (λ n. table n (tree z (ended z es))) (sym long));
-                        proposals-are = ap suc (U .proposals-made) ∙ sym (ap length held ∙ nodes-counted z es b (sized-rows ws t));
-                        decisions-are = ap suc (U .decisions-made) ∙ sym (ap committed-nodes held ∙ committed-counted z es b (sized-rows ws t));
-                      };
-                  refused = λ q. absurd (q refl);
-                }
+use Rattle.play.specs.declared.PlayAnswer.{PlayAnswer}
+use Rattle.play.specs.Lent.{Lent, as-lent}
+use Rattle.play.proofs.Running.{same-store-rows, same-rows}
+use Rattle.play.specs.Promise.{list-causes, play-number, refused-list, sizes-of, Ready, Ran, Given}
 
 -- what fresh answers says whether the length is that of a table
 pub fresh-zero : (ws : List ℕ) → fresh-number ws ≡ 0 → sized ws ≡ true
 unfolding fresh-number
 fresh-zero ws e = by-test (sized ws) (λ t. t) (λ t. absurd (omega (arith, rw t at e)))
 
-pub fresh-refused : (ws : List ℕ) → (fresh-number ws ≡ 0 → ⊥) → (sized ws ≡ false) × (fresh-table ws ≡ ws)
+fresh-refused : (ws : List ℕ) → (fresh-number ws ≡ 0 → ⊥) → (sized ws ≡ false) × (fresh-table ws ≡ ws)
 unfolding fresh-number fresh-table
 fresh-refused ws h = by-test (sized ws) (λ t. absurd (h (rw t refl))) (λ t. (t, rw t refl))
+
+-- what was lent, with the store cleared and the table fresh
+abbrev pub cleared-lent : Lent → Lent
+cleared-lent L = as-lent (replicate (length (L .memory .store)) 0) (fresh-table (L .memory .table)) (L .answers)
+
+-- what the code answers
+pub as-given : {list : List ℕ} {L L′ : Lent} (a : PlayAnswer) {b : PlayAnswer} → a ≡ b → Given list L b L′ → Given list L a L′
+as-given {list} {L} {L′} a q G = subst (λ b. Given list L b L′) (sym q) G
+
+module _ {list : List ℕ} {L : Lent} where
+  given-refused : (k : ℕ) → play-number list L ≡ k → (k ≡ 0 → ⊥) → Given list L (refused-list k) L
+  given-refused k e n =
+      record {
+        number-is = sym e;
+        taken = λ z. absurd (n z);
+        refused = λ z. record { counts-none = refl; lent-stays = refl };
+      }
+
+  pub not-exact : list-fits list ≡ false → Given list L (refused-list LIST-FORM) L
+  unfolding play-number
+  not-exact a = given-refused LIST-FORM (rw a refl) (λ z. omega arith)
+
+  module _ (a : list-fits list ≡ true) where
+    pub not-allowed : allowed (members-of list) ≡ false → Given list L (refused-list OFFICE-SIZE) L
+    unfolding play-number
+    not-allowed b = given-refused OFFICE-SIZE (rw (a, b) refl) (λ z. omega arith)
+
+    module _ (b : allowed (members-of list) ≡ true) where
+      pub store-odd : store-sized (L .memory .store) ≡ false → Given list L (refused-list STORE-OR-ANSWERS) L
+      unfolding play-number
+      store-odd d = given-refused STORE-OR-ANSWERS (rw (a, b, d) refl) (λ z. omega arith)
+
+      module _ (d : store-sized (L .memory .store) ≡ true) where
+        pub answers-few : length (L .answers) < count-of list → Given list L (refused-list STORE-OR-ANSWERS) L
+        unfolding play-number
+        answers-few l = given-refused STORE-OR-ANSWERS (rw (a, b, d, lt-ltb (length (L .answers)) (count-of list) l) refl) (λ z. omega arith)
+
+        module _ (l : count-of list ≤ length (L .answers)) where
+          -- the table is as it was, though fresh was called
+          pub table-odd : {ws : List ℕ} → (fresh-number (L .memory .table) ≡ 0 → ⊥) → ws ≡ fresh-table (L .memory .table) →
+              Given list L (refused-list TABLE-LENGTH) (as-lent (L .memory .store) ws (L .answers))
+          unfolding play-number
+          table-odd n e =
+              let (t, stays) = fresh-refused (L .memory .table) n in
+              subst (λ w. Given list L (refused-list TABLE-LENGTH) (as-lent (L .memory .store) w (L .answers))) (sym (e ∙ stays))
+              (given-refused TABLE-LENGTH (rw (a, b, d, le-ltb (length (L .answers)) (count-of list) l, t) refl) (λ z. omega arith))
+
+-- what a list that is taken has passed
+pub record PassedList (list : List ℕ) (L : Lent) : Type 0 where
+  pub fits : list-fits list ≡ true
+  pub members : allowed (members-of list) ≡ true
+  pub store-length : store-sized (L .memory .store) ≡ true
+  pub room : count-of list ≤ length (L .answers)
+  pub table-length : sized (L .memory .table) ≡ true
+
+-- so has each that gets 0
+pub taken-passed : {list : List ℕ} {L L′ : Lent} {r : PlayAnswer} → Given list L r L′ → r .number ≡ OK → PassedList list L
+unfolding play-number
+taken-passed {list} {L} G ok =
+    let (form, (size, (store-or-answers, (length-odd, _)))) = passed (list-causes list L) refl (sym (G .number-is) ∙ ok) in
+    let few = ltb (length (L .answers)) (count-of list) in
+    record {
+      fits = not-false _ form;
+      members = not-false _ size;
+      store-length = not-false _ (or-left (not (store-sized (L .memory .store))) few store-or-answers);
+      room = ltb-false _ _ (or-right (not (store-sized (L .memory .store))) few store-or-answers);
+      table-length = not-false _ length-odd;
+    }
+
+module _ {list : List ℕ} {L : Lent} (P : PassedList list L) where
+  number-zero : play-number list L ≡ OK
+  unfolding play-number
+  number-zero = rw (P .fits, P .members, P .store-length, le-ltb (length (L .answers)) (count-of list) (P .room), P .table-length) refl
+
+  length-clear : length {A = ℕ} (replicate (length (L .memory .store)) 0) ≡ length (L .memory .store)
+  length-clear = length-replicate (length (L .memory .store)) 0
+
+  length-fresh : length (fresh-table (L .memory .table)) ≡ length (L .memory .table)
+  length-fresh =
+      let ws = L .memory .table in
+      ap length (fresh-written ws (P .table-length)) ∙ length-table (length ws) fresh (omega (arith, sized-rows ws (P .table-length)))
+
+  cleared-ready : Ready list (cleared-lent L)
+  cleared-ready =
+      record {
+        fits = P .fits;
+        members = P .members;
+        store-length = rw length-clear (P .store-length);
+        cleared = cleared (length (L .memory .store)) ∙ ap (λ m. stored m []) (sym length-clear);
+        table-length = rw length-fresh (P .table-length);
+        is-fresh = fresh-written (L .memory .table) (P .table-length) ∙ ap (λ m. table m fresh) (sym length-fresh);
+        room = P .room;
+      }
+
+  module _ {r : PlayAnswer} {L′ : Lent} (W : Ran list (cleared-lent L) r L′) where
+    -- what the events came to on what was lent, as it was
+    on-lent : Ran list L r L′
+    on-lent =
+        let es = events-of list in
+        let cleared-sizes = sizes-of list (cleared-lent L .memory) in
+        let store-rows-same = same-store-rows (cleared-lent L .memory .store) (L .memory .store) length-clear in
+        let rows-same = same-rows (cleared-lent L .memory .table) (L .memory .table) length-fresh in
+        let e : cleared-sizes ≡ sizes-of list (L .memory) = λ i. record { n = members-of list; store = store-rows-same i; table = rows-same i } in
+        record {
+          number-ok = W .number-ok;
+          answers-are = subst (λ y. L′ .answers ≡ answers y (first-office (y .n)) es ++ drop (length es) (L .answers)) e (W .answers-are);
+          store-is =
+              subst (λ y. L′ .memory .store ≡ stored (length (L .memory .store)) (ended y es .sent)) e
+              (W .store-is ∙ ap (λ m. stored m (ended cleared-sizes es .sent)) length-clear);
+          table-is =
+              subst (λ y. L′ .memory .table ≡ table (length (L .memory .table)) (tree y (ended y es))) e
+              (W .table-is ∙ ap (λ m. table m (tree cleared-sizes (ended cleared-sizes es))) length-fresh);
+          accepted-is = subst (λ y. r .accepted ≡ zeros (answers y (first-office (y .n)) es)) e (W .accepted-is);
+          messages-are = subst (λ y. r .messages ≡ length (ended y es .sent)) e (W .messages-are);
+          proposals-made = subst (λ y. r .proposals ≡ proposals (ended y es .made)) e (W .proposals-made);
+          decisions-made = subst (λ y. r .decisions ≡ decisions (ended y es .made)) e (W .decisions-made);
+        }
+
+    -- play's promise
+    given-ran : Given list L r L′
+    given-ran =
+        let ws = L .memory .table in
+        let es = events-of list in
+        let z : Sizes = sizes-of list (L .memory) in
+        let ns = tree z (ended z es) in
+        let U = on-lent in
+        let grown : Grown true (rows ws) ns = all-grown true (rows ws) (calls (ended z es .made)) in
+        let fit = grown-fit true ws ns (P .table-length) grown in
+        let long : length (L′ .memory .table) ≡ length ws = ap length (U .table-is) ∙ length-table (length ws) ns fit in
+        let held : nodes (L′ .memory .table) ≡ ns = ap nodes (U .table-is) ∙ nodes-table (length ws) ns fit (grown-stated true (rows ws) ns grown) in
+        let lent-rows = sized-rows ws (P .table-length) in
+        let ok = all-ok z es (P .members) lent-rows in
+        record {
+          number-is = U .number-ok ∙ sym number-zero;
+          taken = λ q.
+              record {
+                played = U;
+                demand = demand z es (P .members) lent-rows (L′ .memory .table) (U .table-is ∙ ap (λ n. table n ns) (sym long));
+                proposals-are = ap suc (U .proposals-made) ∙ sym (ap length held ∙ nodes-counted z (ended z es) ok);
+                decisions-are = ap suc (U .decisions-made) ∙ sym (ap committed-nodes held ∙ committed-counted z (ended z es) ok lent-rows);
+              };
+          refused = λ q. absurd (q (U .number-ok));
+        }
+
+  -- a cleared store and a fresh table, as the code has them
+  module _ {store ws : List ℕ} (es : store ≡ replicate (length (L .memory .store)) 0) (ew : ws ≡ fresh-table (L .memory .table)) where
+    as-cleared : as-lent store ws (L .answers) ≡ cleared-lent L
+    as-cleared i = as-lent (es i) (ew i) (L .answers)
+
+    pub ready : Ready list (as-lent store ws (L .answers))
+    ready = subst (Ready list) (sym as-cleared) cleared-ready
+
+    pub given-taken : {r : PlayAnswer} {L′ : Lent} → Ran list (as-lent store ws (L .answers)) r L′ → Given list L r L′
+    given-taken {r} {L′} W = given-ran (subst (λ K. Ran list K r L′) as-cleared W)

@@ -1,3 +1,3 @@
 -- What play promises (01, "Play").
-pub mod Answers
+pub mod Lent
 pub mod Promise

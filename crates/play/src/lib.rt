@@ -1,49 +1,70 @@
 // Play (01, "Play"): a list of events over a whole office, in lent memory.
-use answers::Counts;
-use answers::ListRefusal;
-use answers::PlayAnswer;
 ghost use mathlib.Core.Path.{_≡_};
-ghost use Rattle.play.specs.Answers.{answer-number, answer-counts};
-ghost use Rattle.play.specs.Promise.{one, Ready, Ran, Given};
+ghost use Rattle.play.specs.Lent.{as-lent};
+ghost use Rattle.play.specs.Promise.{one, refused-list, Ready, Ran, Given};
 
-pub mod answers;
+// The number of a list, and what its events came to; with a refusal each count is 0.
+pub struct PlayAnswer {
+    pub number: u32,
+    pub accepted: u32,
+    pub messages: u32,
+    pub proposals: u32,
+    pub decisions: u32,
+}
+
+// A refused list counts nothing.
+fn refused_list(number: u32) -> PlayAnswer
+    ensures { λ a. ⌜ a ≡ refused-list number ⌝ }
+{
+    PlayAnswer {
+        number,
+        accepted: 0,
+        messages: 0,
+        proposals: 0,
+        decisions: 0,
+    }
+}
 
 // 1 for an accepted event.
-fn one_if_accepted(number: u8) -> u32
+fn one_if_accepted(number: u32) -> u32
     ensures { λ n. ⌜ n ≡ one number ⌝ }
 {
-    if number == 0 {
+    if number == numbers::OK {
         return 1;
     }
     0
 }
 
 // Works the events one after another, on a cleared store and a fresh table; the rest of the list is handed on from where each event ends.
-fn run(list: &[u8], messages: &mut [u8], nodes: &mut [u64], answered: &mut [u8]) -> Counts
-    requires { ⌜ Ready (now list) (now messages) (now nodes) (now answered) ⌝ }
-    ensures { λ c. ⌜ Ran (now (list .entry)) (now (messages .entry)) (now (nodes .entry)) (now (answered .entry)) c (now (messages .exit)) (now (nodes .exit)) (now (answered .exit)) ⌝ }
+fn run(list: &[u8], messages: &mut [u8], nodes: &mut [u64], answered: &mut [u8]) -> PlayAnswer
+    requires { ⌜ Ready (now list) (as-lent (now messages) (now nodes) (now answered)) ⌝ }
+    ensures { λ a. ⌜ Ran (now (list .entry)) (as-lent (now (messages .entry)) (now (nodes .entry)) (now (answered .entry))) a
+        (as-lent (now (messages .exit)) (now (nodes .exit)) (now (answered .exit))) ⌝ }
 {
-    let count = xdr::word_at(list, 4) as usize;
-    let first = play_office::fresh_office(xdr::word_at(list, 0));
+    let head = play_events::read_head(list);
+    let count = head.count as usize;
+    let first = play_office::fresh_office(head.members);
     let mut members = first.members;
     let mut tally = first.tally;
     let mut accepted: u32 = 0;
-    let mut at: usize = 8;
+    let mut at: usize = head.begin;
     let mut k: usize = 0;
     while k < count {
-        let e = play_events::read_event(&list[at..]);
-        at += play_events::event_size(&list[at..]);
+        let r = play_events::read_event(&list[at..]);
+        at += r.size;
+        let e = r.event;
         let i = play_office::event::place(e);
         let m = members[i];
         let w = play_office::event::work(tally, m, e, messages, nodes);
         let state = w.state;
         members[i] = state;
         tally = w.tally;
-        answered[k] = w.number;
+        answered[k] = w.number as u8;
         accepted += one_if_accepted(w.number);
         k += 1;
     }
-    Counts {
+    PlayAnswer {
+        number: numbers::OK,
         accepted,
         messages: tally.sent as u32,
         proposals: tally.proposals as u32,
@@ -53,23 +74,25 @@ fn run(list: &[u8], messages: &mut [u8], nodes: &mut [u64], answered: &mut [u8])
 
 // Plays a list of events over an office: list, store, table and answers are lent.
 pub fn play(list: &[u8], messages: &mut [u8], nodes: &mut [u64], answered: &mut [u8]) -> PlayAnswer
-    ensures { λ a. ⌜ Given (now (list .entry)) (now (messages .entry)) (now (nodes .entry)) (now (answered .entry)) (answer-number a) (answer-counts a) (now (messages .exit)) (now (nodes .exit)) (now (answered .exit)) ⌝ }
+    ensures { λ a. ⌜ Given (now (list .entry)) (as-lent (now (messages .entry)) (now (nodes .entry)) (now (answered .entry))) a
+        (as-lent (now (messages .exit)) (now (nodes .exit)) (now (answered .exit))) ⌝ }
 {
     if !play_events::fits(list) {
-        return PlayAnswer::Refused(ListRefusal::NotExact);
+        return refused_list(numbers::LIST_FORM);
     }
-    if !member_record::is_allowed(xdr::word_at(list, 0)) {
-        return PlayAnswer::Refused(ListRefusal::Members);
+    let head = play_events::read_head(list);
+    if !member_record::is_allowed(head.members) {
+        return refused_list(numbers::OFFICE_SIZE);
     }
     if !play_store::has_store_length(messages) {
-        return PlayAnswer::Refused(ListRefusal::StoreOrAnswers);
+        return refused_list(numbers::STORE_OR_ANSWERS);
     }
-    if answered.len() < xdr::word_at(list, 4) as usize {
-        return PlayAnswer::Refused(ListRefusal::StoreOrAnswers);
+    if answered.len() < head.count as usize {
+        return refused_list(numbers::STORE_OR_ANSWERS);
     }
-    if tree::fresh(nodes) != 0 {
-        return PlayAnswer::Refused(ListRefusal::TableLength);
+    if tree::fresh(nodes) != numbers::OK {
+        return refused_list(numbers::TABLE_LENGTH);
     }
     play_store::clear(messages);
-    PlayAnswer::Played(run(list, messages, nodes, answered))
+    run(list, messages, nodes, answered)
 }

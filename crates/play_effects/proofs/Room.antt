@@ -2,11 +2,11 @@
 use mathlib.Core.Path.{_≡_}
 use mathlib.Core.Bool.{false}
 use mathlib.Core.List.{List}
-use Prim.Native.Nat.{ℕ, _+_, _*_, _≤_}
-use lib.ListN.{length}
+use Prim.Native.Nat.{ℕ}
 use Rattle.laws.specs.Tests.{tests}
+use Rattle.play_store.specs.Rows.{HasRow}
 use Rattle.play_effects.specs.declared.Tally.{Tally}
-use Rattle.play_effects.specs.Effects.{store-full}
+use Rattle.play_effects.specs.Effects.{no-room-to-send}
 
-pub room : (t : Tally) (store : List ℕ) → store-full t store ≡ false → 28 * t .sent + 28 ≤ length store
-room t store h = omega tests
+pub row-free : (t : Tally) (store : List ℕ) → no-room-to-send t store ≡ false → HasRow store (t .sent)
+row-free t store h = omega tests

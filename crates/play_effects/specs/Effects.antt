@@ -2,20 +2,22 @@
 use mathlib.Core.Path.{_≡_}
 use mathlib.Core.Bool.{Bool, true, cond}
 use mathlib.Core.List.{List, [], _∷_}
-use Prim.Native.Nat.{ℕ, _+_, _/_, _<_}
-use lib.ListN.{length}
-use lib.Dec.{leb, eqb}
+use Prim.Native.Nat.{ℕ, _+_, _<_}
+use lib.Dec.{eqb}
 use Rattle.laws.specs.First.{Cause, first, _gives_}
+use Rattle.numbers.specs.Numbers.{OK, TABLE-FULL, STORE-FULL, no-row-left}
 use Rattle.tree_theory.specs.Machine.{Call}
+use Rattle.tree_theory.specs.Table.{rows}
 use Rattle.message.specs.declared.Message.{Message}
 use Rattle.member_record.specs.declared.MemberState.{MemberState}
 use Rattle.tree.specs.Promises.{stepped-table}
-use Rattle.play_store.specs.Rows.{put-row}
+use Rattle.play_store.specs.Rows.{store-rows, put-row}
 use Rattle.play_effects.specs.declared.Tally.{Tally}
-use Rattle.play_effects.specs.declared.Worked.{Worked}
+use Rattle.play_effects.specs.declared.AfterEvent.{AfterEvent}
+use Rattle.play_effects.specs.Memory.{Memory}
 
 -- the counts of an office that play works: no store or table has as many rows
-pub record Few (t : Tally) : Type 0 where
+pub record CountsFit (t : Tally) : Type 0 where
   pub sent : t .sent < 4000
   pub proposals : t .proposals < 4000
   pub decisions : t .decisions < 4000
@@ -25,42 +27,42 @@ abbrev pub counted : Tally → ℕ → ℕ → ℕ → Tally
 counted t a b c = record { n = t .n; sent = t .sent + a; proposals = t .proposals + b; decisions = t .decisions + c }
 
 -- a refused event leaves the record and the tally
-abbrev pub left : MemberState → Tally → ℕ → Worked
-left m t number = record { state = m; tally = t; number = number }
+abbrev pub refused-event : MemberState → Tally → ℕ → AfterEvent
+refused-event m t number = record { state = m; tally = t; number = number }
 
 -- an accepted one gives both
-abbrev pub gone : MemberState → Tally → Worked
-gone m t = record { state = m; tally = t; number = 0 }
+abbrev pub accepted-event : MemberState → Tally → AfterEvent
+accepted-event m t = record { state = m; tally = t; number = OK }
 
--- whether the messages sent fill the store
-abbrev pub store-full : Tally → List ℕ → Bool
-store-full t store = leb (length store / 28) (t .sent)
+-- the messages sent fill the store
+abbrev pub no-room-to-send : Tally → List ℕ → Bool
+no-room-to-send t store = no-row-left (store-rows store) (t .sent)
 
--- whether there are as many proposals as table rows beside the root
-abbrev pub table-full : Tally → List ℕ → Bool
-table-full t ws = leb (length ws / 4) (t .proposals + 1)
+-- there are as many proposals as table rows beside the root
+abbrev pub no-room-to-propose : Tally → List ℕ → Bool
+no-room-to-propose t ws = no-row-left (rows ws) (t .proposals + 1)
 
--- a step from record m to m′ that sends g
-pub record Sends (t : Tally) (m m′ : MemberState) (g : Message) (store : List ℕ) (w : Worked) (store′ : List ℕ) : Type 0 where
-  pub worked : w ≡ cond (store-full t store) (left m t 30) (gone m′ (counted t 1 0 0))
-  pub store-is : store′ ≡ cond (store-full t store) store (put-row store (t .sent) g)
+-- a step from record m to m′ that sends g; the table isn't lent to it
+pub record SendEffect (t : Tally) (m m′ : MemberState) (g : Message) (store : List ℕ) (w : AfterEvent) (store′ : List ℕ) : Type 0 where
+  pub result-is : w ≡ cond (no-room-to-send t store) (refused-event m t STORE-FULL) (accepted-event m′ (counted t 1 0 0))
+  pub store-is : store′ ≡ cond (no-room-to-send t store) store (put-row store (t .sent) g)
 
 -- the row "last" of the place table, where a message would be sent and a proposal made
-abbrev pub proposal-causes : Tally → List ℕ → List ℕ → List Cause
-proposal-causes t store ws =
-    store-full t store gives 30 ∷
-    table-full t ws gives 9 ∷ []
+abbrev pub proposal-causes : Tally → Memory → List Cause
+proposal-causes t M =
+    no-room-to-send t (M .store) gives STORE-FULL ∷
+    no-room-to-propose t (M .table) gives TABLE-FULL ∷ []
 
-abbrev pub proposal-number : Tally → List ℕ → List ℕ → ℕ
-proposal-number t store ws = first (proposal-causes t store ws)
+abbrev pub proposal-number : Tally → Memory → ℕ
+proposal-number t M = first (proposal-causes t M)
 
 -- a step from record m to m′ that sends g and names c
-pub record Proposes (t : Tally) (m m′ : MemberState) (g : Message) (c : Call) (store ws : List ℕ) (w : Worked) (store′ ws′ : List ℕ) : Type 0 where
-  pub worked : w ≡ cond (eqb (proposal-number t store ws) 0) (gone m′ (counted t 1 1 0)) (left m t (proposal-number t store ws))
-  pub store-is : store′ ≡ cond (eqb (proposal-number t store ws) 0) (put-row store (t .sent) g) store
-  pub table-is : ws′ ≡ cond (eqb (proposal-number t store ws) 0) (stepped-table true ws c) ws
+pub record ProposalEffect (t : Tally) (m m′ : MemberState) (g : Message) (c : Call) (M : Memory) (w : AfterEvent) (M′ : Memory) : Type 0 where
+  pub result-is : w ≡ cond (eqb (proposal-number t M) OK) (accepted-event m′ (counted t 1 1 0)) (refused-event m t (proposal-number t M))
+  pub store-is : M′ .store ≡ cond (eqb (proposal-number t M) OK) (put-row (M .store) (t .sent) g) (M .store)
+  pub table-is : M′ .table ≡ cond (eqb (proposal-number t M) OK) (stepped-table true (M .table) c) (M .table)
 
--- a step to record m′ that names c and sends nothing
-pub record Decides (t : Tally) (m′ : MemberState) (c : Call) (ws : List ℕ) (w : Worked) (ws′ : List ℕ) : Type 0 where
-  pub worked : w ≡ gone m′ (counted t 0 0 1)
+-- a step to record m′ that names c and sends nothing; the store isn't lent to it
+pub record DecisionEffect (t : Tally) (m′ : MemberState) (c : Call) (ws : List ℕ) (w : AfterEvent) (ws′ : List ℕ) : Type 0 where
+  pub result-is : w ≡ accepted-event m′ (counted t 0 0 1)
   pub table-is : ws′ ≡ stepped-table true ws c

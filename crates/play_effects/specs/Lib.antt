@@ -1,2 +1,3 @@
--- What a message, a proposal and a decision do.
+-- What a message, a proposal and a decision do to the memory that play is lent.
+pub mod Memory
 pub mod Effects

@@ -9,7 +9,9 @@ ghost use Prim.Native.Nat.{_<_};
 ghost use Rattle.tree_theory.specs.Machine.{add, commit};
 ghost use Rattle.tree_theory.specs.Table.{sized, Tree};
 ghost use Rattle.message.specs.Fields.{in-range};
-ghost use Rattle.play_effects.specs.Effects.{Few, counted, left, store-full, table-full, proposal-number, Sends, Proposes, Decides};
+ghost use Rattle.play_effects.specs.Memory.{in-memory};
+ghost use Rattle.play_effects.specs.Effects.{CountsFit, counted, refused-event, no-room-to-send, no-room-to-propose, proposal-number};
+ghost use Rattle.play_effects.specs.Effects.{SendEffect, ProposalEffect, DecisionEffect};
 
 // N, and how many messages were sent, proposals and decisions made.
 pub struct Tally {
@@ -20,15 +22,15 @@ pub struct Tally {
 }
 
 // The member's record and the tally after an event, and the event's number.
-pub struct Worked {
+pub struct AfterEvent {
     pub state: MemberState,
     pub tally: Tally,
-    pub number: u8,
+    pub number: u32,
 }
 
 // So much more sent, proposed and decided.
 fn counted(tally: Tally, sent: usize, proposals: usize, decisions: usize) -> Tally
-    requires { ⌜ Few tally × (sent < 2) × (proposals < 2) × (decisions < 2) ⌝ }
+    requires { ⌜ CountsFit tally × (sent < 2) × (proposals < 2) × (decisions < 2) ⌝ }
     ensures { λ t. ⌜ t ≡ counted tally sent proposals decisions ⌝ }
 {
     Tally {
@@ -40,10 +42,10 @@ fn counted(tally: Tally, sent: usize, proposals: usize, decisions: usize) -> Tal
 }
 
 // A refused event leaves the record and the tally.
-pub fn left(m: MemberState, tally: Tally, number: u8) -> Worked
-    ensures { λ w. ⌜ w ≡ left m tally number ⌝ }
+pub fn refused_event(m: MemberState, tally: Tally, number: u32) -> AfterEvent
+    ensures { λ w. ⌜ w ≡ refused-event m tally number ⌝ }
 {
-    Worked {
+    AfterEvent {
         state: m,
         tally,
         number,
@@ -51,34 +53,34 @@ pub fn left(m: MemberState, tally: Tally, number: u8) -> Worked
 }
 
 // Whether the messages sent fill the store.
-fn store_full(tally: Tally, messages: &[u8]) -> bool
-    ensures { λ b. ⌜ b ≡ store-full tally (now (messages .entry)) ⌝ }
+fn no_room_to_send(tally: Tally, messages: &[u8]) -> bool
+    ensures { λ b. ⌜ b ≡ no-room-to-send tally (now (messages .entry)) ⌝ }
 {
-    messages.len() / play_store::ROW_LENGTH <= tally.sent
+    numbers::no_row_left(messages.len() / play_store::ROW_LENGTH, tally.sent)
 }
 
 // Whether the root and the proposals fill the table.
-fn table_full(tally: Tally, nodes: &[u64]) -> bool
-    requires { ⌜ Few tally ⌝ }
-    ensures { λ b. ⌜ b ≡ table-full tally (now (nodes .entry)) ⌝ }
+fn no_room_to_propose(tally: Tally, nodes: &[u64]) -> bool
+    requires { ⌜ CountsFit tally ⌝ }
+    ensures { λ b. ⌜ b ≡ no-room-to-propose tally (now (nodes .entry)) ⌝ }
 {
-    nodes.len() / 4 <= tally.proposals + 1
+    numbers::no_row_left(nodes.len() / 4, tally.proposals + 1)
 }
 
 // The number of a proposal, by the row "last" of the place table.
-fn proposal_number(tally: Tally, messages: &[u8], nodes: &[u64]) -> u8
-    requires { ⌜ Few tally ⌝ }
-    ensures { λ k. ⌜ k ≡ proposal-number tally (now (messages .entry)) (now (nodes .entry)) ⌝ }
+fn proposal_number(tally: Tally, messages: &[u8], nodes: &[u64]) -> u32
+    requires { ⌜ CountsFit tally ⌝ }
+    ensures { λ k. ⌜ k ≡ proposal-number tally (in-memory (now (messages .entry)) (now (nodes .entry))) ⌝ }
 {
-    let no_store_row = store_full(tally, messages);
-    let no_table_row = table_full(tally, nodes);
+    let no_store_row = no_room_to_send(tally, messages);
+    let no_table_row = no_room_to_propose(tally, nodes);
     if no_store_row {
-        return 30;
+        return numbers::STORE_FULL;
     }
     if no_table_row {
-        return 9;
+        return numbers::TABLE_FULL;
     }
-    0
+    numbers::OK
 }
 
 // A step from the record m to the record next that sends g.
@@ -88,18 +90,18 @@ pub fn send(
     m: MemberState,
     next: MemberState,
     g: Message,
-) -> Worked
-    requires { ⌜ Few tally × (in-range g ≡ true) ⌝ }
-    ensures { λ w. ⌜ Sends tally m next g (now (messages .entry)) w (now (messages .exit)) ⌝ }
+) -> AfterEvent
+    requires { ⌜ CountsFit tally × (in-range g ≡ true) ⌝ }
+    ensures { λ w. ⌜ SendEffect tally m next g (now (messages .entry)) w (now (messages .exit)) ⌝ }
 {
-    if store_full(tally, messages) {
-        return left(m, tally, 30);
+    if no_room_to_send(tally, messages) {
+        return refused_event(m, tally, numbers::STORE_FULL);
     }
     play_store::put(messages, tally.sent, g);
-    Worked {
+    AfterEvent {
         state: next,
         tally: counted(tally, 1, 0, 0),
-        number: 0,
+        number: numbers::OK,
     }
 }
 
@@ -114,32 +116,33 @@ pub fn propose(
     round: Round,
     value: u64,
     parent: Round,
-) -> Worked
-    requires { ⌜ Few tally × (in-range sent ≡ true) × (sized (now nodes) ≡ true) × Tree true (now nodes) ⌝ }
-    ensures { λ w. ⌜ Proposes tally m next sent (add (round .0) value (parent .0)) (now (messages .entry)) (now (nodes .entry)) w (now (messages .exit)) (now (nodes .exit)) ⌝ }
+) -> AfterEvent
+    requires { ⌜ CountsFit tally × (in-range sent ≡ true) × (sized (now nodes) ≡ true) × Tree true (now nodes) ⌝ }
+    ensures { λ w. ⌜ ProposalEffect tally m next sent (add (round .0) value (parent .0)) (in-memory (now (messages .entry)) (now (nodes .entry))) w
+        (in-memory (now (messages .exit)) (now (nodes .exit))) ⌝ }
 {
     let number = proposal_number(tally, messages, nodes);
-    if number != 0 {
-        return left(m, tally, number);
+    if number != numbers::OK {
+        return refused_event(m, tally, number);
     }
     play_store::put(messages, tally.sent, sent);
     tree::add_in_tree(nodes, round, value, parent);
-    Worked {
+    AfterEvent {
         state: next,
         tally: counted(tally, 1, 1, 0),
-        number: 0,
+        number: numbers::OK,
     }
 }
 
 // A step to the record next that names commit(round).
-pub fn decide(nodes: &mut [u64], tally: Tally, next: MemberState, round: Round) -> Worked
-    requires { ⌜ Few tally × (sized (now nodes) ≡ true) × Tree true (now nodes) ⌝ }
-    ensures { λ w. ⌜ Decides tally next (commit (round .0)) (now (nodes .entry)) w (now (nodes .exit)) ⌝ }
+pub fn decide(nodes: &mut [u64], tally: Tally, next: MemberState, round: Round) -> AfterEvent
+    requires { ⌜ CountsFit tally × (sized (now nodes) ≡ true) × Tree true (now nodes) ⌝ }
+    ensures { λ w. ⌜ DecisionEffect tally next (commit (round .0)) (now (nodes .entry)) w (now (nodes .exit)) ⌝ }
 {
     tree::commit_in_tree(nodes, round);
-    Worked {
+    AfterEvent {
         state: next,
         tally: counted(tally, 0, 0, 1),
-        number: 0,
+        number: numbers::OK,
     }
 }

@@ -1,14 +1,35 @@
-// Event lists (01, "Play"): N, event count, then the events: 1, member, round, offer (20 bytes), or 2, message number, member (12).
+// Event lists (01, "Play"): the head, which is N and the event count, then the events. Both are read here alone.
 use ids::Member;
 use ids::Round;
 ghost use mathlib.Core.Path.{_≡_};
 ghost use Prim.Native.Nat.{_≤_};
 ghost use lib.ListN.{length};
-ghost use Rattle.play_events.specs.List.{event-size, event-at, exact, body, list-fits};
-ghost use Rattle.play_events.specs.Value.{model-event};
+ghost use Rattle.play_events.specs.List.{HEAD-BYTES, event-size, head-of, exact, body, list-fits};
+ghost use Rattle.play_events.specs.Value.{ReadsEvent};
+
+// The bytes of the head.
+const HEAD_BYTES: usize = 8;
+
+// The kinds of events.
+const EVENT_START: u32 = 1;
+
+const EVENT_DELIVER: u32 = 2;
+
+// The bytes of a start: kind, member, round, offer.
+const START_BYTES: usize = 20;
+
+// The bytes of a delivery: kind, message number, member.
+const DELIVER_BYTES: usize = 12;
+
+// N, the event count, and where the events begin.
+pub struct ListHead {
+    pub members: u32,
+    pub count: u32,
+    pub begin: usize,
+}
 
 // An event by value.
-pub enum Event {
+pub enum PlayEvent {
     Start {
         member: Member,
         round: Round,
@@ -20,49 +41,73 @@ pub enum Event {
     },
 }
 
-// How many bytes the event at the front takes: 20 or 12, or 0 where no event stands there.
-pub fn event_size(rest: &[u8]) -> usize
+// An event, and how many bytes it takes.
+pub struct EventRead {
+    pub event: PlayEvent,
+    pub size: usize,
+}
+
+// The head of a list.
+pub fn read_head(list: &[u8]) -> ListHead
+    requires { ⌜ HEAD-BYTES ≤ length (now list) ⌝ }
+    ensures { λ h. ⌜ h ≡ head-of (now (list .entry)) ⌝ }
+{
+    ListHead {
+        members: xdr::word_at(list, 0),
+        count: xdr::word_at(list, 4),
+        begin: HEAD_BYTES,
+    }
+}
+
+// How many bytes the event at the front takes; 0 where there is none.
+fn event_size(rest: &[u8]) -> usize
     ensures { λ n. ⌜ n ≡ event-size (now (rest .entry)) ⌝ }
 {
-    if rest.len() < 12 {
+    if rest.len() < DELIVER_BYTES {
         return 0;
     }
     let kind = xdr::word_at(rest, 0);
-    if kind == 2 {
-        return 12;
+    if kind == EVENT_DELIVER {
+        return DELIVER_BYTES;
     }
-    if kind == 1 {
-        if 20 <= rest.len() {
-            return 20;
+    if kind == EVENT_START {
+        if START_BYTES <= rest.len() {
+            return START_BYTES;
         }
     }
     0
 }
 
 // The event at the front.
-pub fn read_event(rest: &[u8]) -> Event
+pub fn read_event(rest: &[u8]) -> EventRead
     requires { ⌜ (event-size (now rest) ≡ 0 → ⊥) ⌝ }
-    ensures { λ e. ⌜ model-event e ≡ event-at (now (rest .entry)) ⌝ }
+    ensures { λ r. ⌜ ReadsEvent (now (rest .entry)) r ⌝ }
 {
-    if xdr::word_at(rest, 0) == 1 {
-        return Event::Start {
-            member: Member(xdr::word_at(rest, 4)),
-            round: Round(xdr::word_at(rest, 8)),
-            offer: xdr::hyper_at(rest, 12),
+    if xdr::word_at(rest, 0) == EVENT_START {
+        return EventRead {
+            event: PlayEvent::Start {
+                member: Member(xdr::word_at(rest, 4)),
+                round: Round(xdr::word_at(rest, 8)),
+                offer: xdr::hyper_at(rest, 12),
+            },
+            size: START_BYTES,
         };
     }
-    Event::Deliver {
-        message: xdr::word_at(rest, 4),
-        member: Member(xdr::word_at(rest, 8)),
+    EventRead {
+        event: PlayEvent::Deliver {
+            message: xdr::word_at(rest, 4),
+            member: Member(xdr::word_at(rest, 8)),
+        },
+        size: DELIVER_BYTES,
     }
 }
 
-// Whether `count` events fill the list from byte 8 to its end exactly.
+// Whether `count` events fill the list behind its head exactly.
 fn events_fill(list: &[u8], count: u32) -> bool
-    requires { ⌜ 8 ≤ length (now list) ⌝ }
+    requires { ⌜ HEAD-BYTES ≤ length (now list) ⌝ }
     ensures { λ b. ⌜ b ≡ exact count (body (now (list .entry))) ⌝ }
 {
-    let mut at: usize = 8;
+    let mut at: usize = HEAD_BYTES;
     let mut k: u32 = 0;
     while k < count {
         let n = event_size(&list[at..]);
@@ -79,10 +124,10 @@ fn events_fill(list: &[u8], count: u32) -> bool
 pub fn fits(list: &[u8]) -> bool
     ensures { λ b. ⌜ b ≡ list-fits (now (list .entry)) ⌝ }
 {
-    if list.len() < 8 {
+    if list.len() < HEAD_BYTES {
         return false;
     }
-    let count = xdr::word_at(list, 4);
+    let count = read_head(list).count;
     if 1000 < count {
         return false;
     }

@@ -1,31 +1,43 @@
 -- What becomes of a step, for each answer of a member: the number, and the memory after it. Assumes nothing.
 use mathlib.Core.Path.{_≡_, refl, sym, ap, subst, _∙_}
 use mathlib.Core.Bool.{true}
-use mathlib.Core.List.{List, [], _∷_, _++_, append-nil}
-use Prim.Native.Nat.{ℕ, _+_, _/_, _≤_, _<_}
+use mathlib.Core.List.{List, [], _∷_, _++_, append-nil, List·Memᴰ·head as here}
+use Prim.Native.Nat.{ℕ, _+_, _≤_, _<_}
 use native.Mathlib.Omega.{arith}
 use native.Mathlib.Nat.{add-zero}
 use borrow.Author.Tests.{leb-true, leb-false}
 use Rattle.laws.specs.Tests.{by-test}
-use lib.ListN.{length, set}
+use Rattle.laws.specs.Lists.{_∈_}
+use lib.ListN.{length}
+use Rattle.numbers.specs.Numbers.{TABLE-FULL, STORE-FULL}
+use Rattle.ids.specs.declared.Round.{Round}
 use Rattle.tree_theory.specs.Machine.{Call, add, commit, step}
 use Rattle.tree_theory.specs.Table.{rows, table}
 use Rattle.message.specs.declared.Message.{Message}
 use Rattle.member_record.specs.declared.MemberState.{MemberState}
-use Rattle.member.specs.Table.{Outcome, refused, sends, silent, proposal, decision}
-use Rattle.model.specs.Model.{Sizes, Event, sends-one, answer, proposals}
-use Rattle.model.specs.Model.{Office as ModelOffice}
+use Rattle.member.specs.declared.Answer.{Answer}
+use Rattle.member.specs.declared.Answer.the-variants.{Sent, Proposed}
+use Rattle.member.specs.declared.Step.{Step}
+use Rattle.member.specs.Answers.{answer-outcome}
+use Rattle.member.specs.Answers.{outcome as step-outcome}
+use Rattle.member.specs.Kept.{Kept}
+use Rattle.member.specs.Table.{Outcome, refused, sends, silent, nothing, proposal, decision}
+use Rattle.member.proofs.Keeping.{step-kept}
+use Rattle.model.specs.Model.{Sizes, Event, Office, at-member, event-of, member-at, sends-one, outcome, proposals, taken}
 use Rattle.model.specs.Counts.{tree, decisions}
+use Rattle.model.proofs.Kept.{step-is-sound, event-fits}
 use Rattle.model.proofs.Tree.{tree-nothing, tree-proposal, tree-decision}
-use Rattle.play_store.specs.Rows.{stored, put-row}
+use Rattle.play_store.specs.Rows.{store-rows, stored, put-row}
 use Rattle.play_store.proofs.Stored.{put-stored}
 use Rattle.tree.specs.Promises.{stepped-table}
+use Rattle.play_effects.specs.declared.AfterEvent.{AfterEvent}
 use Rattle.play_effects.specs.declared.Tally.{Tally}
-use Rattle.play_effects.specs.declared.Worked.{Worked}
-use Rattle.play_effects.specs.Effects.{counted, left, gone, store-full, table-full, Sends, Proposes, Decides}
-use Rattle.play_office.specs.Standing.{Lent, Reached, Stands, Next, Took, Held, office-of}
-use Rattle.play_office.proofs.Settling.{placed, stays, unchanged, as-worked, refused-step, no-store-row, no-row, sent-one, proposed-one, silent-one, goes-on}
-use Rattle.play_office.proofs.Memory.{nodes-held}
+use Rattle.play_effects.specs.Memory.{Memory, in-memory}
+use Rattle.play_effects.specs.Effects.{counted, refused-event, accepted-event, no-room-to-send, no-room-to-propose, SendEffect, ProposalEffect, DecisionEffect}
+use Rattle.play_office.specs.Represents.{RecordAt, StepBefore, StepAfter, ModelStep, OutcomeBefore}
+use Rattle.play_office.proofs.Before.{nodes-held}
+use Rattle.play_office.proofs.Settling.{refused-step, no-store-row, no-table-row, sent-one, proposed-one, silent-one}
+use Rattle.play_office.proofs.Settling.{as-result, refused-after, accepted-after}
 
 -- what a step that proposes, or decides, comes to
 abbrev pub proposing : MemberState → Message → ℕ → ℕ → ℕ → Outcome
@@ -34,115 +46,141 @@ proposing m g r x b = record { number = 0; state = m; sent = g ∷ []; named = p
 abbrev pub deciding : MemberState → ℕ → ℕ → Outcome
 deciding m r x = record { number = 0; state = m; sent = []; named = decision r x }
 
-module _ (z : Sizes) (o : ModelOffice) (e : Event) (t : Tally) (ms : List MemberState) (i : ℕ) (was : MemberState) (H : Held ms i was) (store ws : List ℕ) (L : Lent z store ws) (R : Reached z o)
-    (S : Stands z o (office-of t ms) store ws) where
-  -- a refusal leaves the record
-  stays-put : (number : ℕ) → answer z o e ≡ number → (number ≡ 0 → ⊥) → Next z o e (office-of t (set ms i was)) number store ws
-  stays-put number a n = unchanged z o e t ms i was number store ws H (stays z o e (office-of t ms) number store ws S a n)
+-- the step taken, by its answer
+pub by-answer : {z : Sizes} {o : Office} {e : Event} {i : ℕ} (s : Step) {b : Answer} → s .answer ≡ b →
+    ModelStep z o e i (step-outcome s) → ModelStep z o e i (answer-outcome (s .state) b)
+by-answer {z} {o} {e} {i} s q T = subst (λ b. ModelStep z o e i (answer-outcome (s .state) b)) q T
 
-  pub refuses : (n : ℕ) (m : MemberState) → Took z o e i (refused n m) → (n ≡ 0 → ⊥) → Next z o e (office-of t (set ms i was)) n store ws
-  refuses n m T h = stays-put n (refused-step z o e i (refused n m) T h) h
+-- what a step sends is within its ranges, and its number is a byte
+pub step-keeps : {t : Tally} {m : MemberState} {u : Outcome} {M : Memory} → OutcomeBefore t m u M → Kept u
+step-keeps F =
+    let z = F .before .z in
+    let o = F .before .o in
+    let K = F .before .sound in
+    let T = F .step in
+    let k = at-member (F .e) in
+    let was = K .each k (T .member) in
+    let same = T .equals ∙ step-is-sound z o (K .ranged) (F .e) (was .is-sound) (T .there) in
+    rw same (step-kept (member-at z o k) (event-of o (F .e)) (was .seven) (was .is-sound) (event-fits z o (K .ranged) (F .e) (T .there)))
 
-  nothing-more : (a b c : ℕ) {l : List MemberState} →
-      office-of (record { n = t .n; sent = a + 0; proposals = b + 0; decisions = c + 0 }) l ≡ office-of (record { n = t .n; sent = a; proposals = b; decisions = c }) l
-  nothing-more a b c = rw (add-zero a, add-zero b, add-zero c) refl
+-- the message of an answer that sends one
+pub answers-sent : (m : MemberState) {a : Answer} {g : Message} → a ≡ Sent g → g ∈ answer-outcome m a .sent
+answers-sent m {a} {g} q = subst (λ b. g ∈ answer-outcome m b .sent) (sym q) (here refl)
 
-  -- nothing is sent and nothing is named
-  pub goes-silent : (m : MemberState) → Took z o e i (silent m) → Next z o e (office-of t (set ms i m)) 0 store ws
-  unfolding proposals decisions
-  goes-silent m T =
-      subst (λ k. Next z o e k 0 store ws) (nothing-more (t .sent) (t .proposals) (t .decisions))
-      (goes-on z o e i (silent m) T (office-of t ms) store ws store ws 0 0 0 S (silent-one z o e i (silent m) T refl refl refl) refl refl refl
-      (S .messages ∙ ap (stored (length store)) (sym (append-nil (o .sent))))
-      (S .nodes-are ∙ ap (table (length ws)) (sym (tree-nothing z o e (ap (λ (u : Outcome). u .named) (sym (T .equals)))))))
+pub answers-proposed : (m : MemberState) {a : Answer} {g : Message} {r : Round} {x : ℕ} {b : Round} → a ≡ Proposed g r x b → g ∈ answer-outcome m a .sent
+answers-proposed m {a} {g} q = subst (λ d. g ∈ answer-outcome m d .sent) (sym q) (here refl)
 
-  -- no row of the store is free
-  fills : (u : Outcome) → Took z o e i u → u .number ≡ 0 → sends-one (u .sent) ≡ true → length store / 28 ≤ t .sent → Next z o e (office-of t (set ms i was)) 30 store ws
-  fills u T n s h = stays-put 30 (no-store-row z o e i u T n s (omega (arith, L .store-rows, S .sent))) (λ q. omega arith)
+-- what the model's step names
+named-by : {z : Sizes} {o : Office} {e : Event} {i : ℕ} {u : Outcome} → ModelStep z o e i u → outcome z o e .named ≡ u .named
+named-by T = ap (λ (u : Outcome). u .named) (sym (T .equals))
 
-  free : t .sent < length store / 28 → length (o .sent) < z .store
-  free h = omega (arith, L .store-rows, S .sent)
+nothing-more : (t : Tally) → counted t 0 0 0 ≡ t
+nothing-more t = rw (add-zero (t .sent), add-zero (t .proposals), add-zero (t .decisions)) refl
 
-  put-behind : (g : Message) (store′ : List ℕ) → t .sent < length store / 28 →
-      store′ ≡ put-row store (t .sent) g → store′ ≡ stored (length store) (o .sent ++ g ∷ [])
-  put-behind g store′ h w = w ∙ put-stored store (o .sent) g (t .sent) (S .messages) (S .sent) (omega (arith, S .sent))
+module _ {t : Tally} {M : Memory} (B : StepBefore t M) where
+  -- the store as it was holds what was sent, if nothing is
+  same-messages : M .store ≡ stored (length (M .store)) (B .o .sent ++ [])
+  same-messages = B .represents .shared .messages ∙ ap (stored (length (M .store))) (sym (append-nil (B .o .sent)))
 
-  -- a message is sent and nothing is named
-  goes-sent : (m : MemberState) (g : Message) (store′ : List ℕ) → Took z o e i (sends m g) → t .sent < length store / 28 → length store′ ≡ length store →
-      store′ ≡ put-row store (t .sent) g → Next z o e (placed (office-of t ms) i m 1 0 0) 0 store′ ws
-  unfolding proposals decisions
-  goes-sent m g store′ T h l w =
-      goes-on z o e i (sends m g) T (office-of t ms) store ws store′ ws 1 0 0 S (sent-one z o e i (sends m g) T refl refl (free h) refl) refl refl refl
-      (put-behind g store′ h w ∙ ap (λ n. stored n (o .sent ++ g ∷ [])) (sym l))
-      (S .nodes-are ∙ ap (table (length ws)) (sym (tree-nothing z o e (ap (λ (u : Outcome). u .named) (sym (T .equals))))))
+  -- the table as it was holds the tree, if nothing is named
+  same-nodes : (e : Event) → outcome (B .z) (B .o) e .named ≡ nothing → M .table ≡ table (length (M .table)) (tree (B .z) (taken (B .z) (B .o) e))
+  same-nodes e q = B .represents .slot .nodes-are ∙ ap (table (length (M .table))) (sym (tree-nothing (B .z) (B .o) e q))
 
-  -- no row of the table is free
-  has-no-row : (m : MemberState) (g : Message) (r x b : ℕ) → Took z o e i (proposing m g r x b) → t .sent < length store / 28 → length ws / 4 ≤ t .proposals + 1 →
-      Next z o e (office-of t (set ms i was)) 9 store ws
-  has-no-row m g r x b T h f =
-      stays-put 9 (no-row z o e i (proposing m g r x b) T refl refl (free h) refl (omega (arith, L .table-rows, S .proposed))) (λ q. omega arith)
+  -- a row of the store is free
+  free : t .sent < store-rows (M .store) → length (B .o .sent) < B .z .store
+  free h = omega (arith, B .sizes .store-is, B .represents .shared .sent-count)
+
+  put-behind : (g : Message) (store′ : List ℕ) → t .sent < store-rows (M .store) → length store′ ≡ length (M .store) → store′ ≡ put-row (M .store) (t .sent) g →
+      store′ ≡ stored (length store′) (B .o .sent ++ g ∷ [])
+  put-behind g store′ h l w =
+      let S = B .represents .shared in
+      w ∙ put-stored (M .store) (B .o .sent) g (t .sent) (S .messages) (S .sent-count) (omega (arith, S .sent-count)) ∙
+      ap (λ n. stored n (B .o .sent ++ g ∷ [])) (sym l)
 
   -- the tree's step on the table is the machine's on the model's tree
-  stepped : (c : Call) (ws′ : List ℕ) → ws′ ≡ stepped-table true ws c → length ws′ ≡ length ws → ws′ ≡ table (length ws′) (step true (z .table) (tree z o) c)
+  stepped : (c : Call) (ws′ : List ℕ) → ws′ ≡ stepped-table true (M .table) c → length ws′ ≡ length (M .table) →
+      ws′ ≡ table (length ws′) (step true (B .z .table) (tree (B .z) (B .o)) c)
   stepped c ws′ q l =
-      q ∙ ap (λ ns. table (length ws) (step true (rows ws) ns c)) (nodes-held z o (office-of t ms) store ws L R S) ∙
-      ap (λ n. table (length ws) (step true n (tree z o) c)) (sym (L .table-rows)) ∙ ap (λ n. table n (step true (z .table) (tree z o) c)) (sym l)
+      let ns = tree (B .z) (B .o) in
+      q ∙ ap (λ ks. table (length (M .table)) (step true (rows (M .table)) ks c)) (nodes-held B) ∙
+      ap (λ n. table (length (M .table)) (step true n ns c)) (sym (B .sizes .table-is)) ∙ ap (λ n. table n (step true (B .z .table) ns c)) (sym l)
+
+module _ {t : Tally} {M : Memory} (B : StepBefore t M) {e : Event} {i : ℕ} where
+  -- nothing is sent and nothing is named
+  pub goes-silent : {m : MemberState} → ModelStep (B .z) (B .o) e i (silent m) → StepAfter B e i (accepted-event m t) M
+  unfolding proposals decisions
+  goes-silent {m} T =
+      subst (λ k. StepAfter B e i (accepted-event m k) M) (nothing-more t)
+      (accepted-after B M 0 0 0 T (silent-one T refl refl refl) refl refl refl (same-messages B) (same-nodes B e (named-by T)))
+
+  -- a message is sent and nothing is named
+  goes-sent : {m : MemberState} {g : Message} (store′ : List ℕ) → ModelStep (B .z) (B .o) e i (sends m g) → t .sent < store-rows (M .store) →
+      length store′ ≡ length (M .store) → store′ ≡ put-row (M .store) (t .sent) g →
+      StepAfter B e i (accepted-event m (counted t 1 0 0)) (in-memory store′ (M .table))
+  unfolding proposals decisions
+  goes-sent {m} {g} store′ T h l w =
+      accepted-after B (in-memory store′ (M .table)) 1 0 0 T (sent-one T refl refl (free B h) refl) refl refl refl (put-behind B g store′ h l w)
+      (same-nodes B e (named-by T))
 
   -- the proposal is sent and added
-  goes-proposed : (m : MemberState) (g : Message) (r x b : ℕ) (store′ ws′ : List ℕ) → Took z o e i (proposing m g r x b) → t .sent < length store / 28 →
-      t .proposals + 1 < length ws / 4 → length store′ ≡ length store →
-      store′ ≡ put-row store (t .sent) g → length ws′ ≡ length ws →
-      ws′ ≡ stepped-table true ws (add r x b) → Next z o e (placed (office-of t ms) i m 1 1 0) 0 store′ ws′
+  goes-proposed : {m : MemberState} {g : Message} {r x b : ℕ} (M′ : Memory) → ModelStep (B .z) (B .o) e i (proposing m g r x b) →
+      t .sent < store-rows (M .store) → t .proposals + 1 < rows (M .table) → length (M′ .store) ≡ length (M .store) →
+      M′ .store ≡ put-row (M .store) (t .sent) g → length (M′ .table) ≡ length (M .table) → M′ .table ≡ stepped-table true (M .table) (add r x b) →
+      StepAfter B e i (accepted-event m (counted t 1 1 0)) M′
   unfolding proposals decisions
-  goes-proposed m g r x b store′ ws′ T h f l w l′ q =
-      goes-on z o e i (proposing m g r x b) T (office-of t ms) store ws store′ ws′ 1 1 0 S
-      (proposed-one z o e i (proposing m g r x b) T refl refl (free h) refl (omega (arith, L .table-rows, S .proposed))) refl refl refl
-      (put-behind g store′ h w ∙ ap (λ n. stored n (o .sent ++ g ∷ [])) (sym l))
-      (stepped (add r x b) ws′ q l′ ∙ ap (table (length ws′)) (sym (tree-proposal z o e r x b (ap (λ (u : Outcome). u .named) (sym (T .equals))))))
+  goes-proposed {m} {g} {r} {x} {b} M′ T h f l w l′ q =
+      accepted-after B M′ 1 1 0 T
+      (proposed-one T refl refl (free B h) refl (omega (arith, B .sizes .table-is, B .represents .slot .proposed))) refl refl refl
+      (put-behind B g (M′ .store) h l w)
+      (stepped B (add r x b) (M′ .table) q l′ ∙ ap (table (length (M′ .table))) (sym (tree-proposal (B .z) (B .o) e r x b (named-by T))))
 
   -- the decision is committed
-  goes-decided : (m : MemberState) (r x : ℕ) (ws′ : List ℕ) → Took z o e i (deciding m r x) → length ws′ ≡ length ws → ws′ ≡ stepped-table true ws (commit r) →
-      Next z o e (placed (office-of t ms) i m 0 0 1) 0 store ws′
+  pub decides-go : {m : MemberState} {r x : ℕ} {w : AfterEvent} {ws′ : List ℕ} → ModelStep (B .z) (B .o) e i (deciding m r x) →
+      DecisionEffect t m (commit r) (M .table) w ws′ → length ws′ ≡ length (M .table) → StepAfter B e i w (in-memory (M .store) ws′)
   unfolding proposals decisions
-  goes-decided m r x ws′ T l q =
-      goes-on z o e i (deciding m r x) T (office-of t ms) store ws store ws′ 0 0 1 S (silent-one z o e i (deciding m r x) T refl refl refl) refl refl refl
-      (S .messages ∙ ap (stored (length store)) (sym (append-nil (o .sent))))
-      (stepped (commit r) ws′ q l ∙ ap (table (length ws′)) (sym (tree-decision z o e r x (ap (λ (u : Outcome). u .named) (sym (T .equals))))))
+  decides-go {m} {r} {x} {w} {ws′} T P l =
+      as-result B w (P .result-is)
+      (accepted-after B (in-memory (M .store) ws′) 0 0 1 T (silent-one T refl refl refl) refl refl refl (same-messages B)
+      (stepped B (commit r) ws′ (P .table-is) l ∙ ap (table (length ws′)) (sym (tree-decision (B .z) (B .o) e r x (named-by T)))))
 
-  -- what is handed back, by each effect of a step
-  pub sends-go : (m : MemberState) (g : Message) (w : Worked) (store′ : List ℕ) → Took z o e i (sends m g) → Sends t was m g store w store′ → length store′ ≡ length store →
-      Next z o e (office-of (w .tally) (set ms i (w .state))) (w .number) store′ ws
-  sends-go m g w store′ T P l =
-      by-test (store-full t store)
-      (λ f.
-      let u : w ≡ left was t 30 = rw f at (P .worked) in
-      let s : store′ ≡ store = rw f at (P .store-is) in
-      rw s (as-worked z o e ms i store ws w u (fills (sends m g) T refl refl (leb-true _ _ f))))
-      (λ f.
-      let u : w ≡ gone m (counted t 1 0 0) = rw f at (P .worked) in
-      as-worked z o e ms i store′ ws w u (goes-sent m g store′ T (leb-false _ _ f) l (rw f at (P .store-is))))
+  module _ {was : MemberState} (H : RecordAt (B .members) i was) where
+    -- a refusal leaves the record
+    pub refuses : {n : ℕ} {m : MemberState} → ModelStep (B .z) (B .o) e i (refused n m) → (n ≡ 0 → ⊥) → n < 256 → StepAfter B e i (refused-event was t n) M
+    refuses T h small = refused-after B H (refused-step T h) h small
 
-  pub proposes-go : (m : MemberState) (g : Message) (r x b : ℕ) (w : Worked) (store′ ws′ : List ℕ) → Took z o e i (proposing m g r x b) →
-      Proposes t was m g (add r x b) store ws w store′ ws′ → length store′ ≡ length store → length ws′ ≡ length ws →
-      Next z o e (office-of (w .tally) (set ms i (w .state))) (w .number) store′ ws′
-  proposes-go m g r x b w store′ ws′ T P l l′ =
-      by-test (store-full t store)
-      (λ f.
-      let u : w ≡ left was t 30 = rw f at (P .worked) in
-      let s : store′ ≡ store = rw f at (P .store-is) in
-      let v : ws′ ≡ ws = rw f at (P .table-is) in
-      rw (s, v) (as-worked z o e ms i store ws w u (fills (proposing m g r x b) T refl refl (leb-true _ _ f))))
-      (λ f. by-test (table-full t ws)
-      (λ h.
-      let u : w ≡ left was t 9 = rw (f, h) at (P .worked) in
-      let s : store′ ≡ store = rw (f, h) at (P .store-is) in
-      let v : ws′ ≡ ws = rw (f, h) at (P .table-is) in
-      rw (s, v) (as-worked z o e ms i store ws w u (has-no-row m g r x b T (leb-false _ _ f) (leb-true _ _ h))))
-      (λ h.
-      let u : w ≡ gone m (counted t 1 1 0) = rw (f, h) at (P .worked) in
-      as-worked z o e ms i store′ ws′ w u
-      (goes-proposed m g r x b store′ ws′ T (leb-false _ _ f) (leb-false _ _ h) l (rw (f, h) at (P .store-is)) l′ (rw (f, h) at (P .table-is)))))
+    -- no row of the store is free
+    fills : {u : Outcome} → ModelStep (B .z) (B .o) e i u → u .number ≡ 0 → sends-one (u .sent) ≡ true → store-rows (M .store) ≤ t .sent →
+        StepAfter B e i (refused-event was t STORE-FULL) M
+    fills T n s h =
+        refused-after B H (no-store-row T n s (omega (arith, B .sizes .store-is, B .represents .shared .sent-count))) (λ q. omega arith) (omega arith)
 
-  pub decides-go : (m : MemberState) (r x : ℕ) (w : Worked) (ws′ : List ℕ) → Took z o e i (deciding m r x) → Decides t m (commit r) ws w ws′ → length ws′ ≡ length ws →
-      Next z o e (office-of (w .tally) (set ms i (w .state))) (w .number) store ws′
-  decides-go m r x w ws′ T P l = as-worked z o e ms i store ws′ w (P .worked) (goes-decided m r x ws′ T l (P .table-is))
+    -- no row of the table is free
+    has-no-row : {m : MemberState} {g : Message} {r x b : ℕ} → ModelStep (B .z) (B .o) e i (proposing m g r x b) → t .sent < store-rows (M .store) →
+        rows (M .table) ≤ t .proposals + 1 → StepAfter B e i (refused-event was t TABLE-FULL) M
+    has-no-row T h f =
+        refused-after B H (no-table-row T refl refl (free B h) refl (omega (arith, B .sizes .table-is, B .represents .slot .proposed)))
+        (λ q. omega arith) (omega arith)
+
+    pub sends-go : {m : MemberState} {g : Message} {w : AfterEvent} {store′ : List ℕ} → ModelStep (B .z) (B .o) e i (sends m g) →
+        SendEffect t was m g (M .store) w store′ → length store′ ≡ length (M .store) → StepAfter B e i w (in-memory store′ (M .table))
+    sends-go {m} {g} {w} {store′} T P l =
+        by-test (no-room-to-send t (M .store))
+        (λ f.
+        let s : store′ ≡ M .store = rw f at (P .store-is) in
+        rw s (as-result B w (rw f at (P .result-is)) (fills T refl refl (leb-true _ _ f))))
+        (λ f. as-result B w (rw f at (P .result-is)) (goes-sent store′ T (leb-false _ _ f) l (rw f at (P .store-is))))
+
+    pub proposes-go : {m : MemberState} {g : Message} {r x b : ℕ} {w : AfterEvent} {M′ : Memory} → ModelStep (B .z) (B .o) e i (proposing m g r x b) →
+        ProposalEffect t was m g (add r x b) M w M′ → length (M′ .store) ≡ length (M .store) → length (M′ .table) ≡ length (M .table) → StepAfter B e i w M′
+    proposes-go {m} {g} {r} {x} {b} {w} {M′} T P l l′ =
+        by-test (no-room-to-send t (M .store))
+        (λ f. left (rw f at (P .store-is)) (rw f at (P .table-is)) (rw f at (P .result-is)) (fills T refl refl (leb-true _ _ f)))
+        (λ f. by-test (no-room-to-propose t (M .table))
+        (λ h. left (rw (f, h) at (P .store-is)) (rw (f, h) at (P .table-is)) (rw (f, h) at (P .result-is)) (has-no-row T (leb-false _ _ f) (leb-true _ _ h)))
+        (λ h.
+        as-result B w (rw (f, h) at (P .result-is))
+        (goes-proposed M′ T (leb-false _ _ f) (leb-false _ _ h) l (rw (f, h) at (P .store-is)) l′ (rw (f, h) at (P .table-is)))))
+      where
+        -- a refused proposal leaves the memory
+        left : {v : AfterEvent} → M′ .store ≡ M .store → M′ .table ≡ M .table → w ≡ v → StepAfter B e i v M → StepAfter B e i w M′
+        left s q v A = let same : M′ ≡ M = λ j. in-memory (s j) (q j) in rw same (as-result B w v A)

@@ -1,6 +1,5 @@
--- Laws for what becomes of a step.
+-- What holds before a step of an event, and what becomes of it.
+pub mod Before
 pub mod Settling
-pub mod Memory
 pub mod Arms
-pub mod Facing
 pub mod Working

@@ -1,12 +1,11 @@
 -- An event at a member of the office: its record is the model's, its message the one of that row, and its step the model's. Assumes nothing.
 use mathlib.Core.Path.{_≡_, refl, sym, ap, subst, _∙_}
-use mathlib.Core.Bool.{true, false, _||_}
-use mathlib.Core.List.{List}
-use Prim.Native.Nat.{ℕ, _+_, _*_, _≤_, _<_}
+use mathlib.Core.Bool.{true, false}
+use Prim.Native.Nat.{ℕ, _≤_, _<_}
 use native.Mathlib.Omega.{arith}
-use lib.ListN.{length, getD, set}
-use lib.Dec.{leb}
+use lib.ListN.{length, getD}
 use borrow.Author.Tests.{le-leb, lt-leb, lt-ltb}
+use Rattle.numbers.specs.Numbers.{NO-SUCH}
 use Rattle.message.specs.declared.Message.{Message}
 use Rattle.message.specs.Fields.{in-range}
 use Rattle.member_record.specs.declared.MemberState.{MemberState}
@@ -14,83 +13,96 @@ use Rattle.member.specs.declared.Step.{Step}
 use Rattle.member_record.specs.Record.{sound, round}
 use Rattle.member.specs.Answers.{outcome as step-outcome}
 use Rattle.member.specs.Kept.{Stepped}
-use Rattle.member.specs.Table.{sound-step}
+use Rattle.member.specs.Table.{Outcome, sound-step}
 use Rattle.member.specs.Table.{Event as MemberEvent, start as starts, deliver as delivers}
-use Rattle.model.specs.Model.{Sizes, Event, start, deliver, at-member, unsent, event-of, message-at, member-at, event-causes, answer}
-use Rattle.model.specs.Model.{Office as ModelOffice}
+use Rattle.model.specs.Model.{Event, start, deliver, at-member, unsent, absent, event-of, message-at, member-at, event-causes, answer}
 use Rattle.model.proofs.Kept.{step-is-sound, message-in}
-use Rattle.play_store.specs.Rows.{fetched}
+use Rattle.play_store.specs.Rows.{HasRow, fetched}
 use Rattle.play_store.proofs.Stored.{fetch-stored}
 use Rattle.play_effects.specs.declared.Tally.{Tally}
-use Rattle.play_office.specs.declared.Office.{Office}
-use Rattle.play_office.specs.Standing.{Held, Lent, Reached, Stands, Next, Took, office-of, place-of}
-use Rattle.play_office.proofs.Settling.{stays, unchanged}
-use Rattle.play_office.proofs.Memory.{kept, small, member-held}
-use Rattle.play_office.proofs.Facing.{allowed-seven}
+use Rattle.play_effects.specs.Memory.{Memory}
+use Rattle.play_effects.specs.Effects.{refused-event}
+use Rattle.play_office.specs.Represents.{StepAfter, EventBefore, ModelStep, OutcomeBefore, place-of}
+use Rattle.play_office.proofs.Before.{allowed-seven, member-held}
+use Rattle.play_office.proofs.Settling.{refused-after}
 
--- 29: no such member, or no such message
-pub absent-event : (z : Sizes) (o : ModelOffice) (e : Event) (k : Office) (store ws : List ℕ) → Stands z o k store ws →
-    (leb (z .n) (at-member e) || unsent o e) ≡ true → Next z o e k 29 store ws
-unfolding answer event-causes
-absent-event z o e k store ws S h = stays z o e k 29 store ws S (rw h refl) (λ q. omega arith)
+module _ {t : Tally} {m : MemberState} {e : Event} {M : Memory} (E : EventBefore t m e M) where
+  -- 29: no such member, or no such message
+  pub no-such : absent (E .before .z) (E .before .o) e ≡ true → StepAfter (E .before) e (place-of (at-member e)) (refused-event m t NO-SUCH) M
+  unfolding answer event-causes
+  no-such h = refused-after (E .before) (E .record-at) (rw h refl) (λ q. omega arith) (omega arith)
 
-module _ (z : Sizes) (o : ModelOffice) (t : Tally) (ms : List MemberState) (store ws : List ℕ) (L : Lent z store ws) (R : Reached z o) (S : Stands z o (office-of t ms) store ws) where
-  in-place : (k : ℕ) → k < t .n → place-of k ≡ k
-  in-place k h = rw (lt-ltb k 7 (omega (arith, S .size, allowed-seven (z .n) (L .allowed-size)))) refl
+  pub no-member : t .n ≤ at-member e → StepAfter (E .before) e (place-of (at-member e)) (refused-event m t NO-SUCH) M
+  no-member h = no-such (rw (le-leb (E .before .z .n) (at-member e) (omega (arith, E .before .represents .slot .size))) refl)
 
-  pub row-within : (row : ℕ) → row < t .sent → 28 * row + 28 ≤ length store
-  row-within row h = omega (arith, S .sent, kept z o (office-of t ms) store ws L R S .fits, L .store-rows)
+  module _ (h : at-member e < t .n) where
+    within : at-member e < E .before .z .n
+    within = omega (arith, E .before .represents .slot .size)
 
-  -- a row holds its message, within its ranges
-  row-reads : (row : ℕ) → row < t .sent → fetched store row ≡ message-at o row
-  row-reads row h =
-      fetch-stored store (o .sent) row _ (S .messages) (omega (arith, S .sent)) (kept z o (office-of t ms) store ws L R S .ranged) (small z o (office-of t ms) store ws L R S)
-
-  pub row-ranged : (row : ℕ) (g : Message) → row < t .sent → g ≡ fetched store row → in-range g ≡ true
-  row-ranged row g h e =
-      rw (e ∙ row-reads row h)
-      (kept z o (office-of t ms) store ws L R S .ranged (message-at o row) (message-in o row 0 (lt-leb (length (o .sent)) row (omega (arith, S .sent)))))
-
-  module _ (e : Event) (m : MemberState) (H : Held ms (place-of (at-member e)) m) where
-    absent : (leb (z .n) (at-member e) || unsent o e) ≡ true → Next z o e (office-of t (set ms (place-of (at-member e)) m)) 29 store ws
-    absent h = unchanged z o e t ms (place-of (at-member e)) m 29 store ws H (absent-event z o e (office-of t ms) store ws S h)
-
-    pub no-member : t .n ≤ at-member e → Next z o e (office-of t (set ms (place-of (at-member e)) m)) 29 store ws
-    no-member h = absent (rw (le-leb (z .n) (at-member e) (omega (arith, S .size))) refl)
+    in-place : place-of (at-member e) ≡ at-member e
+    in-place = rw (lt-ltb (at-member e) 7 (omega (arith, within, allowed-seven (E .before .z .n) (E .before .sizes .allowed-size)))) refl
 
     -- the record is the model's
-    record-held : at-member e < t .n → m ≡ member-at z o (at-member e)
-    record-held h =
-        sym (H .is m) ∙ ap (λ i. getD ms i m) (in-place (at-member e) h) ∙
-        member-held z o (office-of t ms) store ws L R S (at-member e) m (omega (arith, S .size))
+    record-held : m ≡ member-at (E .before .z) (E .before .o) (at-member e)
+    record-held =
+        sym (E .record-at .is m) ∙ ap (λ i. getD (E .before .members) i m) in-place ∙ member-held (E .before) (at-member e) m within
 
-    pub sound-member : at-member e < t .n → sound m ≡ true
-    sound-member h =
-        subst (λ r. sound r ≡ true) (sym (record-held h)) (kept z o (office-of t ms) store ws L R S .each (at-member e) (omega (arith, S .size)) .is-sound)
+    model-sound : sound (member-at (E .before .z) (E .before .o) (at-member e)) ≡ true
+    model-sound = E .before .sound .each (at-member e) within .is-sound
+
+    pub sound-member : sound m ≡ true
+    sound-member = subst (λ r. sound r ≡ true) (sym record-held) model-sound
 
     -- the member's step at an event of the model
-    took : (v : MemberEvent) (s : Step) → at-member e < t .n → unsent o e ≡ false → v ≡ event-of o e → Stepped m v s →
-        Took z o e (place-of (at-member e)) (step-outcome s)
-    took v s h u q P =
-        let within : at-member e < z .n = omega (arith, S .size) in
+    step-at : {v : MemberEvent} {s : Step} → unsent (E .before .o) e ≡ false → v ≡ event-of (E .before .o) e → Stepped m v s →
+        ModelStep (E .before .z) (E .before .o) e (place-of (at-member e)) (step-outcome s)
+    step-at {v} u q P =
+        let z = E .before .z in
+        let o = E .before .o in
         record {
-          at = in-place (at-member e) h;
+          at = in-place;
           member = within;
           there = u;
           equals =
-              P .equals ∙ ap (λ r. sound-step r v) (record-held h) ∙ ap (sound-step (member-at z o (at-member e))) q ∙
-              sym (step-is-sound z o (kept z o (office-of t ms) store ws L R S) e within u);
+              P .equals ∙ ap (λ r. sound-step r v) record-held ∙ ap (sound-step (member-at z o (at-member e))) q ∙
+              sym (step-is-sound z o (E .before .sound .ranged) e model-sound u);
         }
 
-  pub took-start : (k r x : ℕ) (m : MemberState) (s : Step) → Held ms (place-of k) m → k < t .n → Stepped m (starts (round r) x) s →
-      Took z o (start k r x) (place-of k) (step-outcome s)
-  took-start k r x m s H h P = took (start k r x) m H (starts (round r) x) s h refl refl P
+-- what a step taken at an event comes to, to be settled
+abbrev pub to-settle : {t : Tally} {m : MemberState} {e : Event} {M : Memory} {u : Outcome} (E : EventBefore t m e M) →
+    ModelStep (E .before .z) (E .before .o) e (place-of (at-member e)) u → OutcomeBefore t m u M
+to-settle {e = e} E T = record { before = E .before; i = place-of (at-member e); record-at = E .record-at; e = e; step = T }
 
-  module _ (row k : ℕ) (m : MemberState) (H : Held ms (place-of k) m) where
-    pub no-message : k < t .n → t .sent ≤ row → Next z o (deliver row k) (office-of t (set ms (place-of k) m)) 29 store ws
-    no-message a h = absent (deliver row k) m H (rw (lt-leb (z .n) k (omega (arith, S .size)), le-leb (length (o .sent)) row (omega (arith, S .sent))) refl)
+pub step-start : {t : Tally} {m : MemberState} {k r x : ℕ} {M : Memory} {s : Step} (E : EventBefore t m (start k r x) M) → k < t .n →
+    Stepped m (starts (round r) x) s → ModelStep (E .before .z) (E .before .o) (start k r x) (place-of k) (step-outcome s)
+step-start E h P = step-at E h refl refl P
 
-    pub took-deliver : (g : Message) (s : Step) → k < t .n → row < t .sent → g ≡ fetched store row → Stepped m (delivers g) s →
-        Took z o (deliver row k) (place-of k) (step-outcome s)
-    took-deliver g s a h e P =
-        took (deliver row k) m H (delivers g) s a (lt-leb (length (o .sent)) row (omega (arith, S .sent))) (ap delivers (e ∙ row-reads row h)) P
+module _ {t : Tally} {m : MemberState} {row k : ℕ} {M : Memory} (E : EventBefore t m (deliver row k) M) where
+  pub no-message : k < t .n → t .sent ≤ row → StepAfter (E .before) (deliver row k) (place-of k) (refused-event m t NO-SUCH) M
+  no-message a h =
+      let R = E .before .represents in
+      let member = lt-leb (E .before .z .n) k (omega (arith, R .slot .size)) in
+      no-such E (rw (member, le-leb (length (E .before .o .sent)) row (omega (arith, R .shared .sent-count))) refl)
+
+  module _ (h : row < t .sent) where
+    pub row-within : HasRow (M .store) row
+    row-within = omega (arith, E .before .represents .shared .sent-count, E .before .sound .fits, E .before .sizes .store-is)
+
+    was-sent : row < length (E .before .o .sent)
+    was-sent = omega (arith, E .before .represents .shared .sent-count)
+
+    there : unsent (E .before .o) (deliver row k) ≡ false
+    there = lt-leb (length (E .before .o .sent)) row was-sent
+
+    -- a row holds its message, within its ranges
+    row-reads : fetched (M .store) row ≡ message-at (E .before .o) row
+    row-reads =
+        let K = E .before .sound in
+        fetch-stored (M .store) (E .before .o .sent) row _ (E .before .represents .shared .messages) was-sent (K .ranged) (K .readable)
+
+    pub row-ranged : {g : Message} → g ≡ fetched (M .store) row → in-range g ≡ true
+    row-ranged e = rw (e ∙ row-reads) (E .before .sound .ranged (message-at (E .before .o) row) (message-in (E .before .o) row k there))
+
+    pub step-deliver : {g : Message} {s : Step} → k < t .n → g ≡ fetched (M .store) row → Stepped m (delivers g) s →
+        ModelStep (E .before .z) (E .before .o) (deliver row k) (place-of k) (step-outcome s)
+    step-deliver a e P = step-at E a there (ap delivers (e ∙ row-reads)) P

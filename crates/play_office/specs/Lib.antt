@@ -1,2 +1,2 @@
--- How an office by value, the store and the table stand for the model.
-pub mod Standing
+-- How an office by value, the store and the table represent the model.
+pub mod Represents

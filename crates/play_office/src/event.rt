@@ -4,14 +4,15 @@ use crate::settle;
 use ids::Member;
 use ids::Round;
 use member_record::MemberState;
+use play_effects::AfterEvent;
 use play_effects::Tally;
-use play_effects::Worked;
-use play_effects::left;
-use play_events::Event;
+use play_effects::refused_event;
+use play_events::PlayEvent;
 ghost use mathlib.Core.Path.{_≡_};
 ghost use Rattle.model.specs.Model.{at-member, start, deliver};
 ghost use Rattle.play_events.specs.Value.{model-event};
-ghost use Rattle.play_office.specs.Standing.{Seated, Works, place-of};
+ghost use Rattle.play_effects.specs.Memory.{in-memory};
+ghost use Rattle.play_office.specs.Represents.{EventBefore, EventWorked, place-of};
 
 // The place of a member's record.
 fn place_of(member: Member) -> usize
@@ -23,17 +24,17 @@ fn place_of(member: Member) -> usize
     0
 }
 
-// The place of the record of an event's member. A number above 6 has none: its event is refused, and leaves the first as it is.
-pub fn place(e: Event) -> usize
+// The place of the record of an event's member. A number above 6 has none: its event takes the first, is refused, and puts it back.
+pub fn place(e: PlayEvent) -> usize
     ensures { λ i. ⌜ i ≡ place-of (at-member (model-event e)) ⌝ }
 {
     match e {
-        Event::Start {
+        PlayEvent::Start {
             member,
             round: _,
             offer: _,
         } => place_of(member),
-        Event::Deliver { message: _, member } => place_of(member),
+        PlayEvent::Deliver { message: _, member } => place_of(member),
     }
 }
 
@@ -46,12 +47,13 @@ fn work_start(
     offer: u64,
     messages: &mut [u8],
     nodes: &mut [u64],
-) -> Worked
-    requires { ⌜ Seated tally m (start (member .0) (round .0) offer) (now messages) (now nodes) ⌝ }
-    ensures { λ w. ⌜ Works tally m (start (member .0) (round .0) offer) (now (messages .entry)) (now (nodes .entry)) (w .state) (w .tally) (w .number) (now (messages .exit)) (now (nodes .exit)) ⌝ }
+) -> AfterEvent
+    requires { ⌜ EventBefore tally m (start (member .0) (round .0) offer) (in-memory (now messages) (now nodes)) ⌝ }
+    ensures { λ w. ⌜ EventWorked tally m (start (member .0) (round .0) offer) (in-memory (now (messages .entry)) (now (nodes .entry))) w
+        (in-memory (now (messages .exit)) (now (nodes .exit))) ⌝ }
 {
     if tally.n <= member.0 {
-        return left(m, tally, 29);
+        return refused_event(m, tally, numbers::NO_SUCH);
     }
     let s = member::start_sound(m, round, offer);
     settle(tally, m, s, messages, nodes)
@@ -65,16 +67,17 @@ fn work_deliver(
     member: Member,
     messages: &mut [u8],
     nodes: &mut [u64],
-) -> Worked
-    requires { ⌜ Seated tally m (deliver message (member .0)) (now messages) (now nodes) ⌝ }
-    ensures { λ w. ⌜ Works tally m (deliver message (member .0)) (now (messages .entry)) (now (nodes .entry)) (w .state) (w .tally) (w .number) (now (messages .exit)) (now (nodes .exit)) ⌝ }
+) -> AfterEvent
+    requires { ⌜ EventBefore tally m (deliver message (member .0)) (in-memory (now messages) (now nodes)) ⌝ }
+    ensures { λ w. ⌜ EventWorked tally m (deliver message (member .0)) (in-memory (now (messages .entry)) (now (nodes .entry))) w
+        (in-memory (now (messages .exit)) (now (nodes .exit))) ⌝ }
 {
     if tally.n <= member.0 {
-        return left(m, tally, 29);
+        return refused_event(m, tally, numbers::NO_SUCH);
     }
     let row = message as usize;
     if tally.sent <= row {
-        return left(m, tally, 29);
+        return refused_event(m, tally, numbers::NO_SUCH);
     }
     let g = play_store::fetch(messages, row);
     let s = member::deliver_sound(m, g);
@@ -85,20 +88,21 @@ fn work_deliver(
 pub fn work(
     tally: Tally,
     m: MemberState,
-    e: Event,
+    e: PlayEvent,
     messages: &mut [u8],
     nodes: &mut [u64],
-) -> Worked
-    requires { ⌜ Seated tally m (model-event e) (now messages) (now nodes) ⌝ }
-    ensures { λ w. ⌜ Works tally m (model-event e) (now (messages .entry)) (now (nodes .entry)) (w .state) (w .tally) (w .number) (now (messages .exit)) (now (nodes .exit)) ⌝ }
+) -> AfterEvent
+    requires { ⌜ EventBefore tally m (model-event e) (in-memory (now messages) (now nodes)) ⌝ }
+    ensures { λ w. ⌜ EventWorked tally m (model-event e) (in-memory (now (messages .entry)) (now (nodes .entry))) w
+        (in-memory (now (messages .exit)) (now (nodes .exit))) ⌝ }
 {
     match e {
-        Event::Start {
+        PlayEvent::Start {
             member,
             round,
             offer,
         } => work_start(tally, m, member, round, offer, messages, nodes),
-        Event::Deliver { message, member } => work_deliver(
+        PlayEvent::Deliver { message, member } => work_deliver(
             tally,
             m,
             message,

@@ -6,22 +6,23 @@ use member::Answer;
 use member::Step;
 use member_record::MemberState;
 use member_record::blank;
+use play_effects::AfterEvent;
 use play_effects::Tally;
-use play_effects::Worked;
 use play_effects::decide;
-use play_effects::left;
 use play_effects::propose;
+use play_effects::refused_event;
 use play_effects::send;
 ghost use mathlib.Core.Path.{_≡_};
 ghost use mathlib.Core.Bool.{true};
 ghost use Rattle.member_record.specs.Record.{fresh};
 ghost use Rattle.member.specs.Answers.{outcome, numbered-answer};
 ghost use Rattle.model.specs.Model.{member-number};
-ghost use Rattle.play_office.specs.Standing.{Faced, Settles, fresh-office};
+ghost use Rattle.play_effects.specs.Memory.{in-memory};
+ghost use Rattle.play_office.specs.Represents.{OutcomeBefore, OutcomeSettled, fresh-office};
 
-pub struct Office {
+pub struct PlayedOffice {
     pub tally: Tally,
-    // Members 0 to N-1, and records behind them that no event reaches.
+    // Members 0 to N-1. The records behind them stay: an event of a number from N on is refused, and what it took is put back.
     pub members: [MemberState; 7],
 }
 
@@ -33,7 +34,7 @@ fn fresh_member(k: u32, n: u32) -> MemberState
 }
 
 // Fresh members, nothing sent and nothing made.
-pub fn fresh_office(n: u32) -> Office
+pub fn fresh_office(n: u32) -> PlayedOffice
     ensures { λ k. ⌜ k ≡ fresh-office n ⌝ }
 {
     let members = [
@@ -45,7 +46,7 @@ pub fn fresh_office(n: u32) -> Office
         fresh_member(5, n),
         fresh_member(6, n),
     ];
-    Office {
+    PlayedOffice {
         tally: Tally {
             n,
             sent: 0,
@@ -63,18 +64,19 @@ pub fn settle(
     s: Step,
     messages: &mut [u8],
     nodes: &mut [u64],
-) -> Worked
-    requires { ⌜ Faced tally m (outcome s) (now messages) (now nodes) × (numbered-answer (s .answer) ≡ true) ⌝ }
-    ensures { λ w. ⌜ Settles tally m (outcome s) (now (messages .entry)) (now (nodes .entry)) (w .state) (w .tally) (w .number) (now (messages .exit)) (now (nodes .exit)) ⌝ }
+) -> AfterEvent
+    requires { ⌜ OutcomeBefore tally m (outcome s) (in-memory (now messages) (now nodes)) × (numbered-answer (s .answer) ≡ true) ⌝ }
+    ensures { λ w. ⌜ OutcomeSettled tally m (outcome s) (in-memory (now (messages .entry)) (now (nodes .entry))) w
+        (in-memory (now (messages .exit)) (now (nodes .exit))) ⌝ }
 {
     let state = s.state;
     let a = s.answer;
     match a {
-        Answer::Refused(k) => left(m, tally, k as u8),
-        Answer::Done => Worked {
+        Answer::Refused(k) => refused_event(m, tally, k),
+        Answer::Done => AfterEvent {
             state,
             tally,
-            number: 0,
+            number: numbers::OK,
         },
         Answer::Sent(g) => send(messages, tally, m, state, g),
         Answer::Proposed {

@@ -2,7 +2,6 @@
 // rows. Writes the answers, then each node's round, parent, value and status; of a refused list its number alone.
 use libc::STDIN_FILENO;
 use libc::STDOUT_FILENO;
-use play::answers::PlayAnswer;
 ghost use Prim.Native.Nat.{_+_, _*_, _≤_};
 ghost use lib.ListN.{length};
 
@@ -56,21 +55,14 @@ fn write_nodes(nodes: &[u64]) {
 // Plays the list and writes what came of it.
 fn rehearse(list: &[u8], messages: &mut [u8], nodes: &mut [u64], answered: &mut [u8]) {
     let a = play::play(list, messages, nodes, answered);
-    match a {
-        PlayAnswer::Refused(k) => {
-            write_number(play::answers::number(k) as u64);
-            end_line();
-        }
-        PlayAnswer::Played(_) => {
-            if 8 <= list.len() {
-                let count = xdr::word_at(list, 4) as usize;
-                if count <= answered.len() {
-                    write_answers(&answered[0..count]);
-                    write_nodes(nodes);
-                }
-            }
-        }
+    if a.number != numbers::OK {
+        write_number(a.number as u64);
+        end_line();
+        return;
     }
+    let count = play_events::read_head(list).count as usize;
+    write_answers(&answered[0..count]);
+    write_nodes(nodes);
 }
 
 // The longest list has 20,008 bytes; one byte more is read, so that a longer input is refused.

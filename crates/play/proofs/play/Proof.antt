@@ -1,98 +1,160 @@
 -- `play::play` meets its contract: each refusal in its order, then the events on a cleared store and a fresh table. Assumes nothing.
-use mathlib.Core.Path.{_≡_, sym, ap, subst, _∙_}
+use mathlib.Core.Path.{_≡_, sym, ap, _∙_}
 use mathlib.Core.Bool.{true}
 use Prim.Native.Nat.{_≤_}
 use native.Mathlib.Omega.{arith}
-use lib.ListN.{length, replicate}
+use lib.ListN.{length}
 use borrow.Author.Tests.{not-true, not-false}
 use denote.Ref.{now}
-use Rattle.tree_theory.specs.Table.{sized, fresh-number, fresh-table}
+use Rattle.tree_theory.specs.Table.{sized}
 use Rattle.member_record.specs.Record.{allowed}
+use Rattle.play_events.specs.declared.ListHead.{ListHead}
 use Rattle.play_events.specs.List.{members-of, count-of, list-fits}
 use Rattle.play_store.specs.Rows.{store-sized}
-use Rattle.play.specs.declared.answers.ListRefusal.the-variants.{TableLength}
-use Rattle.play.specs.Answers.{refusal-number, no-counts}
-use Rattle.play.specs.Promise.{Ready, Ran, Given}
+use Rattle.play.specs.Lent.{Lent, as-lent}
 use Rattle.play.proofs.Running.{list-parts}
-use Rattle.play.proofs.Giving.{not-exact, not-allowed, store-odd, answers-few, table-odd, ready, played, fresh-zero, fresh-refused}
+use Rattle.play.proofs.Giving.{PassedList, as-given, not-exact, not-allowed, store-odd, answers-few, table-odd, ready, given-taken, fresh-zero}
 use borrow.Author.Needs.{needs}
 use Rattle.play.proofs.play.Statement.{statement}
 use Rattle.play.proofs.play.Tie as tie
 
+-- the entry, from the first test; each test, from the next
+abbrev entry : tie.After-fits2 → tie.Start
+entry c = c .before .before .before .before .before
+
+abbrev first-test : tie.After-is-allowed → tie.Else1
+first-test c = c .before .before
+
+abbrev second-test : tie.After-has-store-length → tie.Else2
+second-test c = c .before .before
+
+abbrev fourth-test : tie.After-fresh → tie.Else4
+fourth-test c = c .before .before
+
+-- the table made fresh, from its number; the store cleared, from where the events are run; and that, from the end
+abbrev made-fresh : tie.After-slice-known4 → tie.After-fresh
+made-fresh c = c .before .before
+
+abbrev store-back : tie.After-run-arg3 → tie.After-slice-known5
+store-back c = c .before .before .before
+
+abbrev cleared : tie.After-run-arg3 → tie.After-clear
+cleared c = store-back c .before .before
+
+abbrev was-run : tie.After-slice-known8 → tie.After-run
+was-run c = c .before .before .before .before .before .before
+
+-- the entry from each test
+abbrev entry-2 : tie.After-is-allowed → tie.Start
+entry-2 c = entry (first-test c .before)
+
+abbrev entry-3 : tie.After-has-store-length → tie.Start
+entry-3 c = entry-2 (second-test c .before)
+
+abbrev entry-4 : tie.After-struct-known → tie.Start
+entry-4 c = entry-3 (c .before .before)
+
+abbrev entry-5 : tie.After-slice-known4 → tie.Start
+entry-5 c = entry-4 (fourth-test (made-fresh c) .before)
+
+abbrev lent : tie.Start → Lent
+lent s = as-lent (now (s .args .messages)) (now (s .args .nodes)) (now (s .args .answered))
+
+-- what each test left behind
+fitting : (c : tie.Else1) → list-fits (now (entry (c .before) .args .list)) ≡ true
+fitting c = sym (c .before .fits2 .ensures) ∙ not-false _ (c .if1 .left)
+
+members-read : (c : tie.After-is-allowed) → allowed (members-of (now (entry-2 c .args .list))) ≡ c .is-allowed .result
+members-read c = ap (λ (h : ListHead). allowed (h .members)) (sym (c .before .read-head .ensures)) ∙ sym (c .is-allowed .ensures)
+
+few-members : (c : tie.Else2) → allowed (members-of (now (entry-2 (c .before) .args .list))) ≡ true
+few-members c = members-read (c .before) ∙ not-false _ (c .if2 .left)
+
+whole-rows : (c : tie.Else3) → store-sized (now (entry-3 (c .before) .args .messages)) ≡ true
+whole-rows c = sym (c .before .has-store-length .ensures) ∙ not-false _ (c .if3 .left)
+
+count-read : (c : tie.After-read-head) → c .read-head .result .count ≡ count-of (now (entry (c .before .before) .args .list))
+count-read c = ap (λ (h : ListHead). h .count) (c .read-head .ensures)
+
+enough : (c : tie.Else4) → count-of (now (entry-4 (c .before) .args .list)) ≤ length (now (entry-4 (c .before) .args .answered))
+enough c = omega (arith, count-read (second-test (c .before .before .before) .before .before))
+
+right-length : (c : tie.Else5) → sized (now (entry-5 (c .before) .args .nodes)) ≡ true
+right-length c = fresh-zero _ (sym (made-fresh (c .before) .fresh .ensures .0) ∙ c .if5 .left)
+
+passed-list : (c : tie.Else5) → PassedList (now (entry-5 (c .before) .args .list)) (lent (entry-5 (c .before)))
+passed-list c =
+    let t4 = fourth-test (made-fresh (c .before)) in
+    let t3 = t4 .before .before in
+    let t2 = second-test (t3 .before) in
+    record {
+      fits = fitting (first-test (t2 .before));
+      members = few-members t2;
+      store-length = whole-rows t3;
+      room = enough t4;
+      table-length = right-length c;
+    }
+
 fits-requires : tie.Need-fits-requires
 fits-requires c κs = search needs
 
+refused-list-requires : tie.Need-refused-list-requires
+refused-list-requires c κs = search needs
+
 returns : tie.Need-returns
-returns c =
-    not-exact _ _ _ _ (sym (c .before .fits2 .ensures) ∙ not-true _ (c .if1 .taken))
+returns c = as-given _ (c .refused-list .ensures) (not-exact (sym (c .before .before .fits2 .ensures) ∙ not-true _ (c .before .if1 .taken)))
 
--- what each test left behind
-fitting : (c : tie.Else1) → list-fits (now (c .before .before .before .before .before .before .args .list)) ≡ true
-fitting c = sym (c .before .fits2 .ensures) ∙ not-false _ (c .if1 .left)
-
-few-members : (c : tie.Else2) → allowed (members-of (now (c .before .before .before .before .before .before .before .before .before .args .list))) ≡ true
-few-members c = ap allowed (sym (c .before .before .word-at .ensures)) ∙ sym (c .before .is-allowed .ensures) ∙ not-false _ (c .if2 .left)
-
-whole-rows : (c : tie.Else3) → store-sized (now (c .before .before .before .before .before .before .before .before .before .before .before .before .args .messages)) ≡ true
-whole-rows c = sym (c .before .has-store-length .ensures) ∙ not-false _ (c .if3 .left)
-
-enough : (c : tie.Else4) → count-of (now (c .before .before .before .before .before .before .before .before .before .before .before .before .before .before .args .list)) ≤ length (now (c .before .before .before .before .before .before .before .before .before .before .before .before .before .before .args .answered))
-enough c = omega (arith, c .before .word-at2 .ensures)
-
-right-length : (c : tie.Else5) → sized (now (c .before .before .before .before .before .before .before .before .before .before .before .before .before .before .before .before .before .before .before .args .nodes)) ≡ true
-right-length c = fresh-zero _ (sym (c .before .before .before .fresh .ensures .0) ∙ c .if5 .left)
-
-made-ready : (c : tie.Else5) →
-    let a = c .before .before .before .before .before .before .before .before .before .before .before .before .before .before .before .before .before .before .before .args in
-    Ready (now (a .list)) (replicate (length (now (a .messages))) 0) (fresh-table (now (a .nodes))) (now (a .answered))
-made-ready c =
-    let e4 = c .before .before .before .before .before in
-    let e3 = e4 .before .before in
-    let e2 = e3 .before .before .before in
-    let a = c .before .before .before .before .before .before .before .before .before .before .before .before .before .before .before .before .before .before .before .args in
-    ready (now (a .list)) (now (a .messages)) (now (a .nodes)) (now (a .answered)) (fitting (e2 .before .before .before)) (few-members e2) (whole-rows e3) (enough e4) (right-length c)
-
-word-at-requires : tie.Need-word-at-requires
-word-at-requires c κs =
-    let l = now (c .before .before .before .before .before .before .args .list) in omega (arith, list-parts l (fitting c) .0)
+read-head-requires : tie.Need-read-head-requires
+read-head-requires c κs = list-parts (fitting c) .head
 
 is-allowed-requires : tie.Need-is-allowed-requires
 is-allowed-requires c κs = search needs
 
+refused-list-requires-2 : tie.Need-refused-list-requires-2
+refused-list-requires-2 c κs = search needs
+
 returns-2 : tie.Need-returns-2
 returns-2 c =
-    not-allowed _ _ _ _ (fitting (c .before .before .before)) (ap allowed (sym (c .before .before .word-at .ensures)) ∙ sym (c .before .is-allowed .ensures) ∙ not-true _ (c .if2 .taken))
+    let test = c .before in
+    as-given _ (c .refused-list2 .ensures) (not-allowed (fitting (first-test (test .before))) (members-read (test .before) ∙ not-true _ (test .if2 .taken)))
 
 has-store-length-requires : tie.Need-has-store-length-requires
 has-store-length-requires c κs = search needs
+
+refused-list-requires-3 : tie.Need-refused-list-requires-3
+refused-list-requires-3 c κs = search needs
 
 same-length : tie.Need-same-length
 same-length c = search needs
 
 returns-3 : tie.Need-returns-3
 returns-3 c =
-    let e2 = c .before .before .before in
-    store-odd _ _ _ _ (fitting (e2 .before .before .before)) (few-members e2) (sym (c .before .has-store-length .ensures) ∙ not-true _ (c .if3 .taken))
-
-word-at-requires-2 : tie.Need-word-at-requires-2
-word-at-requires-2 c κs =
-    let l = now (c .before .before .before .before .before .before .before .before .before .before .before .before .args .list) in
-    omega (arith, list-parts l (fitting (c .before .before .before .before .before .before)) .0)
+    let test = c .before in
+    let t2 = second-test (test .before) in
+    as-given _ (c .refused-list3 .ensures)
+    (store-odd (fitting (first-test (t2 .before))) (few-members t2) (sym (test .before .has-store-length .ensures) ∙ not-true _ (test .if3 .taken)))
 
 cast-if4 : tie.Need-cast-if4
 cast-if4 c = search needs
+
+refused-list-requires-4 : tie.Need-refused-list-requires-4
+refused-list-requires-4 c κs = search needs
 
 same-length-2 : tie.Need-same-length-2
 same-length-2 c = search needs
 
 returns-4 : tie.Need-returns-4
 returns-4 c =
-    let e3 = c .before .before in
-    let e2 = e3 .before .before .before in
-    answers-few _ _ _ _ (fitting (e2 .before .before .before)) (few-members e2) (whole-rows e3) (omega (arith, c .before .word-at2 .ensures))
+    let t3 = c .before .before .before in
+    let t2 = second-test (t3 .before) in
+    as-given _ (c .refused-list4 .ensures)
+    (answers-few (fitting (first-test (t2 .before))) (few-members t2) (whole-rows t3) (omega (arith, count-read (t2 .before .before))))
 
 fresh-requires : tie.Need-fresh-requires
 fresh-requires c κs = search needs
+
+refused-list-requires-5 : tie.Need-refused-list-requires-5
+refused-list-requires-5 c κs = search needs
 
 same-length-3 : tie.Need-same-length-3
 same-length-3 c = search needs
@@ -102,25 +164,23 @@ same-length-4 c = search needs
 
 returns-5 : tie.Need-returns-5
 returns-5 c =
-    let f = c .before .before .before .fresh in
-    let e4 = c .before .before .before .before .before in
-    let e3 = e4 .before .before in
-    let e2 = e3 .before .before .before in
-    let a = c .before .before .before .before .before .before .before .before .before .before .before .before .before .before .before .before .before .before .before .args in
-    let nz : fresh-number (now (a .nodes)) ≡ 0 → ⊥ = λ q. c .if5 .taken (f .ensures .0 ∙ q) in
-    let odd = fresh-refused (now (a .nodes)) nz in
-    subst (λ w. Given (now (a .list)) (now (a .messages)) (now (a .nodes)) (now (a .answered)) (refusal-number TableLength) no-counts (now (a .messages)) w (now (a .answered))) (sym (f .ensures .1 ∙ odd .1))
-    (table-odd _ _ _ _ (fitting (e2 .before .before .before)) (few-members e2) (whole-rows e3) (enough e4) (odd .0))
+    let test = c .before in
+    let f = made-fresh (test .before) in
+    let t4 = fourth-test f in
+    let t3 = t4 .before .before in
+    let t2 = second-test (t3 .before) in
+    as-given _ (c .refused-list5 .ensures)
+    (table-odd (fitting (first-test (t2 .before))) (few-members t2) (whole-rows t3) (enough t4)
+    (λ q. test .if5 .taken (f .fresh .ensures .0 ∙ q)) (f .fresh .ensures .1))
 
 clear-requires : tie.Need-clear-requires
 clear-requires c κs = search needs
 
 run-requires : tie.Need-run-requires
 run-requires c κs =
-    let e5 = c .before .before .before .before .before .before .before in
-    let a = c .before .before .before .before .before .before .before .before .before .before .before .before .before .before .before .before .before .before .before .before .before .before .before .before .before .before .args in
-    subst (λ m. Ready (now (a .list)) m (c .before .before .before .before .before .before .before .before .before .before .fresh .last .0) (now (a .answered))) (sym (c .before .before .before .before .before .clear .ensures))
-    (subst (λ w. Ready (now (a .list)) (replicate (length (now (a .messages))) 0) w (now (a .answered))) (sym (c .before .before .before .before .before .before .before .before .before .before .fresh .ensures .1)) (made-ready e5))
+    let d = cleared c in
+    let t5 = d .before .before in
+    ready (passed-list t5) (d .clear .ensures) (made-fresh (t5 .before) .fresh .ensures .1)
 
 same-length-5 : tie.Need-same-length-5
 same-length-5 c = search needs
@@ -133,35 +193,32 @@ same-length-7 c = search needs
 
 returns-6 : tie.Need-returns-6
 returns-6 c =
-    let e5 = c .before .before .before .before .before .before .before .before .before .before .before .before .before .before in
-    let a = c .before .before .before .before .before .before .before .before .before .before .before .before .before .before .before .before .before .before .before .before .before .before .before .before .before .before .before .before .before .before .before .before .before .args in
-    let f = c .before .before .before .before .before .before .before .before .before .before .before .before .before .before .before .before .before .fresh in
-    let d = c .before .before .before .before .before .before .before .before .before .before .before .before .clear in
-    let r = c .before .before .before .before .before .before .run in
-    let e4 = e5 .before .before .before .before .before in
-    let e3 = e4 .before .before in
-    let e2 = e3 .before .before .before in
-    let W = subst (λ w. Ran (now (a .list)) (replicate (length (now (a .messages))) 0) w (now (a .answered)) (r .result) (r .last .1 .0) (r .last .1 .1 .0) (r .last .1 .1 .1 .0)) (f .ensures .1)
-    (subst (λ m. Ran (now (a .list)) m (f .last .0) (now (a .answered)) (r .result) (r .last .1 .0) (r .last .1 .1 .0) (r .last .1 .1 .1 .0)) (d .ensures) (r .ensures)) in
-    played (now (a .list)) (now (a .messages)) (now (a .nodes)) (now (a .answered)) (fitting (e2 .before .before .before)) (few-members e2) (whole-rows e3) (enough e4) (right-length e5) _ _ _ _ W
+    let r = was-run c in
+    let d = cleared (r .before) in
+    let t5 = d .before .before in
+    given-taken (passed-list t5) (d .clear .ensures) (made-fresh (t5 .before) .fresh .ensures .1) (r .run .ensures)
 
 pub play-spec : {M : Type 1} → statement M
 play-spec =
     tie.close
     (tie.spec
     fits-requires
+    refused-list-requires
     returns
-    word-at-requires
+    read-head-requires
     is-allowed-requires
+    refused-list-requires-2
     returns-2
     has-store-length-requires
+    refused-list-requires-3
     same-length
     returns-3
-    word-at-requires-2
     cast-if4
+    refused-list-requires-4
     same-length-2
     returns-4
     fresh-requires
+    refused-list-requires-5
     same-length-3
     same-length-4
     returns-5

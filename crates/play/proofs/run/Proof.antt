@@ -1,6 +1,6 @@
--- `play::run` meets its contract: after k turns the memory stands for the model after k events. Assumes nothing.
+-- `play::run` meets its contract: after k turns the memory represents the model after k events. Assumes nothing.
 use mathlib.Core.Path.{sym, ap, _∙_}
-use Prim.Native.Nat.{_-_}
+use Prim.Native.Nat.{_-_, _<_}
 use native.Mathlib.Omega.{arith}
 use borrow.Author.Needs.{needs}
 use denote.Ref.{now}
@@ -8,154 +8,169 @@ use Rattle.laws.specs.Parts.{to-end}
 use Rattle.play_events.specs.List.{event-size}
 use Rattle.play_events.specs.Value.{model-event}
 use Rattle.model.specs.Model.{at-member}
-use Rattle.play_office.specs.Standing.{fresh-office}
-use Rattle.play_office.proofs.Memory.{place-below}
-use Rattle.play.proofs.Running.{Running, list-parts, bytes-of, running-first, seated, due, at-next, counted-few, answer-room, running-next, counts-small, one-most, ran}
+use Rattle.play_office.proofs.Before.{place-below}
+use Rattle.play.specs.Lent.{as-lent}
+use Rattle.play.proofs.Running.{Running, list-parts, bytes-of, running-first, event-before, due, at-next, few-events}
+use Rattle.play.proofs.Running.{answer-room, answer-small, running-next, counts-small, one-most, ran}
 use Rattle.play.proofs.run.Statement.{statement}
 use Rattle.play.proofs.run.Tie as tie
 
 abbrev Inv-loop : tie.InvT-loop
 Inv-loop list messages₀ nodes₀ answered₀ count members₀ tally₀ accepted₀ at₀ k₀ messages nodes answered members tally accepted at k =
-    Running list messages₀ nodes₀ answered₀ count messages nodes answered members tally accepted at k
+    Running list (as-lent messages₀ nodes₀ answered₀) count (as-lent messages nodes answered) members tally accepted at k
 
 abbrev μ-loop : tie.MeasureT-loop
 μ-loop list messages₀ nodes₀ answered₀ count members₀ tally₀ accepted₀ at₀ k₀ messages nodes answered members tally accepted at k =
     count - k
 
-word-at-requires : tie.Need-word-at-requires Inv-loop μ-loop
-word-at-requires c κs =
-    omega (arith, list-parts (now (c .before .before .before .before .args .list)) (c .before .before .before .before .pre .fits) .0)
+-- the entry, from where the head is read; and that from where the loop begins
+abbrev entry : tie.After-read-head Inv-loop μ-loop → tie.After-shared-slice-known Inv-loop μ-loop
+entry c = c .before .before .before .before
+
+abbrev made-fresh : tie.After-tally Inv-loop μ-loop → tie.After-fresh-office Inv-loop μ-loop
+made-fresh c = c .before .before
+
+abbrev head : tie.After-tally Inv-loop μ-loop → tie.After-read-head Inv-loop μ-loop
+head c = made-fresh c .before .before
+
+-- a turn's start, from where its event is read; its place, from where it is worked; and these from where it is written down
+abbrev turn : tie.After-struct-known2 Inv-loop μ-loop → tie.In-loop Inv-loop μ-loop
+turn c = c .before .before .before
+
+abbrev placed : tie.After-work-arg2 Inv-loop μ-loop → tie.After-place Inv-loop μ-loop
+placed c = c .before .before .before
+
+abbrev worked : tie.After-state Inv-loop μ-loop → tie.After-work Inv-loop μ-loop
+worked c = c .before .before .before .before .before
+
+abbrev counted : tie.After-one-if-accepted Inv-loop μ-loop → tie.After-state Inv-loop μ-loop
+counted c = c .before .before .before
+
+-- the loop, from its end
+abbrev over : tie.After-struct-known6 Inv-loop μ-loop → tie.After-loop Inv-loop μ-loop
+over c = c .before .before .before
+
+read-head-requires : tie.Need-read-head-requires Inv-loop μ-loop
+read-head-requires c κs = list-parts (c .before .before .before .before .pre .fits) .head
 
 cast-count : tie.Need-cast-count Inv-loop μ-loop
-cast-count c =
-    search needs
-
-word-at-requires-2 : tie.Need-word-at-requires-2 Inv-loop μ-loop
-word-at-requires-2 c κs =
-    omega (arith, list-parts (now (c .before .before .before .before .before .args .list)) (c .before .before .before .before .before .pre .fits) .0)
+cast-count c = search needs
 
 fresh-office-requires : tie.Need-fresh-office-requires Inv-loop μ-loop
-fresh-office-requires c κs =
-    search needs
+fresh-office-requires c κs = search needs
 
 loop-holds : tie.Need-loop-holds Inv-loop μ-loop
 loop-holds c =
-    running-first (now (c .before .before .before .before .before .before .before .before .before .args .list)) (now (c .before .before .before .before .before .before .before .before .before .args .messages)) (now (c .before .before .before .before .before .before .before .before .before .args .nodes)) (now (c .before .before .before .before .before .before .before .before .before .args .answered)) (c .before .before .before .before .before .before .before .before .before .pre)
-    (bytes-of (now (c .before .before .before .before .before .before .before .before .before .args .list)) (λ i. omega (arith, c .before .before .before .before .before .before .before .before .shared-slice-known .given i)))
-    _ _ (c .before .before .before .before .word-at .ensures) (c .before .before .fresh-office .ensures ∙ ap fresh-office (c .before .before .before .word-at2 .ensures))
+    let s = entry (head c) in
+    running-first (s .before .pre) (bytes-of (now (s .before .args .list)) (λ i. omega (arith, s .shared-slice-known .given i)))
+    (head c .read-head .ensures) (made-fresh c .fresh-office .ensures)
 
 sub-read-event : tie.Need-sub-read-event Inv-loop μ-loop
-sub-read-event c =
-    omega (arith, c .before .loop .inv .at-within)
+sub-read-event c = omega (arith, c .before .loop .inv .at-within)
 
 part-read-event-start : tie.Need-part-read-event-start Inv-loop μ-loop
-part-read-event-start c =
-    omega (arith, c .before .loop .inv .at-within)
+part-read-event-start c = omega (arith, c .before .loop .inv .at-within)
 
 part-read-event-end : tie.Need-part-read-event-end Inv-loop μ-loop
-part-read-event-end c =
-    omega (arith, c .before .loop .inv .at-within)
+part-read-event-end c = omega (arith, c .before .loop .inv .at-within)
 
 read-event-requires : tie.Need-read-event-requires Inv-loop μ-loop
 read-event-requires c κs =
-    λ q. due _ _ _ _ _ _ _ _ _ _ _ _ _ (c .before .before .loop .inv) (c .before .loop-test .taken) .0 (ap event-size (sym (to-end (c .before .before .loop .at) _)) ∙ q)
-
-sub-event-size : tie.Need-sub-event-size Inv-loop μ-loop
-sub-event-size c =
-    omega arith
-
-part-event-size-start : tie.Need-part-event-size-start Inv-loop μ-loop
-part-event-size-start c =
-    omega arith
-
-part-event-size-end : tie.Need-part-event-size-end Inv-loop μ-loop
-part-event-size-end c =
-    omega arith
-
-event-size-requires : tie.Need-event-size-requires Inv-loop μ-loop
-event-size-requires c κs =
-    search needs
+    let t = c .before in
+    λ q. due (t .before .loop .inv) (t .loop-test .taken) .0 (ap event-size (sym (to-end (t .before .loop .at) _)) ∙ q)
 
 add-at : tie.Need-add-at Inv-loop μ-loop
 add-at c =
-    omega (arith, at-next _ _ _ _ _ _ _ _ _ _ _ _ _ (c .before .before .before .before .before .loop .inv) (c .before .before .before .before .loop-test .taken), c .event-size .ensures, ap event-size (to-end (c .before .before .before .before .before .loop .at) (now (c .before .before .before .before .before .before .before .before .before .before .before .before .before .before .before .args .list))), c .before .before .before .before .before .before .before .before .before .before .before .before .before .before .before .good .0 .0)
+    let t = turn c in
+    let l = t .before .loop in
+    let s = entry (head (t .before .before)) .before in
+    omega (
+      arith,
+      at-next (l .inv) (t .loop-test .taken),
+      c .before .read-event .ensures .size-is,
+      ap event-size (to-end (l .at) (now (s .args .list))),
+      s .good .0 .0,
+    )
 
 place-requires : tie.Need-place-requires Inv-loop μ-loop
-place-requires c κs =
-    search needs
+place-requires c κs = search needs
+
+-- the place lies in the array
+in-array : (c : tie.After-place Inv-loop μ-loop) → c .place .result < 7
+in-array c = omega (arith, place-below (at-member (model-event (c .before .before .read-event .result .event))), c .place .ensures)
 
 mul-m : tie.Need-mul-m Inv-loop μ-loop
-mul-m c =
-    omega (arith, place-below (at-member (model-event (c .before .before .before .read-event .result))), c .place .ensures)
+mul-m c = omega (arith, in-array c)
 
 array-copy-out-m : tie.Need-array-copy-out-m Inv-loop μ-loop
-array-copy-out-m c =
-    omega (arith, place-below (at-member (model-event (c .before .before .before .read-event .result))), c .place .ensures)
+array-copy-out-m c = omega (arith, in-array c)
 
 work-requires : tie.Need-work-requires Inv-loop μ-loop
-work-requires c κs =
-    seated _ _ _ _ _ _ _ _ _ _ _ _ _ (c .before .before .before .before .before .before .before .before .before .loop .inv) _ _ _ (c .before .before .before .place .ensures)
+work-requires c κs = event-before (turn (placed c .before) .before .loop .inv) _ _ _ (placed c .place .ensures)
 
 mul-members : tie.Need-mul-members Inv-loop μ-loop
-mul-members c =
-    omega (arith, place-below (at-member (model-event (c .before .before .before .before .before .before .before .before .before .before .before .before .read-event .result))), c .before .before .before .before .before .before .before .before .before .place .ensures)
+mul-members c = omega (arith, in-array (placed (worked c .before)))
 
 array-set-from-members : tie.Need-array-set-from-members Inv-loop μ-loop
-array-set-from-members c =
-    omega (arith, place-below (at-member (model-event (c .before .before .before .before .before .before .before .before .before .before .before .before .read-event .result))), c .before .before .before .before .before .before .before .before .before .place .ensures)
+array-set-from-members c = omega (arith, in-array (placed (worked c .before)))
+
+-- what the turn's event was worked on
+abbrev turn-of : tie.After-state Inv-loop μ-loop → tie.In-loop Inv-loop μ-loop
+turn-of c = turn (placed (worked c .before) .before)
+
+cast-answered : tie.Need-cast-answered Inv-loop μ-loop
+cast-answered c =
+    let w = worked (c .before .before) in
+    let small : w .work .result .number < 256 =
+    answer-small (turn-of (c .before .before) .before .loop .inv) (placed (w .before) .place .ensures) _ (w .work .ensures) in
+    omega arith
 
 slice-write-answered : tie.Need-slice-write-answered Inv-loop μ-loop
-slice-write-answered c =
-    answer-room _ _ _ _ _ _ _ _ _ _ _ _ _ (c .before .before .before .before .before .before .before .before .before .before .before .before .before .before .before .before .loop .inv) (c .before .before .before .before .before .before .before .before .before .before .before .before .before .before .before .loop-test .taken)
+slice-write-answered c = let t = turn-of (c .before .before) in answer-room (t .before .loop .inv) (t .loop-test .taken)
 
 one-if-accepted-requires : tie.Need-one-if-accepted-requires Inv-loop μ-loop
-one-if-accepted-requires c κs =
-    search needs
+one-if-accepted-requires c κs = search needs
 
 add-accepted : tie.Need-add-accepted Inv-loop μ-loop
 add-accepted c =
-    omega (arith, counted-few _ _ _ _ _ _ _ _ _ _ _ (c .before .before .before .before .before .before .before .before .before .before .before .before .before .before .before .before .before .loop .at) (c .before .before .before .before .before .before .before .before .before .before .before .before .before .before .before .before .before .loop .k) (c .before .before .before .before .before .before .before .before .before .before .before .before .before .before .before .before .before .loop .inv), c .one-if-accepted .ensures, one-most (c .before .before .before .before .before .before .before .work .result .number))
+    let t = turn-of (counted c) in
+    let G = t .before .loop .inv in
+    omega (arith, few-events G, G .few, G .within, c .one-if-accepted .ensures, one-most (worked (counted c) .work .result .number))
 
 add-k : tie.Need-add-k Inv-loop μ-loop
-add-k c =
-    omega (arith, list-parts (now (c .before .before .before .before .before .before .before .before .before .before .before .before .before .before .before .before .before .before .before .before .before .before .before .before .before .before .before .args .list)) (c .before .before .before .before .before .before .before .before .before .before .before .before .before .before .before .before .before .before .before .before .before .before .before .before .before .before .before .pre .fits) .1, c .before .before .before .before .before .before .before .before .before .before .before .before .before .before .before .before .before .loop .inv .count-is, c .before .before .before .before .before .before .before .before .before .before .before .before .before .before .before .before .loop-test .taken)
+add-k c = let t = turn-of (counted c) in omega (arith, few-events (t .before .loop .inv), t .loop-test .taken)
 
 loop-less : tie.Need-loop-less Inv-loop μ-loop
-loop-less c =
-    omega arith
+loop-less c = omega (arith, turn-of (counted c) .loop-test .taken)
 
 loop-again : tie.Need-loop-again Inv-loop μ-loop
 loop-again c =
-    running-next _ _ _ _ _ _ _ _ _ _ _ _ _ (c .before .before .before .before .before .before .before .before .before .before .before .before .before .before .before .before .before .loop .inv) (c .before .before .before .before .before .before .before .before .before .before .before .before .before .before .before .before .loop-test .taken) _ (to-end (c .before .before .before .before .before .before .before .before .before .before .before .before .before .before .before .before .before .loop .at) _) _ (c .before .before .before .before .before .before .before .before .before .before .before .before .before .before .read-event .ensures) _ (c .before .before .before .before .before .before .before .before .before .before .before .place .ensures) _ _ _ _ _ _ _ _ (c .one-if-accepted .ensures) (c .before .before .before .before .before .before .before .before .before .before .before .before .event-size .ensures)
-    (c .before .before .before .before .before .before .before .work .kept .1 .1 .1 .0) (c .before .before .before .before .before .before .before .work .kept .1 .1 .1 .1 .0) (c .before .before .before .before .before .before .before .work .ensures)
+    let t = turn-of (counted c) in
+    let w = worked (counted c) in
+    let p = placed (w .before) in
+    running-next (t .before .loop .inv) (t .loop-test .taken) (to-end (t .before .loop .at) _) (p .before .before .read-event .ensures) (p .place .ensures) _
+    (c .one-if-accepted .ensures) (w .work .kept .1 .1 .1 .0) (w .work .kept .1 .1 .1 .1 .0) (w .work .ensures)
 
-cast-t17 : tie.Need-cast-t17 Inv-loop μ-loop
-cast-t17 c =
-    omega (arith, counts-small _ _ _ _ _ (c .before .before .loop .messages) (c .before .before .loop .nodes) (c .before .before .loop .answered) (c .before .before .loop .members) (c .before .before .loop .tally) (c .before .before .loop .accepted) (c .before .before .loop .at) (c .before .before .loop .k) (c .before .before .loop .inv) .0)
+cast-t36 : tie.Need-cast-t36 Inv-loop μ-loop
+cast-t36 c = omega (arith, counts-small (c .before .before .loop .inv) .0)
+
+cast-t37 : tie.Need-cast-t37 Inv-loop μ-loop
+cast-t37 c = omega (arith, counts-small (c .before .before .before .loop .inv) .1)
 
 cast-t38 : tie.Need-cast-t38 Inv-loop μ-loop
-cast-t38 c =
-    omega (arith, counts-small _ _ _ _ _ (c .before .before .before .loop .messages) (c .before .before .before .loop .nodes) (c .before .before .before .loop .answered) (c .before .before .before .loop .members) (c .before .before .before .loop .tally) (c .before .before .before .loop .accepted) (c .before .before .before .loop .at) (c .before .before .before .loop .k) (c .before .before .before .loop .inv) .1)
-
-cast-t39 : tie.Need-cast-t39 Inv-loop μ-loop
-cast-t39 c =
-    omega (arith, counts-small _ _ _ _ _ (c .before .before .before .before .loop .messages) (c .before .before .before .before .loop .nodes) (c .before .before .before .before .loop .answered) (c .before .before .before .before .loop .members) (c .before .before .before .before .loop .tally) (c .before .before .before .before .loop .accepted) (c .before .before .before .before .loop .at) (c .before .before .before .before .loop .k) (c .before .before .before .before .loop .inv) .2)
+cast-t38 c = omega (arith, counts-small (over c .before .loop .inv) .2)
 
 same-length : tie.Need-same-length Inv-loop μ-loop
-same-length c =
-    c .before .before .before .before .loop .inv .store-long
+same-length c = over c .before .loop .inv .store-long
 
 same-length-2 : tie.Need-same-length-2 Inv-loop μ-loop
-same-length-2 c =
-    c .before .before .before .before .loop .inv .table-long
+same-length-2 c = over c .before .loop .inv .table-long
 
 same-length-3 : tie.Need-same-length-3 Inv-loop μ-loop
-same-length-3 c =
-    c .before .before .before .before .loop .inv .answers-long
+same-length-3 c = over c .before .loop .inv .answers-long
 
 returns : tie.Need-returns Inv-loop μ-loop
-returns c =
-    ran _ _ _ _ _ _ _ _ _ _ _ _ _ (c .before .before .before .before .loop .inv) (c .before .before .before .loop-test .left)
+returns c = ran (over c .before .loop .inv) (over c .loop-test .left)
 
 pub run-spec : {M : Type 1} → statement M
 run-spec =
@@ -163,19 +178,14 @@ run-spec =
     (tie.spec
     Inv-loop
     μ-loop
-    word-at-requires
+    read-head-requires
     cast-count
-    word-at-requires-2
     fresh-office-requires
     loop-holds
     sub-read-event
     part-read-event-start
     part-read-event-end
     read-event-requires
-    sub-event-size
-    part-event-size-start
-    part-event-size-end
-    event-size-requires
     add-at
     place-requires
     mul-m
@@ -183,15 +193,16 @@ run-spec =
     work-requires
     mul-members
     array-set-from-members
+    cast-answered
     slice-write-answered
     one-if-accepted-requires
     add-accepted
     add-k
     loop-less
     loop-again
-    cast-t17
+    cast-t36
+    cast-t37
     cast-t38
-    cast-t39
     same-length
     same-length-2
     same-length-3

@@ -1,7 +1,7 @@
 -- `play_effects::decide` meets its contract: the round is committed, and one more decision counted. Assumes nothing.
 use mathlib.Core.Path.{ap}
 use native.Mathlib.Omega.{arith}
-use Rattle.play_effects.specs.Effects.{gone}
+use Rattle.play_effects.specs.Effects.{accepted-event}
 use borrow.Author.Needs.{needs}
 use Rattle.play_effects.proofs.decide.Statement.{statement}
 use Rattle.play_effects.proofs.decide.Tie as tie
@@ -16,7 +16,7 @@ same-length : tie.Need-same-length
 same-length c = search needs
 
 returns : tie.Need-returns
-returns c = record { worked = ap (gone _) (c .counted .ensures); table-is = c .before .before .before .commit-in-tree .ensures .table-is }
+returns c = record { result-is = ap (accepted-event _) (c .counted .ensures); table-is = c .before .before .before .commit-in-tree .ensures .table-is }
 
 pub decide-spec : {M : Type 1} → statement M
 decide-spec = tie.close (tie.spec commit-in-tree-requires counted-requires same-length returns)

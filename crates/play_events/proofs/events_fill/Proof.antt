@@ -37,28 +37,29 @@ part-event-size-end c = search needs
 event-size-requires : tie.Need-event-size-requires Inv-loop μ-loop
 event-size-requires c κs = search needs
 
-returns : tie.Need-returns Inv-loop μ-loop
-returns c =
-    let l = c .before .before .before .before .loop in
-    let list = now (c .before .before .before .before .before .before .args .list) in
-    let n : c .before .event-size .result ≡ event-size (drop (l .at) list) = c .before .event-size .ensures ∙ ap event-size (to-end (l .at) list) in
-    sym (l .inv .2 ∙ exact-stop _ _ (omega arith) (sym n ∙ c .if1 .taken))
+-- the loop, from where the size is read, and the list
+abbrev turn : tie.After-event-size Inv-loop μ-loop → tie.At-loop Inv-loop μ-loop
+turn c = c .before .before .before
+
+abbrev list-at : tie.After-event-size Inv-loop μ-loop → List ℕ
+list-at c = now (turn c .before .before .args .list)
 
 -- the size read is that of the event due, which lies within what is left
-record Read (list : List ℕ) (at n : ℕ) : Type 0 where
+record SizeRead (list : List ℕ) (at n : ℕ) : Type 0 where
   size : n ≡ event-size (drop at list)
   within : at + n ≤ length list
 
-was-read : (c : tie.Else1 Inv-loop μ-loop) →
-    Read (now (c .before .before .before .before .before .before .args .list)) (c .before .before .before .before .loop .at) (c .before .event-size .result)
+was-read : (c : tie.After-event-size Inv-loop μ-loop) → SizeRead (list-at c) (turn c .loop .at) (c .event-size .result)
 was-read c =
-    let l = c .before .before .before .before .loop in
-    let list = now (c .before .before .before .before .before .before .args .list) in
-    let e : c .before .event-size .result ≡ event-size (drop (l .at) list) = c .before .event-size .ensures ∙ ap event-size (to-end (l .at) list) in
-    record { size = e; within = omega (arith, size-within (drop (l .at) list), length-drop (l .at) list) }
+    let at = turn c .loop .at in
+    let e : c .event-size .result ≡ event-size (drop at (list-at c)) = c .event-size .ensures ∙ ap event-size (to-end at (list-at c)) in
+    record { size = e; within = omega (arith, size-within (drop at (list-at c)), length-drop at (list-at c)) }
+
+returns : tie.Need-returns Inv-loop μ-loop
+returns c = sym (turn (c .before) .loop .inv .2 ∙ exact-stop _ _ (omega arith) (sym (was-read (c .before) .size) ∙ c .if1 .taken))
 
 add-at : tie.Need-add-at Inv-loop μ-loop
-add-at c = let r = was-read c in omega arith
+add-at c = let r = was-read (c .before) in omega arith
 
 add-k : tie.Need-add-k Inv-loop μ-loop
 add-k c = omega arith
@@ -68,14 +69,14 @@ loop-less c = omega arith
 
 loop-again : tie.Need-loop-again Inv-loop μ-loop
 loop-again c =
-    let l = c .before .before .before .before .loop in
-    let a = c .before .before .before .before .before .before .args in
-    let list = now (a .list) in
-    let r = was-read c in
+    let l = turn (c .before) .loop in
+    let list = list-at (c .before) in
+    let count = turn (c .before) .before .before .args .count in
+    let r = was-read (c .before) in
     let n = c .before .event-size .result in
-    let left : exact (a .count - l .k) (drop (l .at) list) ≡ exact (a .count - l .k - 1) (drop (event-size (drop (l .at) list)) (drop (l .at) list)) =
+    let left : exact (count - l .k) (drop (l .at) list) ≡ exact (count - l .k - 1) (drop (event-size (drop (l .at) list)) (drop (l .at) list)) =
     exact-go _ _ (omega arith) (λ e. c .if1 .left (r .size ∙ e)) in
-    let k : a .count - l .k - 1 ≡ a .count - (l .k + 1) = omega arith in
+    let k : count - l .k - 1 ≡ count - (l .k + 1) = omega arith in
     (r .within, omega arith, l .inv .2 ∙ left ∙ rw (← r .size, drop-drop n (l .at) list, k) refl)
 
 returns-2 : tie.Need-returns-2 Inv-loop μ-loop

@@ -1,39 +1,66 @@
--- `play_events::read_event` meets its contract: where an event stands there is room for its words, and each return goes by the kind.
+-- `play_events::read_event` meets its contract: where there is an event there is room for its words, and each return goes by the kind.
 -- Assumes nothing.
-use mathlib.Core.Path.{sym, _∙_}
+use mathlib.Core.Path.{_≡_, sym, _∙_}
+use Prim.Native.Nat.{_≤_}
 use native.Mathlib.Omega.{arith}
+use lib.ListN.{length}
 use borrow.Author.Tests.{ne-eqb}
-use Rattle.play_events.specs.List.{event-at}
-use Rattle.play_events.proofs.Sizes.{room, start-room}
+use denote.Ref.{now}
+use Rattle.xdr.specs.Words.{word-at}
+use Rattle.play_events.specs.List.{EVENT-START, START-BYTES, DELIVER-BYTES, event-at}
+use Rattle.play_events.proofs.Sizes.{size-start, size-else, room, start-room}
 use Rattle.play_events.proofs.read_event.Statement.{statement}
 use Rattle.play_events.proofs.read_event.Tie as tie
 
+-- room for the words that each kind has
+three-words : (c : tie.After-shared-slice-known) → DELIVER-BYTES ≤ length (now (c .before .args .rest))
+three-words c = room _ (c .before .pre)
+
+-- what the test of the kind left behind
+is-start : (c : tie.Then1) → word-at (now (c .before .before .before .args .rest)) 0 ≡ EVENT-START
+is-start c = sym (c .before .word-at .ensures) ∙ c .if1 .taken
+
+offer-room : (c : tie.Then1) → START-BYTES ≤ length (now (c .before .before .before .args .rest))
+offer-room c = start-room _ (c .before .before .before .pre) (is-start c)
+
+no-start : (c : tie.Else1) → word-at (now (c .before .before .before .args .rest)) 0 ≡ EVENT-START → ⊥
+no-start c e = c .if1 .left (c .before .word-at .ensures ∙ e)
+
 word-at-requires : tie.Need-word-at-requires
-word-at-requires c κs = omega (arith, room _ (c .before .pre))
+word-at-requires c κs = omega (arith, three-words c)
 
 word-at-requires-2 : tie.Need-word-at-requires-2
-word-at-requires-2 c κs = omega (arith, room _ (c .before .before .before .pre))
+word-at-requires-2 c κs = omega (arith, three-words (c .before .before))
 
 word-at-requires-3 : tie.Need-word-at-requires-3
-word-at-requires-3 c κs = omega (arith, room _ (c .before .before .before .before .pre))
+word-at-requires-3 c κs = omega (arith, three-words (c .before .before .before))
 
 hyper-at-requires : tie.Need-hyper-at-requires
-hyper-at-requires c κs =
-    omega (arith, start-room _ (c .before .before .before .before .before .pre) (sym (c .before .before .before .word-at .ensures) ∙ c .before .before .if1 .taken))
+hyper-at-requires c κs = omega (arith, offer-room (c .before .before))
 
 returns : tie.Need-returns
 unfolding event-at
-returns c = simp (sym (c .before .before .before .before .word-at .ensures) ∙ c .before .before .before .if1 .taken, c .before .before .word-at2 .ensures, c .before .word-at3 .ensures, c .hyper-at .ensures)
+returns c =
+    let kind = c .before .before .before in
+    record {
+      event-is = simp (is-start kind, c .before .before .word-at2 .ensures, c .before .word-at3 .ensures, c .hyper-at .ensures);
+      size-is = sym (size-start _ (is-start kind) (offer-room kind));
+    }
 
 word-at-requires-4 : tie.Need-word-at-requires-4
-word-at-requires-4 c κs = omega (arith, room _ (c .before .before .before .pre))
+word-at-requires-4 c κs = omega (arith, three-words (c .before .before))
 
 word-at-requires-5 : tie.Need-word-at-requires-5
-word-at-requires-5 c κs = omega (arith, room _ (c .before .before .before .before .pre))
+word-at-requires-5 c κs = omega (arith, three-words (c .before .before .before))
 
 returns-2 : tie.Need-returns-2
 unfolding event-at
-returns-2 c = simp (ne-eqb _ _ (λ e. c .before .before .if1 .left (c .before .before .before .word-at .ensures ∙ e)), c .before .word-at4 .ensures, c .word-at5 .ensures)
+returns-2 c =
+    let kind = c .before .before in
+    record {
+      event-is = simp (ne-eqb _ _ (no-start kind), c .before .word-at4 .ensures, c .word-at5 .ensures);
+      size-is = sym (size-else _ (kind .before .before .before .pre) (no-start kind));
+    }
 
 pub read-event-spec : {M : Type 1} → statement M
 read-event-spec =

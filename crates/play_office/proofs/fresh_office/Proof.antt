@@ -1,7 +1,7 @@
 -- `crate::fresh_office` meets its contract: seven fresh records in a row. Assumes nothing.
 use mathlib.Core.Path.{refl}
 use Rattle.model.specs.Model.{fresh-members}
-use Rattle.play_office.specs.Standing.{fresh-office}
+use Rattle.play_office.specs.Represents.{fresh-office}
 use borrow.Author.Needs.{needs}
 use Rattle.play_office.proofs.fresh_office.Statement.{statement}
 use Rattle.play_office.proofs.fresh_office.Tie as tie

@@ -1,26 +1,44 @@
 -- `crate::settle` meets its contract: each answer of the member is one arm, and each arm one law. Assumes nothing.
-use mathlib.Core.Path.{_≡_}
-use native.Mathlib.Omega.{arith}
-use denote.Ref.{now}
-use Rattle.laws.specs.Tests.{tests}
 use Rattle.member.proofs.Checks.{refused-byte, refused-some}
+use Rattle.play_office.proofs.Before.{counts-fit, is-a-tree}
+use Rattle.play_office.proofs.Settling.{as-result}
+use Rattle.play_office.proofs.Arms.{by-answer, step-keeps, answers-sent, answers-proposed}
 use Rattle.play_office.proofs.Arms.{refuses, goes-silent, sends-go, proposes-go, decides-go}
-use Rattle.play_office.proofs.Facing.{retook, step-keeps, few, answers-sent, answers-proposed, faced-tree}
-use Rattle.play_office.proofs.Settling.{as-worked}
 use borrow.Author.Needs.{needs}
 use Rattle.play_office.proofs.settle.Statement.{statement}
 use Rattle.play_office.proofs.settle.Tie as tie
 
+-- the entry, from where the answer is matched
+abbrev entry : tie.After-state → tie.Start
+entry c = c .before .before .before
+
+-- the answer of each arm, from where its effect is called; and that from the end
+abbrev refused-arm : tie.After-refused-event → tie.After-a
+refused-arm c = c .before .before
+
+abbrev sent-arm : tie.After-send-arg → tie.After-a2
+sent-arm c = c .before .before
+
+abbrev proposed-arm : tie.After-propose-arg2 → tie.After-a3
+proposed-arm c = c .before .before .before
+
+abbrev decided-arm : tie.After-decide-arg → tie.After-a4
+decided-arm c = c .before .before
+
+abbrev sent : tie.After-slice-known3 → tie.After-send
+sent c = c .before .before
+
+abbrev proposed : tie.After-slice-known5 → tie.After-propose
+proposed c = c .before .before .before .before
+
+abbrev decided : tie.After-slice-known6 → tie.After-decide
+decided c = c .before .before
+
 enum-known-a : tie.Need-enum-known-a
 enum-known-a c = search needs
 
-cast-left : tie.Need-cast-left
-cast-left c =
-    let entry = c .before .before .before .before .before .before in
-    omega (arith, refused-byte (entry .args .s .state) (c .before .a .given .1) (step-keeps _ _ _ _ _ (entry .pre .0)))
-
-left-requires : tie.Need-left-requires
-left-requires c κs = search needs
+refused-event-requires : tie.Need-refused-event-requires
+refused-event-requires c κs = search needs
 
 enum-told : tie.Need-enum-told
 enum-told c = search needs
@@ -29,48 +47,49 @@ enum-known-a-2 : tie.Need-enum-known-a-2
 enum-known-a-2 c = search needs
 
 send-requires : tie.Need-send-requires
-send-requires c κs = (few _ _ _ _ _ (c .before .before .before .before .before .before .before .pre .0), step-keeps _ _ _ _ _ (c .before .before .before .before .before .before .before .pre .0) .sent-in-range _ (answers-sent _ _ _ (c .before .before .a2 .given .1)))
+send-requires c κs =
+    let F = entry (sent-arm c .before .before) .pre .0 in
+    (counts-fit (F .before), step-keeps F .sent-in-range _ (answers-sent _ (sent-arm c .a2 .given .1)))
 
 enum-known-a-3 : tie.Need-enum-known-a-3
 enum-known-a-3 c = search needs
 
 propose-requires : tie.Need-propose-requires
 propose-requires c κs =
-    let (is-sized, is-tree) = faced-tree _ _ _ _ _ (c .before .before .before .before .before .before .before .before .pre .0) in
-    (few _ _ _ _ _ (c .before .before .before .before .before .before .before .before .pre .0), step-keeps _ _ _ _ _ (c .before .before .before .before .before .before .before .before .pre .0) .sent-in-range _ (answers-proposed _ _ _ _ _ _ (c .before .before .before .a3 .given .1)), is-sized, is-tree)
+    let F = entry (proposed-arm c .before .before) .pre .0 in
+    (counts-fit (F .before), step-keeps F .sent-in-range _ (answers-proposed _ (proposed-arm c .a3 .given .1)), F .before .sizes .table-length, is-a-tree (F .before))
 
 enum-known-a-4 : tie.Need-enum-known-a-4
 enum-known-a-4 c = search needs
 
 decide-requires : tie.Need-decide-requires
 decide-requires c κs =
-    let (is-sized, is-tree) = faced-tree _ _ _ _ _ (c .before .before .before .before .before .before .before .pre .0) in
-    (few _ _ _ _ _ (c .before .before .before .before .before .before .before .pre .0), is-sized, is-tree)
+    let F = entry (decided-arm c .before .before) .pre .0 in
+    (counts-fit (F .before), F .before .sizes .table-length, is-a-tree (F .before))
 
 returns : tie.Need-returns
 returns c =
-    λ ms i z o e H L R S T.
-    let arm = c .before .before in
-    let entry = arm .before .before .before .before .before in
-    let args = entry .args in
-    as-worked z o e ms i (now (args .messages)) (now (args .nodes)) _ (c .left .ensures)
-    (refuses z o e (args .tally) ms i (args .m) H (now (args .messages)) (now (args .nodes)) L R S _ _ (retook (args .s) (arm .a .given .1) T)
-    (refused-some (arm .a .given .1) (entry .pre .1)))
+    λ F.
+    let arm = refused-arm c in
+    let is = arm .a .given .1 in
+    let start = entry (arm .before .before) in
+    let s = start .args .s in
+    as-result (F .before) _ (c .refused-event .ensures)
+    (refuses (F .before) (F .record-at) (by-answer s is (F .step)) (refused-some is (start .pre .1)) (refused-byte (s .state) is (step-keeps F)))
 
 returns-2 : tie.Need-returns-2
 returns-2 c =
-    λ ms i z o e H L R S T.
-    let args = c .before .before .before .before .before .args in
-    goes-silent z o e (args .tally) ms i (args .m) H (now (args .messages)) (now (args .nodes)) L R S _ (retook (args .s) (c .enum-told .given .1) T)
+    λ F. goes-silent (F .before) (by-answer (entry (c .before .before) .args .s) (c .enum-told .given .1) (F .step))
 
 same-length : tie.Need-same-length
 same-length c = search needs
 
 returns-3 : tie.Need-returns-3
 returns-3 c =
-    λ ms i z o e H L R S T.
-    let args = c .before .before .before .before .before .before .before .before .before .before .args in
-    sends-go z o e (args .tally) ms i (args .m) H (now (args .messages)) (now (args .nodes)) L R S _ _ _ _ (retook (args .s) (c .before .before .before .before .before .a2 .given .1) T) (c .before .before .send .ensures) (c .before .before .send .kept .0)
+    λ F.
+    let arm = sent-arm (sent c .before) in
+    let s = entry (arm .before .before) .args .s in
+    sends-go (F .before) (F .record-at) (by-answer s (arm .a2 .given .1) (F .step)) (sent c .send .ensures) (sent c .send .kept .0)
 
 same-length-2 : tie.Need-same-length-2
 same-length-2 c = search needs
@@ -80,26 +99,28 @@ same-length-3 c = search needs
 
 returns-4 : tie.Need-returns-4
 returns-4 c =
-    λ ms i z o e H L R S T.
-    let args = c .before .before .before .before .before .before .before .before .before .before .before .before .before .args in
-    proposes-go z o e (args .tally) ms i (args .m) H (now (args .messages)) (now (args .nodes)) L R S _ _ _ _ _ _ _ _ (retook (args .s) (c .before .before .before .before .before .before .before .before .a3 .given .1) T) (c .before .before .before .before .propose .ensures) (c .before .before .before .before .propose .kept .0) (c .before .before .before .before .propose .kept .1 .0)
+    λ F.
+    let p = proposed c .propose in
+    let arm = proposed-arm (proposed c .before) in
+    let s = entry (arm .before .before) .args .s in
+    proposes-go (F .before) (F .record-at) (by-answer s (arm .a3 .given .1) (F .step)) (p .ensures) (p .kept .0) (p .kept .1 .0)
 
 same-length-4 : tie.Need-same-length-4
 same-length-4 c = search needs
 
 returns-5 : tie.Need-returns-5
 returns-5 c =
-    λ ms i z o e H L R S T.
-    let args = c .before .before .before .before .before .before .before .before .before .before .args in
-    decides-go z o e (args .tally) ms i (args .m) H (now (args .messages)) (now (args .nodes)) L R S _ _ _ _ _ (retook (args .s) (c .before .before .before .before .before .a4 .given .1) T) (c .before .before .decide .ensures) (c .before .before .decide .kept .0)
+    λ F.
+    let arm = decided-arm (decided c .before) in
+    let s = entry (arm .before .before) .args .s in
+    decides-go (F .before) (by-answer s (arm .a4 .given .1) (F .step)) (decided c .decide .ensures) (decided c .decide .kept .0)
 
 pub settle-spec : {M : Type 1} → statement M
 settle-spec =
     tie.close
     (tie.spec
     enum-known-a
-    cast-left
-    left-requires
+    refused-event-requires
     enum-told
     enum-known-a-2
     send-requires

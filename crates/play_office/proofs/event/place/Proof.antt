@@ -2,7 +2,7 @@
 use mathlib.Core.Path.{sym, ap, _∙_}
 use Rattle.play_events.specs.Value.{model-event}
 use Rattle.model.specs.Model.{at-member}
-use Rattle.play_office.specs.Standing.{place-of}
+use Rattle.play_office.specs.Represents.{place-of}
 use borrow.Author.Needs.{needs}
 use Rattle.play_office.proofs.event.place.Statement.{statement}
 use Rattle.play_office.proofs.event.place.Tie as tie

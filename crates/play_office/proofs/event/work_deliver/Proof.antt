@@ -1,51 +1,59 @@
 -- `crate::event::work_deliver` meets its contract: 29, or the step of the model's member at the message of that row, settled. Assumes nothing.
-use denote.Ref.{now}
-use Rattle.model.specs.Model.{deliver}
-use Rattle.play_office.specs.Standing.{place-of}
-use Rattle.play_office.proofs.Settling.{as-worked}
-use Rattle.play_office.proofs.Working.{no-member, no-message, sound-member, row-within, row-ranged, took-deliver}
+use Rattle.play_office.proofs.Settling.{as-result}
+use Rattle.play_office.proofs.Working.{no-member, no-message, sound-member, row-within, row-ranged, to-settle, step-deliver}
 use borrow.Author.Needs.{needs}
 use Rattle.play_office.proofs.event.work_deliver.Statement.{statement}
 use Rattle.play_office.proofs.event.work_deliver.Tie as tie
 
-left-requires : tie.Need-left-requires
-left-requires c κs = search needs
+-- the entry, from where the member is compared
+abbrev entry : tie.After-struct-known2 → tie.Start
+entry c = c .before .before .before .before
+
+-- the comparison of the member, from that of the message
+abbrev a-member : tie.Else2 → tie.Else1
+a-member c = c .before .before
+
+-- the message fetched, from where the step is settled; and that from the end, where the memory is back
+abbrev fetched : tie.After-settle-arg2 → tie.After-fetch
+fetched c = c .before .before .before
+
+abbrev store-back : tie.After-slice-known4 → tie.After-slice-known3
+store-back c = c .before .before
+
+abbrev settled : tie.After-slice-known4 → tie.After-settle
+settled c = store-back c .before .before
+
+refused-event-requires : tie.Need-refused-event-requires
+refused-event-requires c κs = search needs
 
 returns : tie.Need-returns
-returns c =
-    λ ms z o H L R S.
-    as-worked z o (deliver (c .before .before .before .before .before .before .args .message) (c .before .before .before .before .before .before .args .member .0)) ms (place-of (c .before .before .before .before .before .before .args .member .0)) (now (c .before .before .before .before .before .before .args .messages)) (now (c .before .before .before .before .before .before .args .nodes)) _ (c .left .ensures)
-    (no-member z o (c .before .before .before .before .before .before .args .tally) ms (now (c .before .before .before .before .before .before .args .messages)) (now (c .before .before .before .before .before .before .args .nodes)) L R S (deliver (c .before .before .before .before .before .before .args .message) (c .before .before .before .before .before .before .args .member .0)) (c .before .before .before .before .before .before .args .m) H (c .before .if1 .taken))
+returns c = λ E. as-result (E .before) _ (c .refused-event .ensures) (no-member E (c .before .if1 .taken))
 
-left-requires-2 : tie.Need-left-requires-2
-left-requires-2 c κs = search needs
+refused-event-requires-2 : tie.Need-refused-event-requires-2
+refused-event-requires-2 c κs = search needs
 
 returns-2 : tie.Need-returns-2
 returns-2 c =
-    λ ms z o H L R S.
-    as-worked z o (deliver (c .before .before .before .before .before .before .before .before .args .message) (c .before .before .before .before .before .before .before .before .args .member .0)) ms (place-of (c .before .before .before .before .before .before .before .before .args .member .0)) (now (c .before .before .before .before .before .before .before .before .args .messages)) (now (c .before .before .before .before .before .before .before .before .args .nodes)) _ (c .left2 .ensures)
-    (no-message z o (c .before .before .before .before .before .before .before .before .args .tally) ms (now (c .before .before .before .before .before .before .before .before .args .messages)) (now (c .before .before .before .before .before .before .before .before .args .nodes)) L R S (c .before .before .before .before .before .before .before .before .args .message) (c .before .before .before .before .before .before .before .before .args .member .0) (c .before .before .before .before .before .before .before .before .args .m) H (c .before .before .before .if1 .left) (c .before .if2 .taken))
+    λ E.
+    let test = c .before in
+    as-result (E .before) _ (c .refused-event2 .ensures) (no-message E (test .before .before .if1 .left) (test .if2 .taken))
 
 fetch-requires : tie.Need-fetch-requires
-fetch-requires c κs =
-    row-within (c .before .before .before .before .before .before .before .before .pre .standing .z) (c .before .before .before .before .before .before .before .before .pre .standing .o) (c .before .before .before .before .before .before .before .before .args .tally) (c .before .before .before .before .before .before .before .before .pre .members) (now (c .before .before .before .before .before .before .before .before .args .messages)) (now (c .before .before .before .before .before .before .before .before .args .nodes)) (c .before .before .before .before .before .before .before .before .pre .standing .lent) (c .before .before .before .before .before .before .before .before .pre .standing .reached) (c .before .before .before .before .before .before .before .before .pre .standing .stands) (c .before .before .before .before .before .before .before .before .args .message) (c .before .if2 .left)
+fetch-requires c κs = row-within (entry (a-member (c .before) .before) .pre) (c .before .if2 .left)
 
 deliver-sound-requires : tie.Need-deliver-sound-requires
 deliver-sound-requires c κs =
-    (sound-member (c .before .before .before .before .before .before .before .before .before .pre .standing .z) (c .before .before .before .before .before .before .before .before .before .pre .standing .o) (c .before .before .before .before .before .before .before .before .before .args .tally) (c .before .before .before .before .before .before .before .before .before .pre .members) (now (c .before .before .before .before .before .before .before .before .before .args .messages)) (now (c .before .before .before .before .before .before .before .before .before .args .nodes)) (c .before .before .before .before .before .before .before .before .before .pre .standing .lent) (c .before .before .before .before .before .before .before .before .before .pre .standing .reached) (c .before .before .before .before .before .before .before .before .before .pre .standing .stands) (deliver (c .before .before .before .before .before .before .before .before .before .args .message) (c .before .before .before .before .before .before .before .before .before .args .member .0)) (c .before .before .before .before .before .before .before .before .before .args .m) (c .before .before .before .before .before .before .before .before .before .pre .held) (c .before .before .before .before .if1 .left), row-ranged (c .before .before .before .before .before .before .before .before .before .pre .standing .z) (c .before .before .before .before .before .before .before .before .before .pre .standing .o) (c .before .before .before .before .before .before .before .before .before .args .tally) (c .before .before .before .before .before .before .before .before .before .pre .members) (now (c .before .before .before .before .before .before .before .before .before .args .messages)) (now (c .before .before .before .before .before .before .before .before .before .args .nodes)) (c .before .before .before .before .before .before .before .before .before .pre .standing .lent) (c .before .before .before .before .before .before .before .before .before .pre .standing .reached) (c .before .before .before .before .before .before .before .before .before .pre .standing .stands) (c .before .before .before .before .before .before .before .before .before .args .message) _ (c .before .before .if2 .left) (c .fetch .ensures))
+    let test = c .before .before in
+    let E = entry (a-member test .before) .pre in
+    (sound-member E (a-member test .if1 .left), row-ranged E (test .if2 .left) (c .fetch .ensures))
 
 settle-requires : tie.Need-settle-requires
-settle-requires c κs = (
-  record {
-    members = c .before .before .before .before .before .before .before .before .before .before .before .before .pre .members;
-    i = place-of (c .before .before .before .before .before .before .before .before .before .before .before .before .args .member .0);
-    held = c .before .before .before .before .before .before .before .before .before .before .before .before .pre .held;
-    standing = c .before .before .before .before .before .before .before .before .before .before .before .before .pre .standing;
-    e = (deliver (c .before .before .before .before .before .before .before .before .before .before .before .before .args .message) (c .before .before .before .before .before .before .before .before .before .before .before .before .args .member .0));
-    took = took-deliver (c .before .before .before .before .before .before .before .before .before .before .before .before .pre .standing .z) (c .before .before .before .before .before .before .before .before .before .before .before .before .pre .standing .o) (c .before .before .before .before .before .before .before .before .before .before .before .before .args .tally) (c .before .before .before .before .before .before .before .before .before .before .before .before .pre .members) (now (c .before .before .before .before .before .before .before .before .before .before .before .before .args .messages)) (now (c .before .before .before .before .before .before .before .before .before .before .before .before .args .nodes)) (c .before .before .before .before .before .before .before .before .before .before .before .before .pre .standing .lent) (c .before .before .before .before .before .before .before .before .before .before .before .before .pre .standing .reached) (c .before .before .before .before .before .before .before .before .before .before .before .before .pre .standing .stands) (c .before .before .before .before .before .before .before .before .before .before .before .before .args .message) (c .before .before .before .before .before .before .before .before .before .before .before .before .args .member .0) (c .before .before .before .before .before .before .before .before .before .before .before .before .args .m) (c .before .before .before .before .before .before .before .before .before .before .before .before .pre .held) _ _ (c .before .before .before .before .before .before .before .if1 .left) (c .before .before .before .before .before .if2 .left) (c .before .before .before .fetch .ensures) (c .before .before .deliver-sound .ensures);
-  },
-  c .before .before .deliver-sound .ensures .numbered,
-)
+settle-requires c κs =
+    let f = fetched c in
+    let test = f .before .before in
+    let E = entry (a-member test .before) .pre in
+    let taken = c .before .before .deliver-sound .ensures in
+    (to-settle E (step-deliver E (test .if2 .left) (a-member test .if1 .left) (f .fetch .ensures) taken), taken .numbered)
 
 same-length : tie.Need-same-length
 same-length c = search needs
@@ -55,17 +63,20 @@ same-length-2 c = search needs
 
 returns-3 : tie.Need-returns-3
 returns-3 c =
-    λ ms z o H L R S.
-    c .before .before .before .before .settle .ensures ms (place-of (c .before .before .before .before .before .before .before .before .before .before .before .before .before .before .before .before .before .args .member .0)) z o (deliver (c .before .before .before .before .before .before .before .before .before .before .before .before .before .before .before .before .before .args .message) (c .before .before .before .before .before .before .before .before .before .before .before .before .before .before .before .before .before .args .member .0)) H L R S
-    (took-deliver z o (c .before .before .before .before .before .before .before .before .before .before .before .before .before .before .before .before .before .args .tally) ms (now (c .before .before .before .before .before .before .before .before .before .before .before .before .before .before .before .before .before .args .messages)) (now (c .before .before .before .before .before .before .before .before .before .before .before .before .before .before .before .before .before .args .nodes)) L R S (c .before .before .before .before .before .before .before .before .before .before .before .before .before .before .before .before .before .args .message) (c .before .before .before .before .before .before .before .before .before .before .before .before .before .before .before .before .before .args .member .0) (c .before .before .before .before .before .before .before .before .before .before .before .before .before .before .before .before .before .args .m) H _ _ (c .before .before .before .before .before .before .before .before .before .before .before .before .if1 .left) (c .before .before .before .before .before .before .before .before .before .before .if2 .left) (c .before .before .before .before .before .before .before .before .fetch .ensures) (c .before .before .before .before .before .before .before .deliver-sound .ensures))
+    λ E.
+    let s = settled c in
+    let f = fetched (s .before) in
+    let test = f .before .before in
+    s .settle .ensures
+    (to-settle E (step-deliver E (test .if2 .left) (a-member test .if1 .left) (f .fetch .ensures) (s .before .before .before .deliver-sound .ensures)))
 
 pub work-deliver-spec : {M : Type 1} → statement M
 work-deliver-spec =
     tie.close
     (tie.spec
-    left-requires
+    refused-event-requires
     returns
-    left-requires-2
+    refused-event-requires-2
     returns-2
     fetch-requires
     deliver-sound-requires

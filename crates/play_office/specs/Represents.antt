@@ -1,0 +1,105 @@
+-- How an office by value, the store and the table represent a state of the model, and what a step of an event has before and after it.
+use mathlib.Core.Path.{_≡_}
+use mathlib.Core.Bool.{true, false, cond}
+use mathlib.Core.List.{List}
+use Prim.Native.Nat.{ℕ, _<_}
+use lib.ListN.{length, getD, set, take}
+use lib.Dec.{ltb}
+use Rattle.tree_theory.specs.Table.{rows, sized, table}
+use Rattle.message.specs.declared.Message.{Message}
+use Rattle.member_record.specs.declared.MemberState.{MemberState}
+use Rattle.member_record.specs.Record.{allowed}
+use Rattle.member.specs.Table.{Outcome}
+use Rattle.model.specs.Model.{Sizes, Event, Office, fresh-members, answer, next, outcome, at-member, unsent, proposals}
+use Rattle.model.specs.Counts.{tree, decisions}
+use Rattle.model.specs.Sound.{SoundOffice}
+use Rattle.play_store.specs.Rows.{store-rows, store-sized, stored}
+use Rattle.play_effects.specs.declared.AfterEvent.{AfterEvent}
+use Rattle.play_effects.specs.declared.Tally.{Tally}
+use Rattle.play_effects.specs.Memory.{Memory}
+use Rattle.play_office.specs.declared.PlayedOffice.{PlayedOffice}
+
+-- the office at first; its array has seven records
+unfoldable pub fresh-office : ℕ → PlayedOffice
+unfolding fresh-members
+fresh-office n = record { tally = record { n = n; sent = 0; proposals = 0; decisions = 0 }; members = fresh-members n 0 7 }
+
+-- the place of a member's record; a number above 6 has none, and takes the first
+abbrev pub place-of : ℕ → ℕ
+place-of k = cond (ltb k 7) k 0
+
+-- record i is m
+pub record RecordAt (ms : List MemberState) (i : ℕ) (m : MemberState) : Type 0 where
+  pub within : i < length ms
+  pub is : (d : MemberState) → getD ms i d ≡ m
+
+-- the sizes of what is lent are those of the model, and allowed
+pub record MemorySizes (z : Sizes) (M : Memory) : Type 0 where
+  pub allowed-size : allowed (z .n) ≡ true
+  pub store-length : store-sized (M .store) ≡ true
+  pub store-is : z .store ≡ store-rows (M .store)
+  pub table-length : sized (M .table) ≡ true
+  pub table-is : z .table ≡ rows (M .table)
+
+-- the shared store and its count represent the messages sent
+pub record RepresentsStore (sent : List Message) (count : ℕ) (store : List ℕ) : Type 0 where
+  pub sent-count : count ≡ length sent
+  pub messages : store ≡ stored (length store) sent
+
+-- an array of members, their counts and a table represent the members and what they made
+pub record RepresentsSlot (z : Sizes) (o : Office) (t : Tally) (ms : List MemberState) (ws : List ℕ) : Type 0 where
+  pub size : t .n ≡ z .n
+  pub seven : length ms ≡ 7
+  pub members : take (z .n) ms ≡ o .members
+  pub proposed : t .proposals ≡ proposals (o .made)
+  pub decided : t .decisions ≡ decisions (o .made)
+  pub nodes-are : ws ≡ table (length ws) (tree z o)
+
+-- the memory represents the state o
+pub record Represents (z : Sizes) (o : Office) (t : Tally) (ms : List MemberState) (M : Memory) : Type 0 where
+  pub shared : RepresentsStore (o .sent) (t .sent) (M .store)
+  pub slot : RepresentsSlot z o t ms (M .table)
+
+-- before a step: the memory represents some state that a step may start from
+pub record StepBefore (t : Tally) (M : Memory) : Type 0 where
+  pub z : Sizes
+  pub o : Office
+  pub members : List MemberState
+  pub sizes : MemorySizes z M
+  pub sound : SoundOffice z o
+  pub represents : Represents z o t members M
+
+-- after the step of the event e at the record of place i: the model's number, and the memory represents the model's next state
+pub record StepAfter {t : Tally} {M : Memory} (B : StepBefore t M) (e : Event) (i : ℕ) (w : AfterEvent) (M′ : Memory) : Type 0 where
+  pub number-is : w .number ≡ answer (B .z) (B .o) e
+  -- an answer byte holds it
+  pub small : w .number < 256
+  pub represents : Represents (B .z) (next (B .z) (B .o) e) (w .tally) (set (B .members) i (w .state)) M′
+
+-- before an event: m is the record of its member
+pub record EventBefore (t : Tally) (m : MemberState) (e : Event) (M : Memory) : Type 0 where
+  pub before : StepBefore t M
+  pub record-at : RecordAt (before .members) (place-of (at-member e)) m
+
+-- an event was worked: whatever the memory represented before
+abbrev pub EventWorked : Tally → MemberState → Event → Memory → AfterEvent → Memory → Type 0
+EventWorked t m e M w M′ = (E : EventBefore t m e M) → StepAfter (E .before) e (place-of (at-member e)) w M′
+
+-- the step of the member with record i at the event e comes to u
+pub record ModelStep (z : Sizes) (o : Office) (e : Event) (i : ℕ) (u : Outcome) : Type 0 where
+  pub at : i ≡ at-member e
+  pub member : at-member e < z .n
+  pub there : unsent o e ≡ false
+  pub equals : u ≡ outcome z o e
+
+-- before a step is settled: it was taken by the member with record m, at some event, and comes to u
+pub record OutcomeBefore (t : Tally) (m : MemberState) (u : Outcome) (M : Memory) : Type 0 where
+  pub before : StepBefore t M
+  pub i : ℕ
+  pub record-at : RecordAt (before .members) i m
+  pub e : Event
+  pub step : ModelStep (before .z) (before .o) e i u
+
+-- a step was settled: whatever the memory represented before, and whatever the event was
+abbrev pub OutcomeSettled : Tally → MemberState → Outcome → Memory → AfterEvent → Memory → Type 0
+OutcomeSettled t m u M w M′ = (F : OutcomeBefore t m u M) → StepAfter (F .before) (F .e) (F .i) w M′
