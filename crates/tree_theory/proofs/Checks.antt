@@ -17,7 +17,7 @@ use Rattle.tree_theory.specs.Check.{edge-over, crossed, is-root, row-fit
 use Rattle.tree_theory.proofs.Grown.{Grown, Placed, placed-cut}
 use Rattle.tree_theory.proofs.Words.{length-rows, getD-rows, take-rows, row-in, in-row, rows-cut, words-rows, used-rows, free-word}
 use Rattle.tree_theory.proofs.Fits.{Fit, fit-of, of-fit, root-of, first-row, later-row, fits-at, fits-all, zeros-all, zeros-drop}
-use Rattle.tree_theory.proofs.Trees.{Held, tree-held, tree-of, held-is-tree}
+use Rattle.tree_theory.proofs.Trees.{HoldsGrown, tree-held, tree-of, held-is-tree}
 
 checks-says : (valued : Bool) (ws : List ℕ) → checks valued ws ≡ (leb 1 (used ws) && (fits-to valued ws (used ws) (used ws) && free-zero ws))
 unfolding checks
@@ -72,7 +72,7 @@ module _ (valued : Bool) (ws : List ℕ) (n : ℕ) (some : 0 < n) (bound : n ≤
     ghosts = rows-ghosts;
   }
 
-checks-held : (valued : Bool) (ws : List ℕ) → checks valued ws ≡ true → Held valued ws
+checks-held : (valued : Bool) (ws : List ℕ) → checks valued ws ≡ true → HoldsGrown valued ws
 unfolding table
 checks-held valued ws h =
     let tail : Bool = fits-to valued ws (used ws) (used ws) && free-zero ws in
@@ -113,7 +113,7 @@ module _ (valued : Bool) (ws : List ℕ) (n : ℕ) (G : Grown valued (rows ws) (
         ghost = G .ghosts (row ws i) (row-in ws n i l);
       }))
 
-held-checks : (valued : Bool) (ws : List ℕ) → Held valued ws → checks valued ws ≡ true
+held-checks : (valued : Bool) (ws : List ℕ) → HoldsGrown valued ws → checks valued ws ≡ true
 held-checks valued ws H =
     checks-says valued ws ∙
     and-intro (le-leb 1 (used ws) (rows-some valued ws (used ws) (H .grown)))
