@@ -10,7 +10,7 @@ use Rattle.laws.specs.Tests.{by-test, and-left, and-right}
 use Rattle.laws.specs.First.{Cause, first, passed}
 use Rattle.numbers.specs.Numbers.{OK}
 use Rattle.tree_theory.specs.Machine.{Call, answer, causes}
-use Rattle.tree_theory.specs.Table.{rows, nodes, sized, table, Tree, is-tree, table-causes, call-number, call-table}
+use Rattle.tree_theory.specs.Table.{rows, nodes, sized, table, Tree, is-tree, table-causes, call-number}
 use Rattle.tree_theory.proofs.History.{step-ok, step-refused}
 use Rattle.tree_theory.proofs.Trees.{tree-held, is-tree-exact}
 use Rattle.tree_theory.proofs.Steps.{step-tree, tree-number, tree-table, table-refused}

@@ -14,7 +14,7 @@ use Rattle.laws.specs.Lists.{any, any-append, any-intro}
 use Rattle.laws.specs.First.{passed}
 use Rattle.ids.specs.Ranges.{out-of-range, above-range}
 use Rattle.numbers.specs.Numbers.{OK}
-use Rattle.tree_theory.specs.Machine.{Node, Call, add, commit, ADDED, GHOST, COMMITTED, has-round, present, find, above, causes, answer}
+use Rattle.tree_theory.specs.Machine.{Node, add, commit, ADDED, GHOST, COMMITTED, has-round, present, above, causes, answer}
 use Rattle.tree_theory.specs.Machine.{struck, strike-crossed, commit-node, new-node, change}
 use Rattle.tree_theory.specs.Table.{row, rows, rows-of, used, nodes, words, sized, table, Tree}
 use Rattle.tree_theory.proofs.Words.{length-words, length-rows, used-rows, row-in, free-word}
@@ -24,7 +24,7 @@ use Rattle.tree_theory.proofs.Paths.{struck-crossed, accepted-parent}
 use Rattle.tree_theory.proofs.Trees.{tree-held}
 use Rattle.tree_table.specs.Rows.{row-index}
 use Rattle.tree_table.proofs.Rows.{rows-from, rows-more, rows-split, index-left, index-there, found-at, PassedRows, pass-none, pass-on, pass-set, pass-end}
-use Rattle.tree_steps.specs.Planned.{call-written, Planned}
+use Rattle.tree_steps.specs.Planned.{Planned}
 
 -- what the test of a round's range left behind
 module _ (r : ℕ) {b : Bool} (e : b ≡ not (out-of-range r)) where

@@ -10,7 +10,7 @@ use lib.ListN.{length, getD, set, drop, length-map}
 use lib.Seq.{drop-cons, getD-append-add, append-snoc, getD-drop}
 use lib.Dec.{leb, ltb}
 use borrow.Author.Tests.{eq-eqb, ne-eqb, le-leb, lt-leb, lt-ltb, le-ltb, ltb-true, ltb-false}
-use Rattle.laws.specs.Tests.{by-test, clash, same-test, tests}
+use Rattle.laws.specs.Tests.{by-test, clash, same-test}
 use Rattle.laws.specs.Lists.{any, any-append, any-snoc, map-append}
 use Rattle.tree_theory.specs.Machine.{Node, root, FREE, has-round, present, find, with-status}
 use Rattle.tree_theory.specs.Table.{row, rows-of, used-from, words}

@@ -15,7 +15,7 @@ use Rattle.tree_theory.specs.Machine.{Call, add, commit, Node, node-of, 
 use Rattle.tree_theory.specs.Properties.{Properties, InRange, history, adds-in, adds, commits, edge-crosses}
 use Rattle.tree_theory.specs.Check.{crossed}
 use Rattle.tree_theory.proofs.Nodes.{find-in, find-round}
-use Rattle.tree_theory.proofs.Grown.{Grown, Placed}
+use Rattle.tree_theory.proofs.Grown.{Grown, Placed, Stated}
 use Rattle.tree_theory.proofs.Calls.{add-inj, adds-intro, adds-with-elim, commits-elim, committed-uncrossed, unique}
 
 -- the node that an add makes, after the history h
@@ -129,10 +129,10 @@ pub record Story (valued : Bool) (rows : ℕ) (h : List Call) : Type 0 where
 
 module _ (valued : Bool) (rows : ℕ) (h : List Call) (S : Story valued rows h) where
   pub round-positive : {r v p : ℕ} → add r v p ∈ h → 0 < r
-  round-positive m = omega (arith, S .properties .lower _ _ _ m)
+  round-positive {r} {v} {p} m = omega (arith, S .properties .lower r v p m)
 
-  pub round-bounded : {r v p : ℕ} → add r v p ∈ h → r ≤ 1000000
-  round-bounded {r} {v} {p} m = omega (tests, or-right (eqb r 0) (above-range r) (S .ranged (add r v p) m))
+  pub round-bounded : {r v p : ℕ} → add r v p ∈ h → above-range r ≡ false
+  round-bounded {r} {v} {p} m = or-right (eqb r 0) (above-range r) (S .ranged (add r v p) m)
 
   pub present-rebuilt : (c : ℕ) → 0 < c → present c (rebuilt h) ≡ any (adds c) h
   present-rebuilt c pos = rw (ne-eqb 0 c (omega arith)) (present-added h c h)
@@ -202,7 +202,7 @@ module _ (valued : Bool) (rows : ℕ) (h : List Call) (S : Story valued rows h) 
     ghosts = ghosts-rebuilt;
   }
     where
-      stated-rebuilt : (n : Node) → n ∈ rebuilt h → (0 < n .status) × (n .status ≤ 3)
+      stated-rebuilt : (n : Node) → n ∈ rebuilt h → Stated n
       stated-rebuilt n (here e) = rw e (omega arith)
       stated-rebuilt n (there m) = of-added h h m (λ r v p i e. rw e (history-stated h r))
 

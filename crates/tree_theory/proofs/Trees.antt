@@ -11,7 +11,7 @@ use lib.Dec.{leb, eqb}
 use borrow.Author.Tests.{eqb-true, eq-eqb}
 use Rattle.laws.specs.Tests.{clash, tests, and-left, and-right, and-intro}
 use Rattle.laws.specs.Lists.{_∈_}
-use Rattle.tree_theory.specs.Machine.{Node, fresh, after}
+use Rattle.tree_theory.specs.Machine.{Node, FREE, fresh, after}
 use Rattle.tree_theory.specs.Table.{sized, rows, table, Tree, nodes, calls-of, same-words, is-tree}
 use Rattle.tree_theory.proofs.Grown.{Grown}
 use Rattle.tree_theory.proofs.History.{all-grown}
@@ -31,7 +31,7 @@ sized-rows ws h =
 
 -- ---- a tree holds grown nodes
 
-pub grown-stated : (valued : Bool) (k : ℕ) (ns : List Node) → Grown valued k ns → (n : Node) → n ∈ ns → n .status ≢ 0
+pub grown-stated : (valued : Bool) (k : ℕ) (ns : List Node) → Grown valued k ns → (n : Node) → n ∈ ns → n .status ≢ FREE
 grown-stated valued k ns G n m = omega (arith, G .stated n m)
 
 pub grown-fit : (valued : Bool) (ws : List ℕ) (ns : List Node) → sized ws ≡ true → Grown valued (rows ws) ns → 4 * length ns ≤ length ws
