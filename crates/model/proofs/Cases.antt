@@ -4,7 +4,7 @@ use mathlib.Core.Path.{_≡_, refl}
 use mathlib.Core.Bool.{true}
 use mathlib.Core.List.{List, [], _∷_, _++_, map}
 use Prim.Native.Nat.{ℕ}
-use Rattle.tree_theory.specs.Machine.{Call, add, commit, fresh, after, answers, causes, answer, change, step, find, path-in, struck, new-node, committed}
+use Rattle.tree_theory.specs.Machine.{Call, add, commit, fresh, after, answers, causes, answer, change, step, find, path-in, struck, new-node, commit-node}
 use Rattle.xdr.specs.Words.{word, word-at}
 use Rattle.xdr.specs.Items.{integer, encoded}
 use Rattle.message.specs.declared.Message.{Message}
@@ -65,6 +65,6 @@ Holds [] = Unit {0}
 Holds (c ∷ cs) = Meets c × Holds cs
 
 pub rig : Holds cases
-unfolding cases answers after step answer causes change find path-in struck new-node committed reading size decoded encoded word word-at
+unfolding cases answers after step answer causes change find path-in struck new-node commit-node reading size decoded encoded word word-at
 rig =
     ((refl, refl), ((refl, refl), ((refl, refl), ((refl, refl), ((refl, refl), ((refl, refl), ((refl, refl), ((refl, refl), ((refl, refl), ((refl, refl), ((refl, refl), (refl, (refl, tt)))))))))))))

@@ -10,7 +10,7 @@ use borrow.Author.Tests.{not-false, eq-eqb}
 use Rattle.laws.specs.Tests.{tests, by-test, clash, and-left, or-left, or-right}
 use Rattle.laws.specs.Lists.{_∈_, any, any-none, none-any, cut}
 use Rattle.laws.specs.First.{passed}
-use Rattle.tree_theory.specs.Machine.{Call, add, commit, Node, ADDED, COMMITTED, has-round, present, find, above, strikes, struck, new-node, committed, causes, answer, change, step, after, answers}
+use Rattle.tree_theory.specs.Machine.{Call, add, commit, Node, ADDED, COMMITTED, has-round, present, find, above, strikes, struck, new-node, commit-node, causes, answer, change, step, after, answers}
 use Rattle.tree_theory.proofs.Grown.{Grown, placed-cut}
 use Rattle.tree_theory.proofs.History.{step-ok}
 use Rattle.tree_theory.proofs.Steps.{step-grown}
@@ -50,21 +50,21 @@ distinct-head : (n : Node) (ns : List Node) → Distinct (n ∷ ns) → present 
 distinct-head n ns d = none-any (has-round (n .round)) ns (λ k i. cut i (λ pre post e.
     omega (tests, or-left (has-round (k .round) n) (present (k .round) pre) (d (n ∷ pre) post k (ap (λ l. n ∷ l) e)))))
 
-committed-other : (r : ℕ) (n : Node) → has-round r n ≡ false → eqb (committed r n .status) COMMITTED ≡ eqb (n .status) COMMITTED
-unfolding committed
+committed-other : (r : ℕ) (n : Node) → has-round r n ≡ false → eqb (commit-node r n .status) COMMITTED ≡ eqb (n .status) COMMITTED
+unfolding commit-node
 committed-other r n t = rw t refl
 
 -- one node more is COMMITTED
 one-more : (r : ℕ) (ns : List Node) → Distinct ns → present r ns ≡ true → eqb (find r ns .status) COMMITTED ≡ false →
-    committed-nodes (map (committed r) ns) ≡ suc (committed-nodes ns)
-unfolding committed-nodes committed find
+    committed-nodes (map (commit-node r) ns) ≡ suc (committed-nodes ns)
+unfolding committed-nodes commit-node find
 one-more r [] d p s = clash p refl
 one-more r (n ∷ ns) d p s =
     by-test (has-round r n)
     (λ t. let e : n .round ≡ r = omega tests in
     let gone : present r ns ≡ false = rw e at (distinct-head n ns d) in
-    rw (t, rw t at s) (ap suc (kept-count (committed r) ns (λ k i. committed-other r k (any-none (has-round r) ns gone k i)))))
-    (λ t. let rest : committed-nodes (map (committed r) ns) ≡ suc (committed-nodes ns) = one-more r ns (distinct-tail n ns d) (rw t at p) (rw t at s) in
+    rw (t, rw t at s) (ap suc (kept-count (commit-node r) ns (λ k i. committed-other r k (any-none (has-round r) ns gone k i)))))
+    (λ t. let rest : committed-nodes (map (commit-node r) ns) ≡ suc (committed-nodes ns) = one-more r ns (distinct-tail n ns d) (rw t at p) (rw t at s) in
     by-test (eqb (n .status) COMMITTED) (λ u. rw (t, u) (ap suc rest)) (λ u. rw (t, u) rest))
 
 grown-distinct : (valued : Bool) (rows : ℕ) (ns : List Node) → Grown valued rows ns → Distinct ns

@@ -14,7 +14,7 @@ use Rattle.quorum.proofs.Meet.{wider, both, of-odd}
 use Rattle.member_record.specs.Phases.{needed}
 use Rattle.tree_theory.specs.Machine.{Call, add, commit, crosses}
 use Rattle.tree_theory.specs.Properties.{round-of, adds, commits, edge-crosses}
-use Rattle.tree_theory.proofs.Calls.{Next, grow, adds-intro, adds-with-intro}
+use Rattle.tree_theory.proofs.Calls.{NextCall, grow, adds-intro, adds-with-intro}
 use Rattle.message.specs.declared.Message.{Message}
 use Rattle.member_record.specs.Record.{allowed}
 use Rattle.member.specs.Table.{Named, proposal, decision}
@@ -53,7 +53,7 @@ module _ (z : Sizes) (sent : List Message) (made : List Named) (offers : List �
   module _ (r x b : ℕ) (ranged : out-of-range r ≡ false) (new : (y c : ℕ) → proposal r y c ∈ made → ⊥) (lower : b < r)
       (parent : 0 < b → Added made b x) (J : Quorum (z .n) (join-quorum (z .n)) (Joined sent r b)) (from : x ∈ offers)
       (row : suc (proposals made) < z .table) (gs : List Message) (xs : List ℕ) where
-    add-next : Next true (calls made) (add r x b)
+    add-next : NextCall true (calls made) (add r x b)
     add-next = record {
       new = none-any (adds r) (calls made) fresh-round;
       lower = lower;
@@ -85,7 +85,7 @@ module _ (z : Sizes) (sent : List Message) (made : List Named) (offers : List �
   -- one more decision
   module _ (r x b : ℕ) (ranged : out-of-range r ≡ false) (new : (y : ℕ) → decision r y ∈ made → ⊥) (follows : proposal r x b ∈ made)
       (W : Quorum (z .n) (vote-quorum (z .n)) (Voted sent r)) (gs : List Message) (xs : List ℕ) where
-    commit-next : Next true (calls made) (commit r)
+    commit-next : NextCall true (calls made) (commit r)
     commit-next = record {
       follows = adds-intro (calls made) (proposal-call made follows);
       new = none-any (commits r) (calls made) fresh-round;

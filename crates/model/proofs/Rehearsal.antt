@@ -4,7 +4,7 @@ use mathlib.Core.Path.{_≡_, refl}
 use mathlib.Core.List.{List, [], _∷_}
 use Prim.Native.Nat.{ℕ}
 use Rattle.quorum.specs.Count.{some}
-use Rattle.tree_theory.specs.Machine.{ADDED, COMMITTED, node, add, commit, struck, new-node, find, path-in, committed}
+use Rattle.tree_theory.specs.Machine.{ADDED, COMMITTED, node-of, add, commit, struck, new-node, find, path-in, commit-node}
 use Rattle.tree_theory.specs.Machine.{after as after-calls}
 use Rattle.model.specs.Model.{Sizes, Event, start, deliver, first-office, after, answers, offered}
 use Rattle.model.specs.Demand.{calls, ended}
@@ -26,11 +26,11 @@ record Rehearsed : Type 0 where
   -- round 2 proposes the value voted for in round 1, behind that round
   calls-are : calls (ended (sizes 1000 64) rehearsal .made) ≡ add 1 70 0 ∷ add 2 70 1 ∷ commit 1 ∷ []
   -- the three nodes that 01 prints
-  nodes-are : tree (sizes 1000 64) (ended (sizes 1000 64) rehearsal) ≡ node 0 0 0 COMMITTED ∷ node 1 0 70 COMMITTED ∷ node 2 1 70 ADDED ∷ []
+  nodes-are : tree (sizes 1000 64) (ended (sizes 1000 64) rehearsal) ≡ node-of 0 0 0 COMMITTED ∷ node-of 1 0 70 COMMITTED ∷ node-of 2 1 70 ADDED ∷ []
   offers-are : offered (sizes 1000 64) (first-office 3) rehearsal ≡ 70 ∷ 80 ∷ []
 
 rehearsed : Rehearsed
-unfolding answers offered after first-office calls after-calls some struck new-node find path-in committed
+unfolding answers offered after first-office calls after-calls some struck new-node find path-in commit-node
 rehearsed = record { answers-are = refl; calls-are = refl; nodes-are = refl; offers-are = refl }
 
 record Numbers : Type 0 where

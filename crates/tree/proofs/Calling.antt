@@ -10,11 +10,11 @@ use Rattle.laws.specs.Tests.{by-test, and-left, and-right}
 use Rattle.laws.specs.First.{Cause, first, passed}
 use Rattle.numbers.specs.Numbers.{OK}
 use Rattle.tree_theory.specs.Machine.{Call, answer, causes}
-use Rattle.tree_theory.specs.Table.{rows, nodes, sized, table, Tree, is-tree, table-causes, call-number, call-table}
+use Rattle.tree_theory.specs.Table.{rows, nodes, sized, table, Tree, is-tree, table-causes, call-number}
 use Rattle.tree_theory.proofs.History.{step-ok, step-refused}
 use Rattle.tree_theory.proofs.Trees.{tree-held, is-tree-exact}
 use Rattle.tree_theory.proofs.Steps.{step-tree, tree-number, tree-table, table-refused}
-use Rattle.tree_steps.specs.Planned.{written, Planned}
+use Rattle.tree_steps.specs.Planned.{call-written, Planned}
 use Rattle.tree.specs.Promises.{stepped-table, CalledOnTable, CalledOnTree}
 
 module _ {valued : Bool} {ws : List ℕ} (h : sized ws ≡ true) (T : Tree valued ws) {c : Call} {number row status : ℕ}
@@ -28,7 +28,7 @@ module _ {valued : Bool} {ws : List ℕ} (h : sized ws ≡ true) (T : Tree value
       record { number-is = P .number-is; table-is = w; tree = T }
 
   -- an accepted one leaves what was planned
-  pub done : {ws′ : List ℕ} → number ≡ OK → ws′ ≡ written ws c row status → CalledOnTree valued ws c number ws′
+  pub done : {ws′ : List ℕ} → number ≡ OK → ws′ ≡ call-written ws c row status → CalledOnTree valued ws c number ws′
   done {ws′ = ws′} z w =
       let t : eqb (answer valued (rows ws) (nodes ws) c) OK ≡ true = eq-eqb _ _ (sym (P .number-is) ∙ z) in
       let w′ : ws′ ≡ stepped-table valued ws c = w ∙ P .makes z ∙ ap (table (length ws)) (sym (step-ok valued (rows ws) (nodes ws) c t)) in

@@ -7,10 +7,10 @@ use lib.ListN.{length, set}
 use Rattle.laws.specs.Tests.{by-test}
 use Rattle.tree_theory.specs.Machine.{ADDED, GHOST, crossed-with, strike-crossed}
 use Rattle.tree_theory.specs.Table.{row}
-use Rattle.tree_table.proofs.Rows.{Passed, pass-row, pass-keep, pass-set}
+use Rattle.tree_table.proofs.Rows.{PassedRows, pass-row, pass-keep, pass-set}
 
-pub struck-more : (r p : ℕ) (t₀ : List ℕ) (i : ℕ) (t t′ : List ℕ) → Passed (strike-crossed r p) t₀ i t → 4 * i + 4 ≤ length t₀ →
-    t′ ≡ cond (crossed-with ADDED r p (row t i)) (set t (4 * i + 3) GHOST) t → Passed (strike-crossed r p) t₀ (i + 1) t′
+pub struck-more : (r p : ℕ) (t₀ : List ℕ) (i : ℕ) (t t′ : List ℕ) → PassedRows (strike-crossed r p) t₀ i t → 4 * i + 4 ≤ length t₀ →
+    t′ ≡ cond (crossed-with ADDED r p (row t i)) (set t (4 * i + 3) GHOST) t → PassedRows (strike-crossed r p) t₀ (i + 1) t′
 struck-more r p t₀ i t t′ P h e =
     let old : row t i ≡ row t₀ i = pass-row (strike-crossed r p) t₀ i t P in
     let e′ : t′ ≡ cond (crossed-with ADDED r p (row t₀ i)) (set t (4 * i + 3) GHOST) t =

@@ -14,8 +14,8 @@ use Rattle.laws.specs.Lists.{any, any-append, any-intro}
 use Rattle.laws.specs.First.{passed}
 use Rattle.ids.specs.Ranges.{out-of-range, above-range}
 use Rattle.numbers.specs.Numbers.{OK}
-use Rattle.tree_theory.specs.Machine.{Node, Call, add, commit, ADDED, GHOST, COMMITTED, has-round, present, find, above, causes, answer}
-use Rattle.tree_theory.specs.Machine.{struck, strike-crossed, committed, new-node, change}
+use Rattle.tree_theory.specs.Machine.{Node, add, commit, ADDED, GHOST, COMMITTED, has-round, present, above, causes, answer}
+use Rattle.tree_theory.specs.Machine.{struck, strike-crossed, commit-node, new-node, change}
 use Rattle.tree_theory.specs.Table.{row, rows, rows-of, used, nodes, words, sized, table, Tree}
 use Rattle.tree_theory.proofs.Words.{length-words, length-rows, used-rows, row-in, free-word}
 use Rattle.tree_theory.proofs.Nodes.{find-left, find-round}
@@ -23,8 +23,8 @@ use Rattle.tree_theory.proofs.Grown.{placed-cut}
 use Rattle.tree_theory.proofs.Paths.{struck-crossed, accepted-parent}
 use Rattle.tree_theory.proofs.Trees.{tree-held}
 use Rattle.tree_table.specs.Rows.{row-index}
-use Rattle.tree_table.proofs.Rows.{rows-from, rows-more, rows-split, index-left, index-there, found-at, Passed, pass-none, pass-on, pass-set, pass-end}
-use Rattle.tree_steps.specs.Planned.{written, Planned}
+use Rattle.tree_table.proofs.Rows.{rows-from, rows-more, rows-split, index-left, index-there, found-at, PassedRows, pass-none, pass-on, pass-set, pass-end}
+use Rattle.tree_steps.specs.Planned.{Planned}
 
 -- what the test of a round's range left behind
 module _ (r : ℕ) {b : Bool} (e : b ≡ not (out-of-range r)) where
@@ -130,19 +130,19 @@ module _ (valued : Bool) (ws : List ℕ) (h : sized ws ≡ true) (T : Tree value
 
   -- the status of row k set, where that is the row of r
   committed-row : (r k : ℕ) → k < used ws → row ws k .round ≡ r → set ws (4 * k + 3) COMMITTED ≡ table (length ws) (change (nodes ws) (commit r))
-  unfolding table change committed
+  unfolding table change commit-node
   committed-row r k a e =
       let n = used ws in
-      let f = committed r in
+      let f = commit-node r in
       let room : 4 * n ≤ length ws = omega (arith, used-rows ws) in
       let other : (j : ℕ) → j < n → j ≢ k → row ws j .round ≢ r = λ j b d q.
       by-test (ltb j k) (λ y. apart j k (ltb-true j k y) a (q ∙ sym e)) (λ y. apart k j (omega (tests, d)) b (e ∙ sym q)) in
       let keep : (j : ℕ) → j < n → j ≢ k → f (row ws j) ≡ row ws j = λ j b d. rw (ne-eqb (row ws j .round) r (other j b d)) refl in
-      let before : Passed f ws (0 + k) ws = pass-on f ws ws k 0 (pass-none f ws) (omega arith) (λ j b c. keep j (omega arith) (omega arith)) in
+      let before : PassedRows f ws (0 + k) ws = pass-on f ws ws k 0 (pass-none f ws) (omega arith) (λ j b c. keep j (omega arith) (omega arith)) in
       let z : 0 + k ≡ k = omega arith in
-      let at : Passed f ws (k + 1) (set ws (4 * k + 3) COMMITTED) =
-      pass-set f ws k ws COMMITTED (subst (λ i. Passed f ws i ws) z before) (omega arith) (rw (eq-eqb (row ws k .round) r e) refl) in
-      let all : Passed f ws (k + 1 + (n - (k + 1))) (set ws (4 * k + 3) COMMITTED) =
+      let at : PassedRows f ws (k + 1) (set ws (4 * k + 3) COMMITTED) =
+      pass-set f ws k ws COMMITTED (subst (λ i. PassedRows f ws i ws) z before) (omega arith) (rw (eq-eqb (row ws k .round) r e) refl) in
+      let all : PassedRows f ws (k + 1 + (n - (k + 1))) (set ws (4 * k + 3) COMMITTED) =
       pass-on f ws (set ws (4 * k + 3) COMMITTED) (n - (k + 1)) (k + 1) at (omega arith) (λ j b c. keep j (omega arith) (omega arith)) in
       let l : length (map f (nodes ws)) ≡ n = length-map (nodes ws) f ∙ length-rows ws n in
       let m : length ws - 4 * n - 0 ≡ length ws - 4 * length (map f (nodes ws)) = omega (arith, l) in

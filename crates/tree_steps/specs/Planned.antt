@@ -5,7 +5,7 @@ use mathlib.Core.List.{List, [], _∷_, _++_, map}
 use Prim.Native.Nat.{ℕ, _+_, _*_, _≤_}
 use lib.ListN.{length, set, drop}
 use Rattle.numbers.specs.Numbers.{OK}
-use Rattle.tree_theory.specs.Machine.{Call, add, commit, node, strike-crossed, answer, change}
+use Rattle.tree_theory.specs.Machine.{Call, add, commit, node-of, strike-crossed, answer, change}
 use Rattle.tree_theory.specs.Table.{rows, rows-of, nodes, words, table}
 use Rattle.tree_steps.specs.declared.call.TreeCall.{TreeCall}
 use Rattle.tree_steps.specs.declared.call.TreeCall.the-variants as tree-call
@@ -16,12 +16,12 @@ call-of (tree-call.Add r v p) = add (r .0) v (p .0)
 call-of (tree-call.Commit r) = commit (r .0)
 
 -- what a call writes into row n with status s: an add its node behind the n rows that its edge strikes, a commit the status
-abbrev pub written : List ℕ → Call → ℕ → ℕ → List ℕ
-written ws (add r v p) n s = words (map (strike-crossed r p) (rows-of ws n) ++ node r p v s ∷ []) ++ drop (4 * n + 4) ws
-written ws (commit r) n s = set ws (4 * n + 3) s
+abbrev pub call-written : List ℕ → Call → ℕ → ℕ → List ℕ
+call-written ws (add r v p) n s = words (map (strike-crossed r p) (rows-of ws n) ++ node-of r p v s ∷ []) ++ drop (4 * n + 4) ws
+call-written ws (commit r) n s = set ws (4 * n + 3) s
 
 -- the machine's number and, where that is OK, a row and a status which, written, make the machine's table
 pub record Planned (valued : Bool) (ws : List ℕ) (c : Call) (number row status : ℕ) : Type 0 where
   pub number-is : number ≡ answer valued (rows ws) (nodes ws) c
   pub fits : number ≡ OK → 4 * row + 4 ≤ length ws
-  pub makes : number ≡ OK → written ws c row status ≡ table (length ws) (change (nodes ws) c)
+  pub makes : number ≡ OK → call-written ws c row status ≡ table (length ws) (change (nodes ws) c)

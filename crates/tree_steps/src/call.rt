@@ -5,7 +5,7 @@ ghost use mathlib.Core.Bool.{true};
 ghost use Prim.Native.Nat.{_+_, _*_, _≤_};
 ghost use lib.ListN.{length};
 ghost use Rattle.tree_theory.specs.Table.{sized, Tree};
-ghost use Rattle.tree_steps.specs.Planned.{call-of, written, Planned};
+ghost use Rattle.tree_steps.specs.Planned.{call-of, call-written, Planned};
 
 pub enum TreeCall {
     Add {
@@ -43,7 +43,7 @@ pub fn plan_call(valued: bool, t: &[u64], call: TreeCall) -> Plan
 // Writes an accepted call into its row: an add puts its node there behind the rows that its edge strikes, a commit sets the status.
 pub fn write_call(t: &mut [u64], call: TreeCall, row: usize, status: u64)
     requires { ⌜ 4 * row + 4 ≤ length (now t) ⌝ }
-    ensures { λ _. ⌜ now (t .exit) ≡ written (now (t .entry)) (call-of call) row status ⌝ }
+    ensures { λ _. ⌜ now (t .exit) ≡ call-written (now (t .entry)) (call-of call) row status ⌝ }
 {
     match call {
         TreeCall::Add {

@@ -29,7 +29,7 @@ fn commit_number(t: &[u64], k: usize, r: Round) -> u32
     numbers::OK
 }
 
-// Free rows have round 0, so that a search over all rows finds a used one.
+// Free rows have round 0, so that a search over all rows finds a used one. `valued` only says of which kind the tree is.
 pub fn plan_commit(valued: bool, t: &[u64], r: Round) -> Plan
     requires { ⌜ (sized (now t) ≡ true) × Tree valued (now t) ⌝ }
     ensures { λ q. ⌜ Planned valued (now (t .entry)) (commit (r .0)) (q .number) (q .row) (q .status) ⌝ }

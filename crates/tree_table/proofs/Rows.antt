@@ -10,7 +10,7 @@ use lib.ListN.{length, getD, set, drop, length-map}
 use lib.Seq.{drop-cons, getD-append-add, append-snoc, getD-drop}
 use lib.Dec.{leb, ltb}
 use borrow.Author.Tests.{eq-eqb, ne-eqb, le-leb, lt-leb, lt-ltb, le-ltb, ltb-true, ltb-false}
-use Rattle.laws.specs.Tests.{by-test, clash, same-test, tests}
+use Rattle.laws.specs.Tests.{by-test, clash, same-test}
 use Rattle.laws.specs.Lists.{any, any-append, any-snoc, map-append}
 use Rattle.tree_theory.specs.Machine.{Node, root, FREE, has-round, present, find, with-status}
 use Rattle.tree_theory.specs.Table.{row, rows-of, used-from, words}
@@ -174,12 +174,12 @@ set-fourth (x ∷ xs) a b c d s ds =
     let e : suc (length xs) + 3 ≡ suc (length xs + 3) = omega arith in
     rw (e, set-fourth xs a b c d s ds) refl
 
--- A pass: `Passed f t₀ i t` says that f was applied to the first i rows of t₀, and that the rest is as it was.
-pub record Passed (f : Node → Node) (t₀ : List ℕ) (i : ℕ) (t : List ℕ) : Type 0 where
+-- A pass: `PassedRows f t₀ i t` says that f was applied to the first i rows of t₀, and that the rest is as it was.
+pub record PassedRows (f : Node → Node) (t₀ : List ℕ) (i : ℕ) (t : List ℕ) : Type 0 where
   pub is : t ≡ words (map f (rows-of t₀ i)) ++ drop (4 * i) t₀
 
 module _ (f : Node → Node) (t₀ : List ℕ) where
-  pub pass-none : Passed f t₀ 0 t₀
+  pub pass-none : PassedRows f t₀ 0 t₀
   unfolding rows-of words
   pass-none = record { is = refl }
 
@@ -187,7 +187,7 @@ module _ (f : Node → Node) (t₀ : List ℕ) where
   length-front i = rw (length-words (map f (rows-of t₀ i)), length-map (rows-of t₀ i) f, length-rows t₀ i) refl
 
   -- the next row is still the old one
-  pub pass-row : (i : ℕ) (t : List ℕ) → Passed f t₀ i t → row t i ≡ row t₀ i
+  pub pass-row : (i : ℕ) (t : List ℕ) → PassedRows f t₀ i t → row t i ≡ row t₀ i
   pass-row i t P =
       rw (P .is)
       (λ j. record {
@@ -205,7 +205,7 @@ module _ (f : Node → Node) (t₀ : List ℕ) where
           getD-drop (4 * i) t₀ k 0
 
   -- one row more: what t becomes when f of the next row stands in its place
-  pub pass-more : (i : ℕ) (t : List ℕ) → t ≡ words (map f (rows-of t₀ i)) ++ (words (f (row t₀ i) ∷ []) ++ drop (4 * suc i) t₀) → Passed f t₀ (i + 1) t
+  pub pass-more : (i : ℕ) (t : List ℕ) → t ≡ words (map f (rows-of t₀ i)) ++ (words (f (row t₀ i) ∷ []) ++ drop (4 * suc i) t₀) → PassedRows f t₀ (i + 1) t
   unfolding rows-of
   pass-more i t e =
       record {
@@ -215,12 +215,12 @@ module _ (f : Node → Node) (t₀ : List ℕ) where
       }
 
   -- the row stays
-  pub pass-keep : (i : ℕ) (t : List ℕ) → Passed f t₀ i t → 4 * i + 4 ≤ length t₀ → f (row t₀ i) ≡ row t₀ i → Passed f t₀ (i + 1) t
+  pub pass-keep : (i : ℕ) (t : List ℕ) → PassedRows f t₀ i t → 4 * i + 4 ≤ length t₀ → f (row t₀ i) ≡ row t₀ i → PassedRows f t₀ (i + 1) t
   pass-keep i t P h k = pass-more i t (P .is ∙ rw (row-ahead t₀ i h, k) refl)
 
   -- its status is set
-  pub pass-set : (i : ℕ) (t : List ℕ) (s : ℕ) → Passed f t₀ i t → 4 * i + 4 ≤ length t₀ → f (row t₀ i) ≡ with-status (row t₀ i) s →
-      Passed f t₀ (i + 1) (set t (4 * i + 3) s)
+  pub pass-set : (i : ℕ) (t : List ℕ) (s : ℕ) → PassedRows f t₀ i t → 4 * i + 4 ≤ length t₀ → f (row t₀ i) ≡ with-status (row t₀ i) s →
+      PassedRows f t₀ (i + 1) (set t (4 * i + 3) s)
   unfolding words
   pass-set i t s P h k =
       let n = row t₀ i in
@@ -230,12 +230,12 @@ module _ (f : Node → Node) (t₀ : List ℕ) where
       rw k (rw (length-front i) at (set-fourth front (n .round) (n .parent) (n .value) (n .status) s (drop (4 * suc i) t₀))))
 
   -- rows that f leaves as they are
-  pub pass-on : (t : List ℕ) (d i : ℕ) → Passed f t₀ i t → 4 * (i + d) ≤ length t₀ → ((j : ℕ) → i ≤ j → j < i + d → f (row t₀ j) ≡ row t₀ j) →
-      Passed f t₀ (i + d) t
+  pub pass-on : (t : List ℕ) (d i : ℕ) → PassedRows f t₀ i t → 4 * (i + d) ≤ length t₀ → ((j : ℕ) → i ≤ j → j < i + d → f (row t₀ j) ≡ row t₀ j) →
+      PassedRows f t₀ (i + d) t
   pass-on t zero i P h k = rw (add-zero i) P
   pass-on t (suc d) i P h k =
       let e : i + suc d ≡ i + 1 + d = omega arith in
       rw e (pass-on t d (i + 1) (pass-keep i t P (omega arith) (k i (omega arith) (omega arith))) (omega arith) (λ j a b. k j (omega arith) (omega arith)))
 
-  pub pass-end : (i n : ℕ) (t : List ℕ) → i ≤ n → n ≤ i → Passed f t₀ i t → t ≡ words (map f (rows-of t₀ n)) ++ drop (4 * n) t₀
+  pub pass-end : (i n : ℕ) (t : List ℕ) → i ≤ n → n ≤ i → PassedRows f t₀ i t → t ≡ words (map f (rows-of t₀ n)) ++ drop (4 * n) t₀
   pass-end i n t a b P = let e : i ≡ n = omega arith in rw e at (P .is)

@@ -13,24 +13,24 @@ use Rattle.laws.specs.Lists.{_∈_, any, any-snoc, any-intro, any-elim, any-non
 use Rattle.laws.specs.First.{passed, zero-of}
 use Rattle.ids.specs.Ranges.{out-of-range, above-range}
 use Rattle.tree_theory.specs.Machine.{Call, add, commit, Node, ADDED, GHOST, COMMITTED, crosses, present, find, above, blocks, other-value}
-use Rattle.tree_theory.specs.Machine.{struck, new-node, committed, causes, answer, change}
+use Rattle.tree_theory.specs.Machine.{struck, new-node, commit-node, causes, answer, change}
 use Rattle.tree_theory.specs.Properties.{history, round-of, adds-in, adds, commits, adds-with, edge-crosses}
 use Rattle.tree_theory.proofs.Grown.{absent-crossed}
 use Rattle.tree_theory.proofs.Paths.{crossing-alone}
-use Rattle.tree_theory.proofs.Calls.{Next, AddNext, CommitNext, grow, adds-elim, commits-elim, edge-elim, adds-intro, commits-intro}
+use Rattle.tree_theory.proofs.Calls.{NextCall, AddNext, CommitNext, grow, adds-elim, commits-elim, edge-elim, adds-intro, commits-intro}
 use Rattle.tree_theory.proofs.Calls.{adds-with-elim, adds-with-intro, committed-added, adds-in-append}
-use Rattle.tree_theory.proofs.Rebuilt.{cons-same, history-committed, history-ghost, made, added, rebuilt, Story, grown, added-append, length-added}
+use Rattle.tree_theory.proofs.Rebuilt.{cons-same, history-committed, history-ghost, made, added-nodes, rebuilt, Story, grown, added-append, length-added}
 use Rattle.tree_theory.proofs.Rebuilt.{in-added, of-added, map-added, crossed-rebuilt, present-rebuilt, find-rebuilt, round-positive}
 
 -- an add needs a row beside those used
-abbrev pub Room : ℕ → List Call → Call → Type 0
-Room rows h (add r v p) = suc (adds-in h) < rows
-Room rows h (commit r) = Unit {0}
+abbrev pub RowLeft : ℕ → List Call → Call → Type 0
+RowLeft rows h (add r v p) = suc (adds-in h) < rows
+RowLeft rows h (commit r) = Unit {0}
 
-pub record Allowed (valued : Bool) (rows : ℕ) (h : List Call) (c : Call) : Type 0 where
-  pub next : Next valued h c
+pub record CallAllowed (valued : Bool) (rows : ℕ) (h : List Call) (c : Call) : Type 0 where
+  pub next : NextCall valued h c
   pub ranged : out-of-range (round-of c) ≡ false
-  pub room : Room rows h c
+  pub room : RowLeft rows h c
 
 in-range-positive : (r : ℕ) → out-of-range r ≡ false → 0 < r
 in-range-positive r h = omega (tests, or-left (eqb r 0) (above-range r) h)
@@ -106,7 +106,7 @@ module _ (valued : Bool) (rows : ℕ) (h : List Call) (S : Story valued rows h) 
       (λ t. rw t refl)
       (λ t. present-rebuilt valued rows h S p (omega tests) ∙ adds-with-elim valued p v h (f (omega tests)) (λ w q m e. adds-intro h m))
 
-  pub ok-allowed : (c : Call) → answer valued rows (rebuilt h) c ≡ 0 → Allowed valued rows h c
+  pub ok-allowed : (c : Call) → answer valued rows (rebuilt h) c ≡ 0 → CallAllowed valued rows h c
   unfolding answer
   ok-allowed (add r v p) z =
       let (a3, (a4, (a5, (a6, (a7, (a8, (a9, _))))))) = passed (causes valued rows (rebuilt h) (add r v p)) refl z in
@@ -138,7 +138,7 @@ module _ (valued : Bool) (rows : ℕ) (h : List Call) (S : Story valued rows h) 
         room = tt;
       })
 
-  pub allowed-ok : (c : Call) → Allowed valued rows h c → answer valued rows (rebuilt h) c ≡ 0
+  pub allowed-ok : (c : Call) → CallAllowed valued rows h c → answer valued rows (rebuilt h) c ≡ 0
   unfolding answer
   allowed-ok (add r v p) A =
       let N : AddNext valued h r v p = A .next in
@@ -169,7 +169,7 @@ module _ (valued : Bool) (rows : ℕ) (h : List Call) (S : Story valued rows h) 
         ),
       ))
 
-  pub story-next : (c : Call) → Allowed valued rows h c → Story valued rows (h ++ c ∷ [])
+  pub story-next : (c : Call) → CallAllowed valued rows h c → Story valued rows (h ++ c ∷ [])
   unfolding adds-in
   story-next c A = record {
     properties = grow valued h c (S .properties) (A .next);
@@ -177,11 +177,11 @@ module _ (valued : Bool) (rows : ℕ) (h : List Call) (S : Story valued rows h) 
     room = λ pos. rw (adds-in-append h (c ∷ [])) (fits c (A .room) (S .room pos));
   }
     where
-      fits : (c : Call) → Room rows h c → adds-in h < rows → adds-in h + adds-in (c ∷ []) < rows
+      fits : (c : Call) → RowLeft rows h c → adds-in h < rows → adds-in h + adds-in (c ∷ []) < rows
       fits (add r v p) a b = omega arith
       fits (commit r) a b = omega arith
 
-  struck-made : (r v p : ℕ) → Allowed valued rows h (add r v p) → (s w q : ℕ) → add s w q ∈ h →
+  struck-made : (r v p : ℕ) → CallAllowed valued rows h (add r v p) → (s w q : ℕ) → add s w q ∈ h →
       struck (rebuilt h) r p (made h s w q) ≡ made (h ++ add r v p ∷ []) s w q
   unfolding struck
   struck-made r v p A s w q m =
@@ -200,7 +200,7 @@ module _ (valued : Bool) (rows : ℕ) (h : List Call) (S : Story valued rows h) 
       absent-crossed valued rows (rebuilt h) (grown valued rows h S) r n m (ltb-true r (n .round) e) (present-rebuilt valued rows h S r pos ∙ new)))
       (λ t. edge-elim r h t (λ s v p m e. any-intro (above r) (rebuilt h) (there (in-added h h m)) (and-right (ltb p r) (ltb r s) e)))
 
-  new-made : (r v p : ℕ) → Allowed valued rows h (add r v p) → new-node (rebuilt h) r v p ≡ made (h ++ add r v p ∷ []) r v p
+  new-made : (r v p : ℕ) → CallAllowed valued rows h (add r v p) → new-node (rebuilt h) r v p ≡ made (h ++ add r v p ∷ []) r v p
   unfolding new-node history
   new-made r v p A =
       let N : AddNext valued h r v p = A .next in
@@ -221,14 +221,14 @@ module _ (valued : Bool) (rows : ℕ) (h : List Call) (S : Story valued rows h) 
       uncommitted : (r : ℕ) → any (adds r) h ≡ false → any (commits r) h ≡ false
       uncommitted r n = by-test (any (commits r) h) (λ t. commits-elim r h t (λ m. clash (committed-added valued h (S .properties) r m) n)) (λ t. t)
 
-  committed-made : (r : ℕ) (s w q : ℕ) → committed r (made h s w q) ≡ made (h ++ commit r ∷ []) s w q
-  unfolding committed
+  committed-made : (r : ℕ) (s w q : ℕ) → commit-node r (made h s w q) ≡ made (h ++ commit r ∷ []) s w q
+  unfolding commit-node
   committed-made r s w q =
       rw (history-commit h r s)
       (by-test (eqb s r) (λ t. rw t refl) (λ t. rw t refl))
 
-  pub changed : (c : Call) → Allowed valued rows h c → change (rebuilt h) c ≡ rebuilt (h ++ c ∷ [])
-  unfolding change struck committed added
+  pub changed : (c : Call) → CallAllowed valued rows h c → change (rebuilt h) c ≡ rebuilt (h ++ c ∷ [])
+  unfolding change struck commit-node added-nodes
   changed (add r v p) A =
       cons-same refl
       (rw (
@@ -241,5 +241,5 @@ module _ (valued : Bool) (rows : ℕ) (h : List Call) (S : Story valued rows h) 
       (rw (
         added-append (h ++ commit r ∷ []) h (commit r ∷ []),
         append-nil,
-        map-added h (h ++ commit r ∷ []) (committed r) h (λ s w q m. committed-made r s w q),
+        map-added h (h ++ commit r ∷ []) (commit-node r) h (λ s w q m. committed-made r s w q),
       ) refl)

@@ -74,9 +74,9 @@ pub record CommitNext (h : List Call) (r : ℕ) : Type 0 where
   pub new : any (commits r) h ≡ false
   pub clear : any (edge-crosses r) h ≡ false
 
-abbrev pub Next : Bool → List Call → Call → Type 0
-Next valued h (add r v p) = AddNext valued h r v p
-Next valued h (commit r) = CommitNext h r
+abbrev pub NextCall : Bool → List Call → Call → Type 0
+NextCall valued h (add r v p) = AddNext valued h r v p
+NextCall valued h (commit r) = CommitNext h r
 
 pub none : (valued : Bool) → Properties valued []
 none valued = record {
@@ -114,7 +114,7 @@ prefix valued h k P = record {
     longer : (pre post : List Call) (c : Call) → h ≡ pre ++ c ∷ post → h ++ k ≡ pre ++ c ∷ (post ++ k)
     longer pre post c e = ap (λ l. l ++ k) e ∙ append-assoc pre (c ∷ post) k
 
-pub next-of : (valued : Bool) (h : List Call) (c : Call) (k : List Call) → Properties valued (h ++ c ∷ k) → Next valued h c
+pub next-of : (valued : Bool) (h : List Call) (c : Call) (k : List Call) → Properties valued (h ++ c ∷ k) → NextCall valued h c
 next-of valued h (add r v p) k P = record {
   new = P .one-add h k r v p refl;
   lower = P .lower r v p (in-cut h (add r v p) k);
@@ -128,7 +128,7 @@ next-of valued h (commit r) k P = record {
       (sym (any-append (edge-crosses r) h (commit r ∷ k)) ∙ committed-uncrossed valued (h ++ commit r ∷ k) P r (in-cut h (commit r) k));
 }
 
-pub grow : (valued : Bool) (h : List Call) (c : Call) → Properties valued h → Next valued h c → Properties valued (h ++ c ∷ [])
+pub grow : (valued : Bool) (h : List Call) (c : Call) → Properties valued h → NextCall valued h c → Properties valued (h ++ c ∷ [])
 grow valued h (add r v p) P N = record {
   one-add = λ pre post r₁ v₁ p₁ e. snoc-cut h pre post (add r v p) (add r₁ v₁ p₁) e
       (λ rest q z. P .one-add pre rest r₁ v₁ p₁ q)

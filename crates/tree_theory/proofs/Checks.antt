@@ -14,10 +14,10 @@ use Rattle.laws.specs.Lists.{_∈_, none-any}
 use Rattle.tree_theory.specs.Machine.{Node, root, GHOST}
 use Rattle.tree_theory.specs.Table.{sized, rows, table, row, rows-of, used, nodes, behind-root, is-tree}
 use Rattle.tree_theory.specs.Check.{edge-over, crossed, is-root, row-fits, fits-to, free-zero, checks}
-use Rattle.tree_theory.proofs.Grown.{Grown, Placed, placed-cut}
+use Rattle.tree_theory.proofs.Grown.{Grown, Placed, Stated, placed-cut}
 use Rattle.tree_theory.proofs.Words.{length-rows, getD-rows, take-rows, row-in, in-row, rows-cut, words-rows, used-rows, free-word}
 use Rattle.tree_theory.proofs.Fits.{Fit, fit-of, of-fit, root-of, first-row, later-row, fits-at, fits-all, zeros-all, zeros-drop}
-use Rattle.tree_theory.proofs.Trees.{Held, tree-held, tree-of, held-is-tree}
+use Rattle.tree_theory.proofs.Trees.{HoldsGrown, tree-held, tree-of, held-is-tree}
 
 checks-says : (valued : Bool) (ws : List ℕ) → checks valued ws ≡ (leb 1 (used ws) && (fits-to valued ws (used ws) (used ws) && free-zero ws))
 unfolding checks
@@ -51,11 +51,11 @@ module _ (valued : Bool) (ws : List ℕ) (n : ℕ) (some : 0 < n) (bound : n ≤
       let w : length (root ∷ pre) ≡ length (rows-of ws i) = ap length a in
       rw (a, b) (later-fit i (omega (arith, length-rows ws i)) l .placed))
 
-  rows-stated : (x : Node) → x ∈ rows-of ws n → (0 < x .status) × (x .status ≤ 3)
+  rows-stated : (x : Node) → x ∈ rows-of ws n → Stated x
   rows-stated x m = in-row ws n m (λ i l e.
       by-test (eqb i 0)
       (λ t. let z : x ≡ root = e ∙ rw (eqb-true i 0 t) first-is-root in rw z (omega arith))
-      (λ t. subst (λ y. (0 < y .status) × (y .status ≤ 3)) (sym e) (later-fit i (omega tests) l .stated)))
+      (λ t. subst Stated (sym e) (later-fit i (omega tests) l .stated)))
 
   rows-ghosts : (x : Node) → x ∈ rows-of ws n → eqb (x .status) GHOST ≡ crossed (x .round) (rows-of ws n)
   rows-ghosts x m = in-row ws n m (λ i l e.
@@ -72,7 +72,7 @@ module _ (valued : Bool) (ws : List ℕ) (n : ℕ) (some : 0 < n) (bound : n ≤
     ghosts = rows-ghosts;
   }
 
-checks-held : (valued : Bool) (ws : List ℕ) → checks valued ws ≡ true → Held valued ws
+checks-held : (valued : Bool) (ws : List ℕ) → checks valued ws ≡ true → HoldsGrown valued ws
 unfolding table
 checks-held valued ws h =
     let tail : Bool = fits-to valued ws (used ws) (used ws) && free-zero ws in
@@ -113,7 +113,7 @@ module _ (valued : Bool) (ws : List ℕ) (n : ℕ) (G : Grown valued (rows ws) (
         ghost = G .ghosts (row ws i) (row-in ws n i l);
       }))
 
-held-checks : (valued : Bool) (ws : List ℕ) → Held valued ws → checks valued ws ≡ true
+held-checks : (valued : Bool) (ws : List ℕ) → HoldsGrown valued ws → checks valued ws ≡ true
 held-checks valued ws H =
     checks-says valued ws ∙
     and-intro (le-leb 1 (used ws) (rows-some valued ws (used ws) (H .grown)))

@@ -7,18 +7,18 @@ use native.Mathlib.Omega.{arith}
 use lib.ListN.{length, getD, drop, replicate, length-drop, length-replicate, getD-replicate}
 use lib.Seq.{ext-getD, getD-drop}
 use lib.Dec.{ltb, eqb}
-use borrow.Author.Tests.{eqb-true, eq-eqb, ne-eqb, lt-ltb, le-ltb, ltb-true, not-true, not-false}
+use borrow.Author.Tests.{eqb-true, eq-eqb, ne-eqb, lt-ltb, ltb-true, not-true, not-false}
 use Rattle.laws.specs.Tests.{by-test, tests, and-left, and-right, and-intro, or-right, or-cases, or-none}
 use Rattle.laws.specs.Conjunction.{and-four}
 use Rattle.ids.specs.Ranges.{out-of-range, above-range}
 use Rattle.tree_theory.specs.Machine.{Node, root, ADDED, GHOST, COMMITTED, present, find, other-value}
 use Rattle.tree_theory.specs.Table.{row, rows-of}
 use Rattle.tree_theory.specs.Check.{crossed, round-fits, parent-fits, value-fits, status-fits, fits, is-root, row-fits, fits-to, zeros-to}
-use Rattle.tree_theory.proofs.Grown.{Placed}
+use Rattle.tree_theory.proofs.Grown.{Placed, Stated}
 
 pub record Fit (valued : Bool) (earlier all : List Node) (n : Node) : Type 0 where
   pub placed : Placed valued earlier n
-  pub stated : (0 < n .status) × (n .status ≤ 3)
+  pub stated : Stated n
   pub ghost : eqb (n .status) GHOST ≡ crossed (n .round) all
 
 module _ (valued : Bool) (earlier all : List Node) (n : Node) where
@@ -29,7 +29,7 @@ module _ (valued : Bool) (earlier all : List Node) (n : Node) where
       let low : n .parent < n .round = ltb-true (n .parent) (n .round) (and-right (present (n .parent) earlier) (ltb (n .parent) (n .round)) b) in
       record {
         positive = omega arith;
-        bounded = omega (tests, or-right (eqb (n .round) 0) (above-range (n .round)) rng);
+        bounded = or-right (eqb (n .round) 0) (above-range (n .round)) rng;
         new = not-true (present (n .round) earlier) (and-right (not (out-of-range (n .round))) (not (present (n .round) earlier)) a);
         parent-there = and-left (present (n .parent) earlier) (ltb (n .parent) (n .round)) b;
         lower = low;
@@ -46,7 +46,7 @@ module _ (valued : Bool) (earlier all : List Node) (n : Node) where
       (λ t. rw (q, t, eq-eqb (n .value) (find (n .parent) earlier .value) (P .same-value q (omega tests))) refl))
       (λ q. rw q refl)
 
-  status-of : status-fits all n ≡ true → ((0 < n .status) × (n .status ≤ 3)) × (eqb (n .status) GHOST ≡ crossed (n .round) all)
+  status-of : status-fits all n ≡ true → Stated n × (eqb (n .status) GHOST ≡ crossed (n .round) all)
   status-of h =
       by-test (crossed (n .round) all)
       (λ t. let s : eqb (n .status) GHOST ≡ true = rw t at h in (omega tests, s ∙ sym t))
@@ -55,7 +55,7 @@ module _ (valued : Bool) (earlier all : List Node) (n : Node) where
       (λ u. (omega tests, ne-eqb (n .status) GHOST (omega tests) ∙ sym t))
       (λ u. (omega tests, ne-eqb (n .status) GHOST (omega tests) ∙ sym t)))
 
-  of-status : (0 < n .status) × (n .status ≤ 3) → eqb (n .status) GHOST ≡ crossed (n .round) all → status-fits all n ≡ true
+  of-status : Stated n → eqb (n .status) GHOST ≡ crossed (n .round) all → status-fits all n ≡ true
   of-status b g =
       by-test (crossed (n .round) all)
       (λ t. rw t (g ∙ t))
@@ -74,7 +74,7 @@ module _ (valued : Bool) (earlier all : List Node) (n : Node) where
   unfolding fits
   of-fit F =
       let P : Placed valued earlier n = F .placed in
-      let ranged : out-of-range (n .round) ≡ false = or-none (ne-eqb (n .round) 0 (omega (arith, P .positive))) (le-ltb 1000000 (n .round) (P .bounded)) in
+      let ranged : out-of-range (n .round) ≡ false = or-none (ne-eqb (n .round) 0 (omega (arith, P .positive))) (P .bounded) in
       let a : round-fits earlier n ≡ true = rw (ranged, P .new) refl in
       let b : parent-fits earlier n ≡ true = and-intro (P .parent-there) (lt-ltb (n .parent) (n .round) (P .lower)) in
       and-intro a (and-intro b (and-intro (of-placed-value P) (of-status (F .stated) (F .ghost))))

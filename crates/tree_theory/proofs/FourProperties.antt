@@ -12,8 +12,8 @@ use Rattle.laws.specs.Lists.{_∈_, in-cut}
 use Rattle.tree_theory.specs.Machine.{Call, add, commit, Node, fresh, answer, step, answers, accepted, after}
 use Rattle.tree_theory.specs.Properties.{Properties, InRange, AllOk, adds-in}
 use Rattle.tree_theory.proofs.Calls.{prefix, next-of, adds-in-append}
-use Rattle.tree_theory.proofs.Accepted.{Allowed, Room, allowed-ok}
-use Rattle.tree_theory.proofs.History.{Told, told, told-fresh, told-next, accepted-ok}
+use Rattle.tree_theory.proofs.Accepted.{CallAllowed, RowLeft, allowed-ok}
+use Rattle.tree_theory.proofs.History.{Told, told-of, told-fresh, told-next, accepted-ok}
 
 -- if each call gets OK, all are accepted
 pub all-accepted : (valued : Bool) (rows : ℕ) (ns : List Node) (cs : List Call) →
@@ -24,7 +24,7 @@ all-accepted valued rows ns (c ∷ cs) f =
     accepted-ok valued rows ns c cs (eq-eqb (answer valued rows ns c) 0 (f (answer valued rows ns c) (here refl))) ∙
     ap (λ l. c ∷ l) (all-accepted valued rows (step valued rows ns c) cs (λ n m. f n (there m)))
 
-room-for : (rows : ℕ) (h : List Call) (c : Call) (k : List Call) → adds-in (h ++ c ∷ k) < rows → Room rows h c
+room-for : (rows : ℕ) (h : List Call) (c : Call) (k : List Call) → adds-in (h ++ c ∷ k) < rows → RowLeft rows h c
 unfolding adds-in
 room-for rows h (add r v p) k b = omega (arith, adds-in-append h (add r v p ∷ k))
 room-for rows h (commit r) k b = tt
@@ -38,7 +38,7 @@ each-ok valued rows (c ∷ k) h ns T P I b n m =
     (told-next valued rows h ns c T (eq-eqb (answer valued rows ns c) 0 z))
     (rw e P) (rw e I) (rw e b) n i) m
   where
-    A : Allowed valued rows h c
+    A : CallAllowed valued rows h c
     A = record { next = next-of valued h c k P; ranged = I c (in-cut h c k); room = room-for rows h c k b }
 
     z : answer valued rows ns c ≡ 0
@@ -54,7 +54,7 @@ each-ok valued rows (c ∷ k) h ns T P I b n m =
 -- a list that gets OK throughout is the story of what it leaves
 pub told-ok : (valued : Bool) (rows : ℕ) (cs : List Call) → AllOk valued rows cs → Told valued rows cs (after valued rows fresh cs)
 told-ok valued rows cs f =
-    subst (λ h. Told valued rows h (after valued rows fresh cs)) (all-accepted valued rows fresh cs f) (told valued rows cs)
+    subst (λ h. Told valued rows h (after valued rows fresh cs)) (all-accepted valued rows fresh cs f) (told-of valued rows cs)
 
 -- OK to each call exactly if the four properties hold
 pub ok-exactly : (valued : Bool) (rows : ℕ) (cs : List Call) → InRange cs → adds-in cs < rows → AllOk valued rows cs ↔ Properties valued cs
@@ -71,5 +71,5 @@ next-ok valued rows cs c P I b =
     each-ok valued rows cs [] fresh (told-fresh valued rows) (prefix valued cs (c ∷ []) P)
     (λ a m. I a (Memᴰ·append-left (c ∷ []) m)) (omega (arith, adds-in-append cs (c ∷ []))) in
     let T : Told valued rows cs (after valued rows fresh cs) = told-ok valued rows cs ok in
-    let A : Allowed valued rows cs c = record { next = next-of valued cs c [] P; ranged = I c (in-cut cs c []); room = room-for rows cs c [] b } in
+    let A : CallAllowed valued rows cs c = record { next = next-of valued cs c [] P; ranged = I c (in-cut cs c []); room = room-for rows cs c [] b } in
     rw (T .nodes) (allowed-ok valued rows cs (T .story) c A)

@@ -11,16 +11,21 @@ use lib.Dec.{ltb, eqb}
 use borrow.Author.Tests.{eqb-true, lt-ltb, ne-eqb}
 use Rattle.laws.specs.Tests.{by-test, clash, tests, and-intro}
 use Rattle.laws.specs.Lists.{_∈_, any-intro, any-none, cut}
-use Rattle.tree_theory.specs.Machine.{Node, root, GHOST, present, find}
+use Rattle.ids.specs.Ranges.{above-range}
+use Rattle.tree_theory.specs.Machine.{Node, root, FREE, GHOST, COMMITTED, present, find}
 use Rattle.tree_theory.specs.Table.{behind-root}
 use Rattle.tree_theory.specs.Check.{edge-over, crossed}
 use Rattle.tree_theory.proofs.Nodes.{in-present, present-in, present-left, find-left, find-new}
+
+-- a status that a used row can have
+abbrev pub Stated : Node → Type 0
+Stated n = (FREE < n .status) × (n .status ≤ COMMITTED)
 
 -- a node behind the root, beside the nodes before it
 pub record Placed (valued : Bool) (earlier : List Node) (n : Node) : Type 0 where
   -- the round is in range and new
   pub positive : 0 < n .round
-  pub bounded : n .round ≤ 1000000
+  pub bounded : above-range (n .round) ≡ false
   pub new : present (n .round) earlier ≡ false
   -- the parent is an earlier round, and lower
   pub parent-there : present (n .parent) earlier ≡ true
@@ -34,7 +39,7 @@ pub record Grown (valued : Bool) (rows : ℕ) (ns : List Node) : Type 0 where
   pub fit : 0 < rows → length ns ≤ rows
   pub placed : (pre post : List Node) (n : Node) → behind-root ns ≡ pre ++ n ∷ post → Placed valued (root ∷ pre) n
   -- a status is 1, 2 or 3
-  pub stated : (n : Node) → n ∈ ns → (0 < n .status) × (n .status ≤ 3)
+  pub stated : (n : Node) → n ∈ ns → Stated n
   -- GHOST are exactly the nodes that some edge crosses
   pub ghosts : (n : Node) → n ∈ ns → eqb (n .status) GHOST ≡ crossed (n .round) ns
 
@@ -65,9 +70,6 @@ module _ (valued : Bool) (rows : ℕ) (ns : List Node) (G : Grown valued rows ns
 
   pub root-in : root ∈ ns
   root-in = subst (λ l. root ∈ l) (sym (G .rooted)) (here refl)
-
-  pub bounded-in : (n : Node) → n ∈ ns → n .round ≤ 1000000
-  bounded-in n m = by-place m (λ e. rw e (omega arith)) (λ pre post e P. P .bounded)
 
   -- rounds are distinct
   pub found : (n : Node) → n ∈ ns → find (n .round) ns ≡ n

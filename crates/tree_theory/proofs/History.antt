@@ -13,8 +13,8 @@ use Rattle.tree_theory.specs.Machine.{Call, Node, fresh, answer, change,
 use Rattle.tree_theory.specs.Properties.{history, adds-in}
 use Rattle.tree_theory.proofs.Grown.{Grown}
 use Rattle.tree_theory.proofs.Calls.{none}
-use Rattle.tree_theory.proofs.Rebuilt.{added, rebuilt, Story, grown, of-added}
-use Rattle.tree_theory.proofs.Accepted.{Allowed, ok-allowed, story-next, changed}
+use Rattle.tree_theory.proofs.Rebuilt.{added-nodes, rebuilt, Story, grown, of-added}
+use Rattle.tree_theory.proofs.Accepted.{CallAllowed, ok-allowed, story-next, changed}
 
 pub step-ok : (valued : Bool) (rows : ℕ) (ns : List Node) (c : Call) → eqb (answer valued rows ns c) 0 ≡ true → step valued rows ns c ≡ change ns c
 unfolding step
@@ -40,7 +40,7 @@ pub record Told (valued : Bool) (rows : ℕ) (h : List Call) (ns : List Node) : 
   pub nodes : ns ≡ rebuilt h
 
 pub told-fresh : (valued : Bool) (rows : ℕ) → Told valued rows [] fresh
-unfolding added adds-in
+unfolding added-nodes adds-in
 told-fresh valued rows = record {
   story = record { properties = none valued; ranged = λ c m. elim m [ ]; room = λ pos. pos };
   nodes = refl;
@@ -52,7 +52,7 @@ pub told-next : (valued : Bool) (rows : ℕ) (h : List Call) (ns : List Node) (c
 told-next valued rows h ns c T t =
     let S : Story valued rows h = T .story in
     let z : answer valued rows (rebuilt h) c ≡ 0 = rw (T .nodes) at (eqb-true (answer valued rows ns c) 0 t) in
-    let A : Allowed valued rows h c = ok-allowed valued rows h S c z in
+    let A : CallAllowed valued rows h c = ok-allowed valued rows h S c z in
     record {
       story = story-next valued rows h S c A;
       nodes = step-ok valued rows ns c t ∙ ap (λ l. change l c) (T .nodes) ∙ changed valued rows h S c A;
@@ -73,21 +73,21 @@ told-all valued rows (c ∷ cs) h ns T =
     subst (λ l. Told valued rows l (after valued rows (step valued rows ns c) cs)) (sym e)
     (told-all valued rows cs h (step valued rows ns c) (rw (step-refused valued rows ns c t) T)))
 
-pub told : (valued : Bool) (rows : ℕ) (cs : List Call) → Told valued rows (accepted valued rows fresh cs) (after valued rows fresh cs)
-told valued rows cs = told-all valued rows cs [] fresh (told-fresh valued rows)
+pub told-of : (valued : Bool) (rows : ℕ) (cs : List Call) → Told valued rows (accepted valued rows fresh cs) (after valued rows fresh cs)
+told-of valued rows cs = told-all valued rows cs [] fresh (told-fresh valued rows)
 
 pub told-grown : (valued : Bool) (rows : ℕ) (h : List Call) (ns : List Node) → Told valued rows h ns → Grown valued rows ns
 told-grown valued rows h ns T = rw (T .nodes) (grown valued rows h (T .story))
 
 -- what holds of the nodes that any list of calls leaves
 pub all-grown : (valued : Bool) (rows : ℕ) (cs : List Call) → Grown valued rows (after valued rows fresh cs)
-all-grown valued rows cs = told-grown valued rows (accepted valued rows fresh cs) (after valued rows fresh cs) (told valued rows cs)
+all-grown valued rows cs = told-grown valued rows (accepted valued rows fresh cs) (after valued rows fresh cs) (told-of valued rows cs)
 
 -- after any list of calls each status is the one that the history of the accepted calls gives
 pub history-status : (valued : Bool) (rows : ℕ) (cs : List Call) (n : Node) → n ∈ after valued rows fresh cs →
     n .status ≡ history (accepted valued rows fresh cs) (n .round)
 unfolding history
-history-status valued rows cs n m = by-node (subst (λ l. n ∈ l) (told valued rows cs .nodes) m)
+history-status valued rows cs n m = by-node (subst (λ l. n ∈ l) (told-of valued rows cs .nodes) m)
   where
     h : List Call
     h = accepted valued rows fresh cs

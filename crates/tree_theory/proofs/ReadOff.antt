@@ -12,7 +12,7 @@ use Rattle.tree_theory.specs.Machine.{Call, add, commit, Node, COMMITTED
 use Rattle.tree_theory.specs.Properties.{history, adds-in, adds, commits, edge-crosses}
 use Rattle.tree_theory.specs.Table.{adds-of, commits-of}
 use Rattle.tree_theory.specs.Check.{edge-over, crossed}
-use Rattle.tree_theory.proofs.Rebuilt.{added}
+use Rattle.tree_theory.proofs.Rebuilt.{added-nodes}
 
 abbrev pub add-of : Node → Call
 add-of n = add (n .round) (n .value) (n .parent)
@@ -91,8 +91,8 @@ adds-in-commits [] = refl
 adds-in-commits (n ∷ l) =
     by-test (eqb (n .status) COMMITTED) (λ t. rw t (adds-in-commits l)) (λ t. rw t (adds-in-commits l))
 
-pub added-commits : (h : List Call) (l : List Node) → added h (commits-of l) ≡ []
-unfolding added commits-of
+pub added-commits : (h : List Call) (l : List Node) → added-nodes h (commits-of l) ≡ []
+unfolding added-nodes commits-of
 added-commits h [] = refl
 added-commits h (n ∷ l) =
     by-test (eqb (n .status) COMMITTED) (λ t. rw t (added-commits h l)) (λ t. rw t (added-commits h l))
@@ -106,7 +106,7 @@ commits-of-append (n ∷ l) k =
     (λ t. rw t (commits-of-append l k))
 
 -- nodes that have their history statuses are those that their adds make
-pub added-read : (h : List Call) (l : List Node) → ((n : Node) → n ∈ l → history h (n .round) ≡ n .status) → added h (adds-of l) ≡ l
-unfolding added adds-of
+pub added-read : (h : List Call) (l : List Node) → ((n : Node) → n ∈ l → history h (n .round) ≡ n .status) → added-nodes h (adds-of l) ≡ l
+unfolding added-nodes adds-of
 added-read h [] f = refl
 added-read h (n ∷ l) f = rw (f n (here refl), added-read h l (λ x m. f x (there m))) refl

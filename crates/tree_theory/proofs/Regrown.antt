@@ -98,7 +98,7 @@ module _ (valued : Bool) (rows : ℕ) (B : List Node) (G : Grown valued rows (ro
       in-range : (n : Node) → n ∈ B → out-of-range (n .round) ≡ false
       in-range n j = cut j (λ pre post e.
           let P : Placed valued (root ∷ pre) n = G .placed pre post n e in
-          or-none (ne-eqb (n .round) 0 (omega (arith, P .positive))) (le-ltb 1000000 (n .round) (P .bounded)))
+          or-none (ne-eqb (n .round) 0 (omega (arith, P .positive))) (P .bounded))
 
   read-adds : adds-in (read-off B) ≡ length B
   read-adds = adds-in-append (adds-of B) (commits-of B) ∙ omega (arith, adds-in-adds B, adds-in-commits B)

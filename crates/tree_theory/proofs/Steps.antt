@@ -13,7 +13,7 @@ use Rattle.tree_theory.proofs.Grown.{Grown}
 use Rattle.tree_theory.proofs.History.{all-grown, step-ok, step-refused}
 use Rattle.tree_theory.proofs.Regrown.{regrown}
 use Rattle.tree_theory.proofs.Words.{length-table}
-use Rattle.tree_theory.proofs.Trees.{Held, tree-held, held-is-tree, sized-rows, grown-fit}
+use Rattle.tree_theory.proofs.Trees.{HoldsGrown, tree-held, held-is-tree, sized-rows, grown-fit}
 
 pub after-append : (valued : Bool) (k : ℕ) (ns : List Node) (cs ds : List Call) → after valued k ns (cs ++ ds) ≡ after valued k (after valued k ns cs) ds
 unfolding after
@@ -52,7 +52,7 @@ module _ (valued : Bool) (ws : List ℕ) (h : sized ws ≡ true) (T : Tree value
   -- a step keeps a tree
   pub step-tree : (c : Call) → Tree valued (table (length ws) (step valued (rows ws) (nodes ws) c))
   step-tree c =
-      let H : Held valued ws = tree-held valued ws h T in
+      let H : HoldsGrown valued ws = tree-held valued ws h T in
       subst (λ ns. Tree valued (table (length ws) ns)) (after-step valued (rows ws) (nodes ws) c (H .grown) (sized-rows ws h))
       (written-tree valued ws (calls-of (nodes ws) ++ c ∷ []) h)
 

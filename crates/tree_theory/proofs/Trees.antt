@@ -11,7 +11,7 @@ use lib.Dec.{leb, eqb}
 use borrow.Author.Tests.{eqb-true, eq-eqb}
 use Rattle.laws.specs.Tests.{clash, tests, and-left, and-right, and-intro}
 use Rattle.laws.specs.Lists.{_∈_}
-use Rattle.tree_theory.specs.Machine.{Node, fresh, after}
+use Rattle.tree_theory.specs.Machine.{Node, FREE, fresh, after}
 use Rattle.tree_theory.specs.Table.{sized, rows, table, Tree, nodes, calls-of, same-words, is-tree}
 use Rattle.tree_theory.proofs.Grown.{Grown}
 use Rattle.tree_theory.proofs.History.{all-grown}
@@ -19,7 +19,7 @@ use Rattle.tree_theory.proofs.Regrown.{regrown}
 use Rattle.tree_theory.proofs.Words.{nodes-table}
 
 -- a table that holds grown nodes and zeros behind them
-pub record Held (valued : Bool) (ws : List ℕ) : Type 0 where
+pub record HoldsGrown (valued : Bool) (ws : List ℕ) : Type 0 where
   pub grown : Grown valued (rows ws) (nodes ws)
   pub whole : ws ≡ table (length ws) (nodes ws)
 
@@ -31,14 +31,14 @@ sized-rows ws h =
 
 -- ---- a tree holds grown nodes
 
-pub grown-stated : (valued : Bool) (k : ℕ) (ns : List Node) → Grown valued k ns → (n : Node) → n ∈ ns → n .status ≢ 0
+pub grown-stated : (valued : Bool) (k : ℕ) (ns : List Node) → Grown valued k ns → (n : Node) → n ∈ ns → n .status ≢ FREE
 grown-stated valued k ns G n m = omega (arith, G .stated n m)
 
 pub grown-fit : (valued : Bool) (ws : List ℕ) (ns : List Node) → sized ws ≡ true → Grown valued (rows ws) ns → 4 * length ns ≤ length ws
 grown-fit valued ws ns h G = omega (arith, G .fit (sized-rows ws h))
 
 -- a table written from grown nodes holds them
-pub held-of : (valued : Bool) (ws : List ℕ) (ns : List Node) → sized ws ≡ true → Grown valued (rows ws) ns → table (length ws) ns ≡ ws → Held valued ws
+pub held-of : (valued : Bool) (ws : List ℕ) (ns : List Node) → sized ws ≡ true → Grown valued (rows ws) ns → table (length ws) ns ≡ ws → HoldsGrown valued ws
 held-of valued ws ns h G e =
     let z : nodes ws ≡ ns = rw e at (nodes-table (length ws) ns (grown-fit valued ws ns h G) (grown-stated valued (rows ws) ns G)) in
     record {
@@ -46,7 +46,7 @@ held-of valued ws ns h G e =
       whole = sym e ∙ ap (table (length ws)) (sym z);
     }
 
-pub tree-held : (valued : Bool) (ws : List ℕ) → sized ws ≡ true → Tree valued ws → Held valued ws
+pub tree-held : (valued : Bool) (ws : List ℕ) → sized ws ≡ true → Tree valued ws → HoldsGrown valued ws
 tree-held valued ws h T =
     held-of valued ws (after valued (rows ws) fresh (T .calls)) h (all-grown valued (rows ws) (T .calls)) (T .left)
 
@@ -77,7 +77,7 @@ tree-of valued ws h = record {
   left = same-of (table (length ws) (after valued (rows ws) fresh (calls-of (nodes ws)))) ws (sym (is-tree-says valued ws) ∙ h);
 }
 
-pub held-is-tree : (valued : Bool) (ws : List ℕ) → sized ws ≡ true → Held valued ws → is-tree valued ws ≡ true
+pub held-is-tree : (valued : Bool) (ws : List ℕ) → sized ws ≡ true → HoldsGrown valued ws → is-tree valued ws ≡ true
 held-is-tree valued ws h H =
     is-tree-says valued ws ∙
     rw (regrown valued (rows ws) (nodes ws) (H .grown) (sized-rows ws h), ← H .whole) (same-self ws)

@@ -11,7 +11,7 @@ use lib.Dec.{eqb}
 use borrow.Author.Tests.{ne-eqb, eq-eqb, eqb-true}
 use Rattle.laws.specs.Tests.{by-test, tests}
 use Rattle.laws.specs.Lists.{_∈_, by-last, in-last}
-use Rattle.tree_theory.specs.Machine.{Node, root}
+use Rattle.tree_theory.specs.Machine.{Node, FREE, root}
 use Rattle.tree_theory.specs.Table.{words, table, row, rows, rows-of, used, used-from, nodes}
 
 pub length-words : (ns : List Node) → length (words ns) ≡ 4 * length ns
@@ -130,11 +130,11 @@ words-rows ws (suc n) h =
 -- ---- used rows
 
 -- how far the used rows go, from row i on with k rows to go: to the first of status 0, if there is one
-used-stop : (ws : List ℕ) (k i : ℕ) → eqb (row ws i .status) 0 ≡ true → used-from ws (suc k) i ≡ i
+used-stop : (ws : List ℕ) (k i : ℕ) → eqb (row ws i .status) FREE ≡ true → used-from ws (suc k) i ≡ i
 unfolding used-from
 used-stop ws k i t = rw (t, used-from) refl
 
-used-go : (ws : List ℕ) (k i : ℕ) → eqb (row ws i .status) 0 ≡ false → used-from ws (suc k) i ≡ used-from ws k (suc i)
+used-go : (ws : List ℕ) (k i : ℕ) → eqb (row ws i .status) FREE ≡ false → used-from ws (suc k) i ≡ used-from ws k (suc i)
 unfolding used-from
 used-go ws k i t = rw (t, used-from) refl
 
@@ -142,20 +142,20 @@ used-zero : (ws : List ℕ) (i : ℕ) → used-from ws zero i ≡ i
 unfolding used-from
 used-zero ws i = refl
 
-used-is : (ws : List ℕ) (m k i : ℕ) → i ≤ m → m ≤ i + k → ((j : ℕ) → j < m → row ws j .status ≢ 0) → (m < i + k → row ws m .status ≡ 0) →
+used-is : (ws : List ℕ) (m k i : ℕ) → i ≤ m → m ≤ i + k → ((j : ℕ) → j < m → row ws j .status ≢ FREE) → (m < i + k → row ws m .status ≡ FREE) →
     used-from ws k i ≡ m
 used-is ws m zero i a b f g = used-zero ws i ∙ omega arith
 used-is ws m (suc k) i a b f g =
     by-test (eqb i m)
     (λ t. let e : i ≡ m = eqb-true i m t in
-    used-stop ws k i (eq-eqb (row ws i .status) 0 (rw e (g (omega arith)))) ∙ e)
-    (λ t. used-go ws k i (ne-eqb (row ws i .status) 0 (f i (omega tests))) ∙
+    used-stop ws k i (eq-eqb (row ws i .status) FREE (rw e (g (omega arith)))) ∙ e)
+    (λ t. used-go ws k i (ne-eqb (row ws i .status) FREE (f i (omega tests))) ∙
     used-is ws m k (suc i) (omega tests) (omega arith) f (λ l. g (omega arith)))
 
 used-bound : (ws : List ℕ) (k i : ℕ) → used-from ws k i ≤ i + k
 used-bound ws zero i = rw (used-zero ws i) (omega arith)
 used-bound ws (suc k) i =
-    by-test (eqb (row ws i .status) 0)
+    by-test (eqb (row ws i .status) FREE)
     (λ t. rw (used-stop ws k i t) (omega arith))
     (λ t. rw (used-go ws k i t) (omega (arith, used-bound ws k (suc i))))
 
@@ -180,7 +180,7 @@ getD-in (n ∷ ns) zero h = here refl
 getD-in (n ∷ ns) (suc i) h = there (getD-in ns i (omega arith))
 
 -- the nodes of a table of nodes with no status 0
-module _ (len : ℕ) (ns : List Node) (fit : 4 * length ns ≤ len) (stated : (n : Node) → n ∈ ns → n .status ≢ 0) where
+module _ (len : ℕ) (ns : List Node) (fit : 4 * length ns ≤ len) (stated : (n : Node) → n ∈ ns → n .status ≢ FREE) where
   pub used-table : used (table len ns) ≡ length ns
   unfolding table
   used-table =

@@ -31,14 +31,14 @@ GHOST = 2
 abbrev pub COMMITTED : ℕ
 COMMITTED = 3
 
-abbrev pub node : ℕ → ℕ → ℕ → ℕ → Node
-node r p v s = record { round = r; parent = p; value = v; status = s }
+abbrev pub node-of : ℕ → ℕ → ℕ → ℕ → Node
+node-of r p v s = record { round = r; parent = p; value = v; status = s }
 
 abbrev pub with-status : Node → ℕ → Node
-with-status n s = node (n .round) (n .parent) (n .value) s
+with-status n s = node-of (n .round) (n .parent) (n .value) s
 
 abbrev pub root : Node
-root = node 0 0 0 COMMITTED
+root = node-of 0 0 0 COMMITTED
 
 -- the nodes of a fresh table
 abbrev pub fresh : List Node
@@ -125,15 +125,15 @@ above r n = ltb r (n .round)
 
 -- the node that add(r, v, p) makes: GHOST if any round above r is present, else ADDED
 unfoldable pub new-node : List Node → ℕ → ℕ → ℕ → Node
-new-node ns r v p = node r p v (cond (any (above r) ns) GHOST ADDED)
+new-node ns r v p = node-of r p v (cond (any (above r) ns) GHOST ADDED)
 
-unfoldable pub committed : ℕ → Node → Node
-committed r n = cond (has-round r n) (with-status n COMMITTED) n
+unfoldable pub commit-node : ℕ → Node → Node
+commit-node r n = cond (has-round r n) (with-status n COMMITTED) n
 
 -- what an accepted call makes of the nodes; they stand in order of adding
 unfoldable pub change : List Node → Call → List Node
 change ns (add r v p) = map (struck ns r p) ns ++ new-node ns r v p ∷ []
-change ns (commit r) = map (committed r) ns
+change ns (commit r) = map (commit-node r) ns
 
 -- one call: a refused one changes nothing
 unfoldable pub step : Bool → ℕ → List Node → Call → List Node

@@ -9,7 +9,7 @@ use lib.Dec.{ltb, leb, eqb}
 use Rattle.laws.specs.First.{Cause, _gives_, first}
 use Rattle.ids.specs.Ranges.{above-range}
 use Rattle.numbers.specs.Numbers.{OK, TABLE-LENGTH, NOT-A-TREE, ROUND-RANGE, ROUND-ABSENT, SLICE-SHORT}
-use Rattle.tree_theory.specs.Machine.{Node, node, Call, add, commit, FREE, COMMITTED, fresh, present, path, causes, change, after}
+use Rattle.tree_theory.specs.Machine.{Node, node-of, Call, add, commit, FREE, COMMITTED, fresh, present, path, causes, change, after}
 
 -- a multiple of 4 from 4 to 1,024
 abbrev pub sized : List ℕ → Bool
@@ -35,7 +35,7 @@ pub record Tree (valued : Bool) (ws : List ℕ) : Type 0 where
 
 -- row i of a table, read as a node
 abbrev pub row : List ℕ → ℕ → Node
-row ws i = node (getD ws (4 * i) 0) (getD ws (4 * i + 1) 0) (getD ws (4 * i + 2) 0) (getD ws (4 * i + 3) 0)
+row ws i = node-of (getD ws (4 * i) 0) (getD ws (4 * i + 1) 0) (getD ws (4 * i + 2) 0) (getD ws (4 * i + 3) 0)
 
 -- the first n rows
 unfoldable pub rows-of : List ℕ → ℕ → List Node

@@ -6,13 +6,13 @@ use lib.ListN.{length}
 use borrow.Author.Needs.{needs}
 use denote.Ref.{now}
 use Rattle.tree_theory.specs.Machine.{strike-crossed}
-use Rattle.tree_table.proofs.Rows.{Passed, pass-none, pass-end}
+use Rattle.tree_table.proofs.Rows.{PassedRows, pass-none, pass-end}
 use Rattle.tree_crossing.proofs.Striking.{struck-more}
 use Rattle.tree_crossing.proofs.strike.Statement.{statement}
 use Rattle.tree_crossing.proofs.strike.Tie as tie
 
 abbrev Inv-loop : tie.InvT-loop
-Inv-loop t₀ n r p i₀ t i = (i ≤ n) × (length t ≡ length t₀) × Passed (strike-crossed r p) t₀ i t
+Inv-loop t₀ n r p i₀ t i = (i ≤ n) × (length t ≡ length t₀) × PassedRows (strike-crossed r p) t₀ i t
 
 abbrev μ-loop : tie.MeasureT-loop
 μ-loop t₀ n r p i₀ t i = n - i

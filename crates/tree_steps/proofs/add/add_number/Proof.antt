@@ -1,7 +1,7 @@
 -- `crate::add::add_number` meets its contract: each test stands for one cause of the machine, in its order. What a test left behind is a lemma
 -- at its place, used by every return after it. Assumes nothing.
-use mathlib.Core.Path.{_≡_, refl, sym, ap, _∙_}
-use mathlib.Core.Bool.{true, false, _&&_}
+use mathlib.Core.Path.{_≡_, refl, sym, _∙_}
+use mathlib.Core.Bool.{false, _&&_}
 use mathlib.Core.List.{List, [], _∷_}
 use Prim.Native.Nat.{ℕ}
 use lib.ListN.{length}
@@ -13,10 +13,11 @@ use Rattle.ids.specs.Ranges.{out-of-range}
 use Rattle.numbers.specs.Numbers.{PARENT-NOT-BELOW, PARENT-VALUE, CROSSES-COMMITTED, TABLE-FULL, no-row-left}
 use Rattle.laws.specs.Lists.{any}
 use Rattle.laws.specs.First.{Cause, first, _gives_}
-use Rattle.tree_theory.specs.Machine.{Node, other-value, blocks, causes, answer, add}
+use Rattle.tree_theory.specs.Machine.{other-value, blocks, causes, answer, add}
 use Rattle.tree_theory.specs.Table.{rows, nodes}
 use Rattle.tree_theory.proofs.Words.{length-rows}
-use Rattle.tree_steps.proofs.Looking.{LookedAt, used-is, blocked-is, round-present, round-absent, parent-present, parent-absent, parent-node, parent-fits}
+use Rattle.tree_steps.proofs.Looking.{LookedAt, used-is, blocked-is, round-present, round-absent}
+use Rattle.tree_steps.proofs.Looking.{parent-present, parent-absent, parent-node, parent-fits}
 use Rattle.tree_steps.proofs.Planning.{beyond, within}
 use Rattle.tree_steps.proofs.add.add_number.Statement.{statement}
 use Rattle.tree_steps.proofs.add.add_number.Tie as tie

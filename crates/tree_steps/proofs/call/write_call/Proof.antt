@@ -1,9 +1,6 @@
 -- `crate::call::write_call` meets its contract: an add's node behind the struck rows, or a commit's status. Assumes nothing.
-use mathlib.Core.Path.{_≡_, sym, ap, subst, _∙_}
 use borrow.Author.Needs.{needs}
 use denote.Ref.{now}
-use Rattle.tree_theory.specs.Machine.{Call}
-use Rattle.tree_steps.specs.Planned.{call-of, written}
 use Rattle.tree_steps.proofs.Inserting.{put-behind}
 use Rattle.tree_steps.proofs.call.write_call.Statement.{statement}
 use Rattle.tree_steps.proofs.call.write_call.Tie as tie

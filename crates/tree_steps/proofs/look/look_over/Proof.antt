@@ -1,9 +1,7 @@
 -- `crate::look::look_over` meets its contract: after each turn what is held is what the rows passed say. Assumes nothing.
-use mathlib.Core.Path.{_≡_, sym, _∙_}
-use Prim.Native.Nat.{_-_, _<_, _*_, _≤_}
+use mathlib.Core.Path.{sym, _∙_}
+use Prim.Native.Nat.{_-_}
 use native.Mathlib.Omega.{arith}
-use lib.ListN.{length}
-use borrow.Author.Needs.{needs}
 use denote.Ref.{now}
 use Rattle.tree_theory.specs.Table.{rows}
 use Rattle.tree_steps.proofs.Looking.{Walked, walk-start, walk-more, walk-counts, walk-stop, walk-end}
