@@ -1,7 +1,7 @@
--- What the number of an event's check says of the move, and that the number of a refusal is a byte and not 0. Assumes nothing.
+-- What the number of an event's check says of the move, and what is known of an answer's number and message. Assumes nothing.
 use mathlib.Core.Path.{_≡_, refl, sym, subst, _∙_, ap}
 use mathlib.Core.Bool.{Bool, true, false, not, _&&_}
-use mathlib.Core.List.{List, [], _∷_}
+use mathlib.Core.List.{List, [], _∷_, List·Memᴰ·head as here}
 use Prim.Native.Nat.{ℕ, _<_}
 use native.Mathlib.Omega.{arith}
 use borrow.Author.Tests.{not-true, not-false, ne-eqb}
@@ -10,13 +10,15 @@ use Rattle.laws.specs.Tests.{tests, by-test, and-left, and-right}
 use Rattle.laws.specs.First.{Cause, first, passed}
 use Rattle.ids.specs.declared.Round.{Round}
 use Rattle.ids.specs.declared.Member.{Member}
+use Rattle.message.specs.declared.Message.{Message}
+use Rattle.message.specs.Fields.{in-range}
 use Rattle.message.specs.declared.Message.the-variants.{Start, Join, JoinVoted, Propose, Vote}
 use Rattle.member_record.specs.declared.Who.{Who}
 use Rattle.member_record.specs.declared.MemberState.{MemberState}
 use Rattle.member_rules.specs.Causes.{count-causes}
 use Rattle.member_rules.specs.Changes.{adopting}
 use Rattle.member.specs.declared.Answer.{Answer}
-use Rattle.member.specs.declared.Answer.the-variants.{Refused}
+use Rattle.member.specs.declared.Answer.the-variants.{Refused, Sent, Proposed}
 use Rattle.member.specs.declared.Move.{Move}
 use Rattle.member.specs.Answers.{answer-outcome, numbered-answer, MoveIs}
 use Rattle.member.specs.Kept.{Kept}
@@ -89,3 +91,11 @@ pub refused-some : {a : Answer} {k : ℕ} → a ≡ Refused k → numbered-answe
 refused-some {a} {k} q h z =
     let n : not (eqb k 0) ≡ true = subst (λ b. numbered-answer b ≡ true) q h in
     absurd (omega (tests, not-true (eqb k 0) n))
+
+-- what an answer sends is within the ranges of its kind
+pub sent-in-bounds : (m : MemberState) {a : Answer} {g : Message} → a ≡ Sent g → Kept (answer-outcome m a) → in-range g ≡ true
+sent-in-bounds m {a} {g} q K = subst (λ b. Kept (answer-outcome m b)) q K .sent-in-range g (here refl)
+
+pub proposed-in-bounds : (m : MemberState) {a : Answer} {g : Message} {r : Round} {x : ℕ} {b : Round} → a ≡ Proposed g r x b → Kept (answer-outcome m a) →
+    in-range g ≡ true
+proposed-in-bounds m {a} {g} q K = subst (λ d. Kept (answer-outcome m d)) q K .sent-in-range g (here refl)

@@ -65,7 +65,8 @@ start-kept m r offer s (range, (leader, (higher, end))) =
       sent-in-range = one-sent (Start r (m .who .me)) (own-head m r s range);
     }
 
-START-kept : (m : MemberState) (r : Round) (t : Member) → length (m .lead .flags) ≡ 7 → Sound m → out-of-range (r .0) ≡ false → Passed (START-causes m r t) → Kept (START-row m r)
+START-kept : (m : MemberState) (r : Round) (t : Member) → length (m .lead .flags) ≡ 7 → Sound m → out-of-range (r .0) ≡ false → Passed (START-causes m r t)
+    → Kept (START-row m r)
 START-kept m r t seven s range (leader, (higher, end)) =
     let v : Votes (m .durable) = votes (m .durable) (s .lasting) in
     let o : leb (m .durable .voted .0) (r .0) ≡ true = omega (tests, v .ordered) in
@@ -164,7 +165,8 @@ module _ {phase : ℕ} {m : MemberState} {r : Round} {t : Member} (a : Awaited p
       let active : eqb (m .lead .phase) IDLE ≡ false = omega (tests, now, a .active) in
       record {
         number-byte = omega arith;
-        sound-after = recounted-sound m (m .lead .phase) (set (m .lead .flags) (t .0) true) (a .is-sound) led (a .is-sound .phases) active from (rw undecided k);
+        sound-after = recounted-sound m (m .lead .phase) (set (m .lead .flags) (t .0) true) (a .is-sound) led (a .is-sound .phases) active from
+            (rw undecided k);
         seven-after = simp length-set (a .seven);
         sent-in-range = λ g i. elim i [ ];
       }

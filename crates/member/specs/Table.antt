@@ -60,7 +60,12 @@ complete m = eqb (flagged (m .lead .flags)) (needed (m .who) (m .lead .phase))
 -- phase 2, flags cleared, sends PROPOSE(r, X), and the answer names r, X, B: add(r, X, B)
 abbrev pub proposes : MemberState → Round → Outcome
 proposes m r =
-    record { number = 0; state = proposing m; sent = Propose r (m .who .me) (m .lead .value) ∷ []; named = proposal (r .0) (m .lead .value) (m .lead .source .0) }
+    record {
+      number = 0;
+      state = proposing m;
+      sent = Propose r (m .who .me) (m .lead .value) ∷ [];
+      named = proposal (r .0) (m .lead .value) (m .lead .source .0);
+    }
 
 -- PROPOSE r, v: J = V = r, W = v; sends VOTE
 abbrev pub PROPOSE-row : MemberState → Round → ℕ → Outcome

@@ -39,7 +39,13 @@ named-parent (decision r x) = 0
 
 abbrev pub reported : Outcome → Report
 reported o =
-    record { number = o .number; sent = sent-length (o .sent); round = round (named-round (o .named)); value = named-value (o .named); parent = round (named-parent (o .named)) }
+    record {
+      number = o .number;
+      sent = sent-length (o .sent);
+      round = round (named-round (o .named));
+      value = named-value (o .named);
+      parent = round (named-parent (o .named));
+    }
 
 -- the result, and the record after
 pub record Answers (o : Outcome) (after : MemberState) (r : Report) : Type 0 where

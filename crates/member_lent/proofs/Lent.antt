@@ -63,13 +63,16 @@ module _ {M : Type 1} (𝓤 : URA M) (H : Heap 𝓤) (A : Atoms 𝓤) (W : Given
 
 module _ {M : Type 1} {𝓤 : URA M} {H : Heap 𝓤} {A : Atoms 𝓤} {X : Type 0} {W : Given 𝓤 H A} {Γ : List (Item 𝓤)} {G : Goal 𝓤 H} where
   pub copies-out : X → Soaks G → {κ : Lft} {q : Share} {γ : GName} (h : MemberState) (b o : ℕ)
-      → (Is T.the-row h (vals h) → Seq X W (‵ (cellAt fullShare (T.the-row .mir) (vals h) b o) ∷ ‵ (fobor κ q (Body (mem T.the-row) b o γ)) ∷ ‵ (fobs γ (T.the-row .coded .code h)) ∷ ‵ (fauth γ (T.the-row .coded .code h)) ∷ Γ) G)
+      → (Is T.the-row h (vals h) → Seq X W (‵ (cellAt fullShare (T.the-row .mir) (vals h) b o) ∷ ‵ (fobor κ q (Body (mem T.the-row) b o γ)) ∷ ‵
+      (fobs γ (T.the-row .coded .code h)) ∷ ‵ (fauth γ (T.the-row .coded .code h)) ∷ Γ) G)
       → Seq X W (‵ (fobs γ (T.the-row .coded .code h)) ∷ ‵ (fbor κ (Body (mem T.the-row) b o γ)) ∷ ‵ (flft κ q) ∷ Γ) G
   copies-out t z h b o k =
-      opens t z T.the-row {h = h} b o (λ vs. spelt t T.the-row (Is T.the-row) (shows 𝓤 H A T.the-row) vals (LL.tells T.the-type T′.the-laws) fullShare h vs b o $
+      opens t z T.the-row {h = h} b o (λ vs. spelt t T.the-row (Is T.the-row) (shows 𝓤 H A T.the-row) vals (LL.tells T.the-type T′.the-laws) fullShare h vs b o
+      $
       move t (1 ∷ []) $ peeks t T.the-row (Is T.the-row) (shows 𝓤 H A T.the-row) h (vals h) (λ was. drop t $ k was))
 
   pub copies-in : X → Soaks G → {κ : Lft} {q : Share} {u v : Gv} {γ : GName} (h : MemberState) (b o : ℕ) → Is T.the-row h (vals h)
       → Step X W (‵ (fobs γ (T.the-row .coded .code h)) ∷ ‵ (fbor κ (Body (mem T.the-row) b o γ)) ∷ ‵ (flft κ q) ∷ Γ) G
       (‵ (cellAt fullShare (T.the-row .mir) (vals h) b o) ∷ ‵ (fobor κ q (Body (mem T.the-row) b o γ)) ∷ ‵ (fobs γ u) ∷ ‵ (fauth γ v) ∷ Γ) G
-  copies-in t z h b o is = step (λ s. owned t T.the-row (Is T.the-row) (owned-record 𝓤 H A W) h (vals h) is $ move t (1 ∷ 0 ∷ []) $ closes t z T.the-row h (vals h) b o $ s)
+  copies-in t z h b o is = step (λ s. owned t T.the-row (Is T.the-row) (owned-record 𝓤 H A W) h (vals h) is $ move t (1 ∷ 0 ∷ []) $
+      closes t z T.the-row h (vals h) b o $ s)

@@ -30,7 +30,8 @@ pub fn start(m: &mut MemberState, r: Round, offer: u64, reply: &mut [u8]) -> Rep
 
 // Delivers the message that bytes are.
 pub fn deliver(m: &mut MemberState, bytes: &[u8], reply: &mut [u8]) -> Report
-    ensures { λ p. ⌜ Replies (deliver-call (now (m .entry)) (now (bytes .entry)) (now (reply .entry))) (now (reply .entry)) (now (m .exit)) p (now (reply .exit)) ⌝ }
+    ensures { λ p. ⌜ Replies (deliver-call (now (m .entry)) (now (bytes .entry)) (now (reply .entry))) (now (reply .entry)) (now (m .exit)) p
+        (now (reply .exit)) ⌝ }
 {
     let c = deliver_into(*m, bytes, reply);
     *m = c.state;

@@ -31,4 +31,9 @@ unchanged d e h =
 
 pub changed-not : (d : Durable) → changes-durable d d ≡ false
 changed-not d =
-    rw (eq-eqb (d .joined .0) (d .joined .0) refl, eq-eqb (d .voted .0) (d .voted .0) refl, eq-eqb (d .vote) (d .vote) refl, eq-eqb (d .led .0) (d .led .0) refl)
+    rw (
+      eq-eqb (d .joined .0) (d .joined .0) refl,
+      eq-eqb (d .voted .0) (d .voted .0) refl,
+      eq-eqb (d .vote) (d .vote) refl,
+      eq-eqb (d .led .0) (d .led .0) refl,
+    )

@@ -20,7 +20,8 @@ returns c =
     let entry = c .before .before in
     let args = entry .args in
     let seven : length (args .m .lead .flags) ≡ 7 = simp length-map at (entry .good .0 .1 .1 .1 .1 .0 .1 .1 .1 .1 .1 .0 .1 .0 .1) in
-    stepped (args .m) (deliver (args .g)) (c .step-of .ensures) (c .before .on-message .ensures) (step-kept (args .m) (deliver (args .g)) seven (entry .pre .0) (entry .pre .1))
+    stepped (args .m) (deliver (args .g)) (c .step-of .ensures) (c .before .on-message .ensures)
+    (step-kept (args .m) (deliver (args .g)) seven (entry .pre .0) (entry .pre .1))
 
 pub deliver-sound-spec : {M : Type 1} → statement M
 deliver-sound-spec = tie.close (tie.spec on-message-requires step-of-requires returns)

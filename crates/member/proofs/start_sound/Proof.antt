@@ -21,7 +21,8 @@ returns c =
     let entry = c .before .before in
     let args = entry .args in
     let seven : length (args .m .lead .flags) ≡ 7 = simp length-map at (entry .good .0 .1 .1 .1 .1 .0 .1 .1 .1 .1 .1 .0 .1 .0 .1) in
-    stepped (args .m) (start (args .r) (args .offer)) (c .step-of .ensures) (c .before .on-start-call .ensures) (step-kept (args .m) (start (args .r) (args .offer)) seven (entry .pre) refl)
+    stepped (args .m) (start (args .r) (args .offer)) (c .step-of .ensures) (c .before .on-start-call .ensures)
+    (step-kept (args .m) (start (args .r) (args .offer)) seven (entry .pre) refl)
 
 pub start-sound-spec : {M : Type 1} → statement M
 start-sound-spec = tie.close (tie.spec on-start-call-requires step-of-requires returns)

@@ -17,7 +17,8 @@ returns : tie.Need-returns
 returns c =
     let test = c .before in
     let args = test .before .before .args in
-    check-refused (start-causes (args .m) (args .r)) (args .m) (start-row (args .m) (args .r) (args .offer)) (test .before .check-start-call .ensures) (test .if1 .taken) (c .refuse .ensures)
+    check-refused (start-causes (args .m) (args .r)) (args .m) (start-row (args .m) (args .r) (args .offer)) (test .before .check-start-call .ensures)
+    (test .if1 .taken) (c .refuse .ensures)
 
 leading-requires : tie.Need-leading-requires
 leading-requires c κs = search needs
@@ -29,7 +30,8 @@ returns-2 : tie.Need-returns-2
 returns-2 c =
     let test = c .before .before .before in
     let args = test .before .before .args in
-    check-passed (start-causes (args .m) (args .r)) (args .m) (start-row (args .m) (args .r) (args .offer)) (test .before .check-start-call .ensures) (test .if1 .left) (rw (c .before .leading .ensures) at (c .send .ensures))
+    check-passed (start-causes (args .m) (args .r)) (args .m) (start-row (args .m) (args .r) (args .offer)) (test .before .check-start-call .ensures)
+    (test .if1 .left) (rw (c .before .leading .ensures) at (c .send .ensures))
 
 pub on-start-call-spec : {M : Type 1} → statement M
 on-start-call-spec = tie.close (tie.spec check-start-call-requires refuse-requires returns leading-requires send-requires returns-2)

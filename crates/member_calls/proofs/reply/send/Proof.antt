@@ -17,7 +17,8 @@ use Rattle.member_calls.proofs.reply.send.Statement.{statement}
 use Rattle.member_calls.proofs.reply.send.Tie as tie
 
 -- what the writer answers and leaves then
-whole : (g : Message) {old new : List ℕ} {w : Written} → (28 ≤ length old) × (in-range g ≡ true) → Writes g old w new → (w ≡ Sent (length (bytes g))) × (new ≡ in-front g old)
+whole : (g : Message) {old new : List ℕ} {w : Written} → (28 ≤ length old) × (in-range g ≡ true) → Writes g old w new
+    → (w ≡ Sent (length (bytes g))) × (new ≡ in-front g old)
 whole g {old = old} h r =
     (r .answer ∙ in-range-written g old (h .0) (h .1) ∙ ap Sent (sym (length-bytes g)), r .buffer ∙ left-in-front g old (h .0) (h .1))
 
@@ -49,7 +50,8 @@ same-length-2 c = search needs
 
 returns-2 : tie.Need-returns-2
 returns-2 c =
-    let write = c .before .before .before .before in
+    let match = c .before in
+    let write = match .before .before .before in
     let s = write .before .before .before in
     let clash = ap written-number (sym (c .enum-told .given .1) ∙ whole (s .args .g) (s .pre) (write .write-message .ensures) .0) in
     absurd (omega (arith, clash))
@@ -59,7 +61,8 @@ same-length-3 c = search needs
 
 returns-3 : tie.Need-returns-3
 returns-3 c =
-    let write = c .before .before .before .before in
+    let match = c .before in
+    let write = match .before .before .before in
     let s = write .before .before .before in
     let clash = ap written-number (sym (c .enum-told2 .given .1) ∙ whole (s .args .g) (s .pre) (write .write-message .ensures) .0) in
     absurd (omega (arith, clash))
