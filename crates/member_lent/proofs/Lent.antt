@@ -26,10 +26,10 @@ use denote.Struct.Laws as LL
 use Rattle.member_record.specs.declared.MemberState.{MemberState}
 use Rattle.member_record.proofs.MemberState as T
 use Rattle.member_record.proofs.MemberState.Laws as T′
-use Rattle.member_calls.specs.declared.reply.Called.{Called}
+use Rattle.member_calls.specs.declared.reply.AfterCall.{AfterCall}
 use Rattle.member_calls.specs.declared.reply.Report.{Report}
-use Rattle.member_calls.proofs.reply.Called as K
-use Rattle.member_calls.proofs.reply.Called.Laws as K′
+use Rattle.member_calls.proofs.reply.AfterCall as K
+use Rattle.member_calls.proofs.reply.AfterCall.Laws as K′
 use Rattle.member_calls.proofs.reply.Report as R
 use Rattle.member_calls.proofs.reply.Report.Laws as R′
 
@@ -39,10 +39,10 @@ vals = LL.vals T.the-type T′.the-laws
 abbrev pub report-val : Report → Val
 report-val = LL.val R.the-type R′.the-laws
 
-pub state-is : (r : Called) (us : List Val) → Is K.the-row r us → Is T.the-row (r .state) (vals (r .state))
+pub state-is : (r : AfterCall) (us : List Val) → Is K.the-row r us → Is T.the-row (r .state) (vals (r .state))
 state-is r us is = LL.owed K.the-type K′.the-laws r us is .0
 
-pub report-is : (r : Called) (us : List Val) → Is K.the-row r us → Is R.the-row (r .report) (report-val (r .report) ∷ [])
+pub report-is : (r : AfterCall) (us : List Val) → Is K.the-row r us → Is R.the-row (r .report) (report-val (r .report) ∷ [])
 report-is r us is = LL.owed K.the-type K′.the-laws r us is .1 .0
 
 module _ {M : Type 1} (𝓤 : URA M) (H : Heap 𝓤) (A : Atoms 𝓤) (W : Given 𝓤 H A) where
@@ -55,7 +55,7 @@ module _ {M : Type 1} (𝓤 : URA M) (H : Heap 𝓤) (A : Atoms 𝓤) (W : Given
   pub typed-record : (h : MemberState) (v : Val) → Is T.the-row h (v ∷ []) → Holds (hasTy T′.mir v) × WT v
   typed-record h v is = LL.lawful T.the-type T′.the-laws 𝓤 H A W .typed h (v ∷ []) is .0
 
-  pub typed-called : (r : Called) (v : Val) → Is K.the-row r (v ∷ []) → Holds (hasTy K′.mir v) × WT v
+  pub typed-called : (r : AfterCall) (v : Val) → Is K.the-row r (v ∷ []) → Holds (hasTy K′.mir v) × WT v
   typed-called r v is = LL.lawful K.the-type K′.the-laws 𝓤 H A W .typed r (v ∷ []) is .0
 
   pub typed-report : (r : Report) (v : Val) → Is R.the-row r (v ∷ []) → Holds (hasTy R′.mir v) × WT v

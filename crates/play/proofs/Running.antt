@@ -13,7 +13,7 @@ use Rattle.laws.specs.Tests.{by-test, and-left, and-right}
 use Rattle.xdr.specs.Words.{Bytes}
 use Rattle.tree_theory.specs.Machine.{after}
 use Rattle.tree_theory.specs.Table.{sized, table}
-use Rattle.member_record.specs.Record.{fresh as fresh-member}
+use Rattle.member_record.specs.Record.{fresh-record as fresh-member}
 use Rattle.model.specs.Model.{Event, at-member, member-number, fresh-members, first-office, answers, proposals}
 use Rattle.model.specs.Model.{after as ended-from}
 use Rattle.model.specs.Demand.{calls, ended}

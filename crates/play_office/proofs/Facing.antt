@@ -2,7 +2,7 @@
 use mathlib.Core.Path.{_≡_, refl, sym, subst, _∙_}
 use mathlib.Core.Bool.{true, _||_}
 use mathlib.Core.List.{List, List·Memᴰ·head as here}
-use Prim.Native.Nat.{ℕ, _≤_, _<_}
+use Prim.Native.Nat.{ℕ, _≤_}
 use native.Mathlib.Omega.{arith}
 use lib.Dec.{eqb}
 use Rattle.laws.specs.Tests.{or-cases, tests}
@@ -11,10 +11,10 @@ use Rattle.ids.specs.declared.Round.{Round}
 use Rattle.tree_theory.specs.Table.{sized, Tree}
 use Rattle.message.specs.declared.Message.{Message}
 use Rattle.member_record.specs.declared.MemberState.{MemberState}
-use Rattle.member.specs.declared.Answer.{Answer}
-use Rattle.member.specs.declared.Answer.the-variants.{Sent, Proposed}
-use Rattle.member.specs.declared.Step.{Step}
-use Rattle.member.specs.Answers.{answer-outcome, outcome}
+use Rattle.member.specs.declared.StepAnswer.{StepAnswer}
+use Rattle.member.specs.declared.StepAnswer.the-variants.{Sent, Proposed}
+use Rattle.member.specs.declared.MemberStep.{MemberStep}
+use Rattle.member.specs.Answers.{answer-outcome, step-outcome}
 use Rattle.member.specs.Table.{Outcome}
 use Rattle.model.specs.Model.{Sizes, Event}
 use Rattle.model.specs.Model.{Office as ModelOffice}
@@ -37,7 +37,7 @@ allowed-seven n h =
     (λ t. or-cases (eqb n 5) (eqb n 7) t (λ f. omega tests) (λ f. omega tests))
 
 -- the step taken, by its answer
-pub retook : {z : Sizes} {o : ModelOffice} {e : Event} {i : ℕ} (s : Step) {b : Answer} → s .answer ≡ b → Took z o e i (outcome s) → Took z o e i (answer-outcome (s .state) b)
+pub retook : {z : Sizes} {o : ModelOffice} {e : Event} {i : ℕ} (s : MemberStep) {b : StepAnswer} → s .answer ≡ b → Took z o e i (step-outcome s) → Took z o e i (answer-outcome (s .state) b)
 retook {z} {o} {e} {i} s q T = subst (λ b. Took z o e i (answer-outcome (s .state) b)) q T
 
 module _ (t : Tally) (m : MemberState) (u : Outcome) (store ws : List ℕ) (F : Faced t m u store ws) where
@@ -72,8 +72,8 @@ module _ (t : Tally) (m : MemberState) (u : Outcome) (store ws : List ℕ) (F : 
       (step-kept (member-at (G .z) (G .o) (at-member (F .e))) (event-of (G .o) (F .e)) (M .seven) (M .is-sound) (event-fits (G .z) (G .o) K (F .e) (T .there)))
 
 -- the message of an answer that sends one
-pub answers-sent : (m : MemberState) (a : Answer) (g : Message) → a ≡ Sent g → g ∈ answer-outcome m a .sent
+pub answers-sent : (m : MemberState) (a : StepAnswer) (g : Message) → a ≡ Sent g → g ∈ answer-outcome m a .sent
 answers-sent m a g q = subst (λ b. g ∈ answer-outcome m b .sent) (sym q) (here refl)
 
-pub answers-proposed : (m : MemberState) (a : Answer) (g : Message) (r : Round) (x : ℕ) (b : Round) → a ≡ Proposed g r x b → g ∈ answer-outcome m a .sent
+pub answers-proposed : (m : MemberState) (a : StepAnswer) (g : Message) (r : Round) (x : ℕ) (b : Round) → a ≡ Proposed g r x b → g ∈ answer-outcome m a .sent
 answers-proposed m a g r x b q = subst (λ d. g ∈ answer-outcome m d .sent) (sym q) (here refl)

@@ -22,7 +22,7 @@ use Rattle.message.specs.declared.Message.{Message}
 use Rattle.message.specs.declared.Message.the-variants.{Start, Join, JoinVoted, Propose, Vote}
 use Rattle.message.specs.Layout.{Held}
 use Rattle.member_record.specs.declared.MemberState.{MemberState}
-use Rattle.member_record.specs.Record.{fresh as fresh-member}
+use Rattle.member_record.specs.Record.{fresh-record as fresh-member}
 use Rattle.model.specs.Model.{Sizes, Event, start, deliver, first-office, answer, next, offered, offers-at, member-at, member-number, proposals}
 use Rattle.model.specs.Model.{Office as ModelOffice}
 use Rattle.model.specs.Demand.{calls}

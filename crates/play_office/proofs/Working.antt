@@ -10,12 +10,12 @@ use borrow.Author.Tests.{le-leb, lt-leb, lt-ltb}
 use Rattle.message.specs.declared.Message.{Message}
 use Rattle.message.specs.Fields.{in-range}
 use Rattle.member_record.specs.declared.MemberState.{MemberState}
-use Rattle.member.specs.declared.Step.{Step}
-use Rattle.member_record.specs.Record.{sound, round}
-use Rattle.member.specs.Answers.{outcome as step-outcome}
-use Rattle.member.specs.Kept.{Stepped}
+use Rattle.member.specs.declared.MemberStep.{MemberStep}
+use Rattle.member_record.specs.Record.{sound, round-number}
+use Rattle.member.specs.Answers.{step-outcome}
+use Rattle.member.specs.Kept.{StepOf}
 use Rattle.member.specs.Table.{sound-step}
-use Rattle.member.specs.Table.{Event as MemberEvent, start as starts, deliver as delivers}
+use Rattle.member.specs.Table.{MemberEvent, starts, delivers}
 use Rattle.model.specs.Model.{Sizes, Event, start, deliver, at-member, unsent, event-of, message-at, member-at, event-causes, answer}
 use Rattle.model.specs.Model.{Office as ModelOffice}
 use Rattle.model.proofs.Kept.{step-is-sound, message-in}
@@ -69,7 +69,7 @@ module _ (z : Sizes) (o : ModelOffice) (t : Tally) (ms : List MemberState) (stor
         subst (λ r. sound r ≡ true) (sym (record-held h)) (kept z o (office-of t ms) store ws L R S .each (at-member e) (omega (arith, S .size)) .is-sound)
 
     -- the member's step at an event of the model
-    took : (v : MemberEvent) (s : Step) → at-member e < t .n → unsent o e ≡ false → v ≡ event-of o e → Stepped m v s →
+    took : (v : MemberEvent) (s : MemberStep) → at-member e < t .n → unsent o e ≡ false → v ≡ event-of o e → StepOf m v s →
         Took z o e (place-of (at-member e)) (step-outcome s)
     took v s h u q P =
         let within : at-member e < z .n = omega (arith, S .size) in
@@ -82,15 +82,15 @@ module _ (z : Sizes) (o : ModelOffice) (t : Tally) (ms : List MemberState) (stor
               sym (step-is-sound z o (kept z o (office-of t ms) store ws L R S) e within u);
         }
 
-  pub took-start : (k r x : ℕ) (m : MemberState) (s : Step) → Held ms (place-of k) m → k < t .n → Stepped m (starts (round r) x) s →
+  pub took-start : (k r x : ℕ) (m : MemberState) (s : MemberStep) → Held ms (place-of k) m → k < t .n → StepOf m (starts (round-number r) x) s →
       Took z o (start k r x) (place-of k) (step-outcome s)
-  took-start k r x m s H h P = took (start k r x) m H (starts (round r) x) s h refl refl P
+  took-start k r x m s H h P = took (start k r x) m H (starts (round-number r) x) s h refl refl P
 
   module _ (row k : ℕ) (m : MemberState) (H : Held ms (place-of k) m) where
     pub no-message : k < t .n → t .sent ≤ row → Next z o (deliver row k) (office-of t (set ms (place-of k) m)) 29 store ws
     no-message a h = absent (deliver row k) m H (rw (lt-leb (z .n) k (omega (arith, S .size)), le-leb (length (o .sent)) row (omega (arith, S .sent))) refl)
 
-    pub took-deliver : (g : Message) (s : Step) → k < t .n → row < t .sent → g ≡ fetched store row → Stepped m (delivers g) s →
+    pub took-deliver : (g : Message) (s : MemberStep) → k < t .n → row < t .sent → g ≡ fetched store row → StepOf m (delivers g) s →
         Took z o (deliver row k) (place-of k) (step-outcome s)
     took-deliver g s a h e P =
         took (deliver row k) m H (delivers g) s a (lt-leb (length (o .sent)) row (omega (arith, S .sent))) (ap delivers (e ∙ row-reads row h)) P

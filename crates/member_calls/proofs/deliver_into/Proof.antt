@@ -3,7 +3,7 @@ use mathlib.Core.Path.{refl, sym, _∙_}
 use denote.Ref.{now}
 use Rattle.message.specs.Reading.{message-row, decoded}
 use Rattle.message.proofs.RoundTrip.{got}
-use Rattle.member.specs.Table.{deliver, sound-step}
+use Rattle.member.specs.Table.{delivers, sound-step}
 use Rattle.member_calls.specs.Calls.{deliver-call}
 use Rattle.member_calls.proofs.Calls.{passing, refusing, unread, read-as}
 use borrow.Author.Needs.{needs}
@@ -32,7 +32,7 @@ returns c =
     let row = c .before .before .record-number in
     let args = entry (c .before .before) .args in
     let s = now (args .bytes) in
-    rw (refusing (args .m) (now (args .reply)) (row .result) (row .ensures) (message-row s) (sound-step (args .m) (deliver (decoded s)))
+    rw (refusing (args .m) (now (args .reply)) (row .result) (row .ensures) (message-row s) (sound-step (args .m) (delivers (decoded s)))
     (c .before .if1 .taken))
     (record { answers = c .refuse .ensures; reply = refl })
 

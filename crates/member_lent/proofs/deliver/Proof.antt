@@ -44,10 +44,10 @@ use denote.Triple.Walked.{says, Stays, stay-ref, stay-none-slice, gave-slice, wa
 use denote.Exit.{yes}
 use Rattle.member_record.specs.declared.MemberState.{MemberState}
 use Rattle.member_record.proofs.MemberState as T
-use Rattle.member_calls.specs.declared.reply.Called.{Called}
-use Rattle.member_calls.specs.Reports.{Replies}
-use Rattle.member_calls.proofs.reply.Called as K
-use Rattle.member_calls.proofs.reply.Called.Laws as K′
+use Rattle.member_calls.specs.declared.reply.AfterCall.{AfterCall}
+use Rattle.member_calls.specs.Reports.{LeavesReply}
+use Rattle.member_calls.proofs.reply.AfterCall as K
+use Rattle.member_calls.proofs.reply.AfterCall.Laws as K′
 use Rattle.member_calls.proofs.reply.Report as R
 use Rattle.member_calls.specs.Calls.{deliver-call}
 use Rattle.member_lent.proofs.Ending.{concludes}
@@ -91,8 +91,8 @@ module _ {M : Type 1} (𝓤 : URA M) (H : Heap 𝓤) (A : Atoms 𝓤) (W : Given
   Post = walkOf 𝓤 H A f.ended stayed (f.clauses 𝓤 H A at-mem run) .post (((κ, (ν, (μ, tt))), (q, (n, (p, tt))), tt, x, at), tt)
 
   -- what the callee's result says, at the reply's last list
-  abbrev Said : Called → List ℕ → Type 0
-  Said r zs = Replies (deliver-call h (z .now) (y .now)) (y .now) (r .state) (r .report) zs
+  abbrev Said : AfterCall → List ℕ → Type 0
+  Said r zs = LeavesReply (deliver-call h (z .now) (y .now)) (y .now) (r .state) (r .report) zs
 
   -- what the callee's triple binds outside, and that the caller has what it asks
   abbrev to-into : Into 𝓤 H A at-mem run .Ghost
@@ -106,7 +106,7 @@ module _ {M : Type 1} (𝓤 : URA M) (H : Heap 𝓤) (A : Atoms 𝓤) (W : Given
       fjoin ! $ move ! (2 ∷ 0 ∷ []) $ fjoin ! $
       owned ! T.the-row (Is T.the-row) (owned-record 𝓤 H A W) h _ was $ fjoin ! $ move ! (1 ∷ 0 ∷ []) $ join ! $ frame ! $ done !
 
-  exits : (r : Called) (zs : List ℕ) → Said r zs → length zs ≡ length (y .now) → Is R.the-row (r .report) (report-val (r .report) ∷ [])
+  exits : (r : AfterCall) (zs : List ℕ) → Said r zs → length zs ≡ length (y .now) → Is R.the-row (r .report) (report-val (r .report) ∷ [])
       → ent 𝓤 (sep 𝓤 (A .obs γ (T.the-row .coded .code (r .state)))
       (sep 𝓤 (A .bor κ (Body (mem T.the-row) b o γ))
       (sep 𝓤 (A .lft κ q) (sep 𝓤 (sep 𝓤 (A .lft ν n) (sep 𝓤 (A .lft μ p) (sem 𝓤 H A ftrue)))
@@ -148,7 +148,7 @@ module _ {M : Type 1} (𝓤 : URA M) (H : Heap 𝓤) (A : Atoms 𝓤) (W : Given
         calls-at ! fm (Into 𝓤 H A at-mem run) known to-into
         (and-then ! (load ! (from ! (stop !)) (look ! 10 refl))
         (and-then ! (load ! (from ! (stop !)) (look ! 16 refl)) (and-then ! (load ! (from ! (stop !)) (look ! 6 refl)) (no-more !)))) (λ u.
-        use1 W (later (some (λ (r : Called). ((‵ (flft ν n) ⊛ (‵ (flft μ p) ⊛ ‵ ftrue)) ⊛ ‵ (K.the-row .own r (u ∷ []))) ⊛ raw
+        use1 W (later (some (λ (r : AfterCall). ((‵ (flft ν n) ⊛ (‵ (flft μ p) ⊛ ‵ ftrue)) ⊛ ‵ (K.the-row .own r (u ∷ []))) ⊛ raw
         (ensured 𝓤 H A into.ended (into.clauses 𝓤 H A at-mem run) (ν, (μ, tt)) (h, (z, (y, tt))) tt r)))) (id⊢ 𝓤 _) $ await ! tt $ pick ! (λ r.
         -- what `deliver_into` ensures, at some last list of the reply
         split ! $ move ! (1 ∷ []) $ use1 W (some (λ (zs : Unit {0} × (Unit {0} × (List ℕ × Unit {0}))). ‵ (lasts into.ended (ν, (μ, tt)) (h, (z, (y, tt))) zs) ⊛

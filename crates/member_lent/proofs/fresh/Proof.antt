@@ -45,10 +45,10 @@ use Rattle.ids.proofs.Member as N
 use Rattle.ids.proofs.Member.Laws as N′
 use Rattle.member_record.specs.declared.MemberState.{MemberState}
 use Rattle.member_record.proofs.MemberState as T
-use Rattle.member_calls.specs.declared.reply.Called.{Called}
-use Rattle.member_calls.specs.Reports.{Answers}
-use Rattle.member_calls.proofs.reply.Called as K
-use Rattle.member_calls.proofs.reply.Called.Laws as K′
+use Rattle.member_calls.specs.declared.reply.AfterCall.{AfterCall}
+use Rattle.member_calls.specs.Reports.{LeavesReport}
+use Rattle.member_calls.proofs.reply.AfterCall as K
+use Rattle.member_calls.proofs.reply.AfterCall.Laws as K′
 use Rattle.member_calls.proofs.reply.Report as R
 use Rattle.member_calls.specs.Calls.{fresh-call}
 use Rattle.member_lent.proofs.Ending.{concludes}
@@ -87,10 +87,10 @@ module _ {M : Type 1} (𝓤 : URA M) (H : Heap 𝓤) (A : Atoms 𝓤) (W : Given
   Post = walkOf 𝓤 H A f.ended stayed (f.clauses 𝓤 H A at-mem run) .post (((κ, tt), (q, tt), tt, x, at), tt)
 
   -- what the callee's result says
-  abbrev Said : Called → Type 0
-  Said r = Answers (fresh-call h me n) (r .state) (r .report)
+  abbrev Said : AfterCall → Type 0
+  Said r = LeavesReport (fresh-call h me n) (r .state) (r .report)
 
-  said : (r : Called) → ent 𝓤 (ensured 𝓤 H A into.ended (into.clauses 𝓤 H A at-mem run) tt (h, (me, (n, tt))) tt r) (fact 𝓤 (Said r))
+  said : (r : AfterCall) → ent 𝓤 (ensured 𝓤 H A into.ended (into.clauses 𝓤 H A at-mem run) tt (h, (me, (n, tt))) tt r) (fact 𝓤 (Said r))
   said r = exE 𝓤 _ (λ ws. snd∗ 𝓤 (sem 𝓤 H A (lasts into.ended tt (h, (me, (n, tt))) ws)) (fact 𝓤 (Said r)))
 
   -- what the callee's triple binds outside, and that the caller has what it asks
@@ -104,7 +104,7 @@ module _ {M : Type 1} (𝓤 : URA M) (H : Heap 𝓤) (A : Atoms 𝓤) (W : Given
         owned ! N.the-row (Is N.the-row) (LL.makes N.the-type N′.the-plain 𝓤 H A) me _ me-is $ fjoin ! $
         owned ! T.the-row (Is T.the-row) (owned-record 𝓤 H A W) h _ was $ fjoin ! $ nothing ! $ join ! $ frame ! $ done !
 
-    exits : (r : Called) → Said r → Is R.the-row (r .report) (report-val (r .report) ∷ [])
+    exits : (r : AfterCall) → Said r → Is R.the-row (r .report) (report-val (r .report) ∷ [])
         → ent 𝓤 (sep 𝓤 (A .obs γ (T.the-row .coded .code (r .state))) (sep 𝓤 (A .bor κ (Body (mem T.the-row) b o γ)) (A .lft κ q)))
         (Post (report-val (r .report)))
     exits r e rep =
@@ -134,7 +134,7 @@ module _ {M : Type 1} (𝓤 : URA M) (H : Heap 𝓤) (A : Atoms 𝓤) (W : Given
           calls-at ! fm (Into 𝓤 H A at-mem run) known to-into
           (and-then ! (load ! (from ! (stop !)) (look ! 5 refl))
           (and-then ! (load ! (from ! (stop !)) (look ! 11 refl)) (and-then ! (load ! (from ! (stop !)) (look ! 9 refl)) (no-more !)))) (λ u.
-          use1 W (later (some (λ (r : Called). (‵ ftrue ⊛ ‵ (K.the-row .own r (u ∷ []))) ⊛ raw
+          use1 W (later (some (λ (r : AfterCall). (‵ ftrue ⊛ ‵ (K.the-row .own r (u ∷ []))) ⊛ raw
           (ensured 𝓤 H A into.ended (into.clauses 𝓤 H A at-mem run) tt (h, (me, (n, tt))) tt r)))) (id⊢ 𝓤 _) $ await ! tt $ pick ! (λ r.
           split ! $ move ! (1 ∷ []) $ use1 W (raw (fact 𝓤 (Said r))) (said r) $ heard ! (Said r) (λ e. split ! $ drop ! $
           peeks ! K.the-row (Is K.the-row) (shows 𝓤 H A K.the-row) r (u ∷ []) (λ is.

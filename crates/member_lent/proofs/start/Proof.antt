@@ -48,10 +48,10 @@ use Rattle.ids.proofs.Round as N
 use Rattle.ids.proofs.Round.Laws as N′
 use Rattle.member_record.specs.declared.MemberState.{MemberState}
 use Rattle.member_record.proofs.MemberState as T
-use Rattle.member_calls.specs.declared.reply.Called.{Called}
-use Rattle.member_calls.specs.Reports.{Replies}
-use Rattle.member_calls.proofs.reply.Called as K
-use Rattle.member_calls.proofs.reply.Called.Laws as K′
+use Rattle.member_calls.specs.declared.reply.AfterCall.{AfterCall}
+use Rattle.member_calls.specs.Reports.{LeavesReply}
+use Rattle.member_calls.proofs.reply.AfterCall as K
+use Rattle.member_calls.proofs.reply.AfterCall.Laws as K′
 use Rattle.member_calls.proofs.reply.Report as R
 use Rattle.member_calls.specs.Calls.{start-call}
 use Rattle.member_lent.proofs.Ending.{concludes}
@@ -96,8 +96,8 @@ module _ {M : Type 1} (𝓤 : URA M) (H : Heap 𝓤) (A : Atoms 𝓤) (W : Given
   Post = walkOf 𝓤 H A f.ended stayed (f.clauses 𝓤 H A at-mem run) .post (((κ, (μ, tt)), (q, (p, tt)), tt, x, at), tt)
 
   -- what the callee's result says, at the reply's last list
-  abbrev Said : Called → List ℕ → Type 0
-  Said r zs = Replies (start-call h rd v (y .now)) (y .now) (r .state) (r .report) zs
+  abbrev Said : AfterCall → List ℕ → Type 0
+  Said r zs = LeavesReply (start-call h rd v (y .now)) (y .now) (r .state) (r .report) zs
 
   -- what the callee's triple binds outside, and that the caller has what it asks
   abbrev to-into : Into 𝓤 H A at-mem run .Ghost
@@ -112,7 +112,7 @@ module _ {M : Type 1} (𝓤 : URA M) (H : Heap 𝓤) (A : Atoms 𝓤) (W : Given
         owned ! N.the-row (Is N.the-row) (LL.makes N.the-type N′.the-plain 𝓤 H A) rd _ rd-is $ fjoin ! $
         owned ! T.the-row (Is T.the-row) (owned-record 𝓤 H A W) h _ was $ fjoin ! $ move ! (1 ∷ 0 ∷ []) $ join ! $ frame ! $ done !
 
-    exits : (r : Called) (zs : List ℕ) → Said r zs → length zs ≡ length (y .now) → Is R.the-row (r .report) (report-val (r .report) ∷ [])
+    exits : (r : AfterCall) (zs : List ℕ) → Said r zs → length zs ≡ length (y .now) → Is R.the-row (r .report) (report-val (r .report) ∷ [])
         → ent 𝓤 (sep 𝓤 (A .obs γ (T.the-row .coded .code (r .state)))
         (sep 𝓤 (A .bor κ (Body (mem T.the-row) b o γ))
         (sep 𝓤 (A .lft κ q) (sep 𝓤 (sep 𝓤 (A .lft μ p) (sem 𝓤 H A ftrue)) (sem 𝓤 H A (finally u8 (y .name) zs)))))) (Post (report-val (r .report)))
@@ -154,7 +154,7 @@ module _ {M : Type 1} (𝓤 : URA M) (H : Heap 𝓤) (A : Atoms 𝓤) (W : Given
           (and-then ! (load ! (from ! (stop !)) (look ! 9 refl))
           (and-then ! (load ! (from ! (stop !)) (look ! 17 refl))
           (and-then ! (load ! (from ! (stop !)) (look ! 15 refl)) (and-then ! (load ! (from ! (stop !)) (look ! 5 refl)) (no-more !))))) (λ u.
-          use1 W (later (some (λ (r : Called). ((‵ (flft μ p) ⊛ ‵ ftrue) ⊛ ‵ (K.the-row .own r (u ∷ []))) ⊛ raw
+          use1 W (later (some (λ (r : AfterCall). ((‵ (flft μ p) ⊛ ‵ ftrue) ⊛ ‵ (K.the-row .own r (u ∷ []))) ⊛ raw
           (ensured 𝓤 H A into.ended (into.clauses 𝓤 H A at-mem run) (μ, tt) (h, (rd, (v, (y, tt)))) tt r)))) (id⊢ 𝓤 _) $ await ! tt $ pick ! (λ r.
           -- what `start_into` ensures, at some last list of the reply
           split ! $ move ! (1 ∷ []) $ use1 W (some (λ (zs : Unit {0} × (Unit {0} × (Unit {0} × (List ℕ × Unit {0})))). ‵

@@ -1,8 +1,6 @@
 -- `crate::settle` meets its contract: each answer of the member is one arm, and each arm one law. Assumes nothing.
-use mathlib.Core.Path.{_≡_}
 use native.Mathlib.Omega.{arith}
 use denote.Ref.{now}
-use Rattle.laws.specs.Tests.{tests}
 use Rattle.member.proofs.Checks.{refused-byte, refused-some}
 use Rattle.play_office.proofs.Arms.{refuses, goes-silent, sends-go, proposes-go, decides-go}
 use Rattle.play_office.proofs.Facing.{retook, step-keeps, few, answers-sent, answers-proposed, faced-tree}
