@@ -1,7 +1,7 @@
--- What the number of an event's check says of the move, and that the number of a refusal is a byte and not 0. Assumes nothing.
+-- What the number of an event's check says of the move, and what is known of an answer's number and message. Assumes nothing.
 use mathlib.Core.Path.{_≡_, refl, sym, subst, _∙_, ap}
 use mathlib.Core.Bool.{Bool, true, false, not, _&&_}
-use mathlib.Core.List.{List, [], _∷_}
+use mathlib.Core.List.{List, [], _∷_, List·Memᴰ·head as here}
 use Prim.Native.Nat.{ℕ, _<_}
 use native.Mathlib.Omega.{arith}
 use borrow.Author.Tests.{not-true, not-false, ne-eqb}
@@ -10,17 +10,18 @@ use Rattle.laws.specs.Tests.{tests, by-test, and-left, and-right}
 use Rattle.laws.specs.First.{Cause, first, passed}
 use Rattle.ids.specs.declared.Round.{Round}
 use Rattle.ids.specs.declared.Member.{Member}
+use Rattle.message.specs.declared.Message.{Message}
+use Rattle.message.specs.Fields.{in-range}
 use Rattle.message.specs.declared.Message.the-variants.{Start, Join, JoinVoted, Propose, Vote}
-use Rattle.member_record.specs.declared.Who.{Who}
 use Rattle.member_record.specs.declared.MemberState.{MemberState}
 use Rattle.member_rules.specs.Causes.{count-causes}
 use Rattle.member_rules.specs.Changes.{adopting}
-use Rattle.member.specs.declared.Answer.{Answer}
-use Rattle.member.specs.declared.Answer.the-variants.{Refused}
+use Rattle.member.specs.declared.StepAnswer.{StepAnswer}
+use Rattle.member.specs.declared.StepAnswer.the-variants.{Refused, Sent, Proposed}
 use Rattle.member.specs.declared.Move.{Move}
 use Rattle.member.specs.Answers.{answer-outcome, numbered-answer, MoveIs}
 use Rattle.member.specs.Kept.{Kept}
-use Rattle.member.specs.Table.{Outcome, refused, silent, unless, complete, completes, counted, Event, start, deliver, causes}
+use Rattle.member.specs.Table.{Outcome, refused, silent, unless, complete, completes, after-count, MemberEvent, starts, delivers, step-causes}
 
 -- the causes, the record, what the row says, and the number
 module _ (cs : List Cause) (m : MemberState) (o : Outcome) {k : ℕ} (is : k ≡ first cs) where
@@ -42,15 +43,15 @@ check-sender phase m r s e z =
 
 -- a record short of what its phase needs, and one that has it, by the test that the code makes on the record counted
 module _ (phase : ℕ) (r : Round) {m d : MemberState} {b : Bool} (same : d ≡ m) (is : b ≡ complete d) where
-  pub short : not b ≡ true → silent d ≡ counted phase m r
-  short h =
-      let e : silent d ≡ counted phase d r = rw (← is, not-true b h) refl in
-      e ∙ ap (λ k. counted phase k r) same
+  pub short-move : not b ≡ true → silent d ≡ after-count phase m r
+  short-move h =
+      let e : silent d ≡ after-count phase d r = rw (← is, not-true b h) refl in
+      e ∙ ap (λ k. after-count phase k r) same
 
-  pub reached : not b ≡ false → {t : Move} → MoveIs (completes phase d r) t → MoveIs (counted phase m r) t
-  reached h q =
-      let e : completes phase d r ≡ counted phase d r = rw (← is, not-false b h) refl in
-      record { equals = q .equals ∙ e ∙ ap (λ k. counted phase k r) same; numbered = q .numbered }
+  pub complete-move : not b ≡ false → {t : Move} → MoveIs (completes phase d r) t → MoveIs (after-count phase m r) t
+  complete-move h q =
+      let e : completes phase d r ≡ after-count phase d r = rw (← is, not-false b h) refl in
+      record { equals = q .equals ∙ e ∙ ap (λ k. after-count phase k r) same; numbered = q .numbered }
 
 -- a vote taken over leaves the group that says who the member is
 pub adopting-who : (m : MemberState) (q : Round) (w : ℕ) → adopting m q w .who ≡ m .who
@@ -69,23 +70,31 @@ first-byte (c ∷ cs) h =
     (λ t. rw t (omega (tests, and-left (ltb (c .number) 256) (all-bytes cs) h)))
     (λ t. rw t (first-byte cs (and-right (ltb (c .number) 256) (all-bytes cs) h)))
 
-pub causes-byte : (m : MemberState) (e : Event) → first (causes m e) < 256
-unfolding causes
-causes-byte m e = first-byte (causes m e) (each e)
+pub causes-byte : (m : MemberState) (e : MemberEvent) → first (step-causes m e) < 256
+unfolding step-causes
+causes-byte m e = first-byte (step-causes m e) (each e)
   where
-    each : (e : Event) → all-bytes (causes m e) ≡ true
-    each (start r offer) = refl
-    each (deliver (Start r s)) = refl
-    each (deliver (Join r s)) = refl
-    each (deliver (JoinVoted r s q w)) = refl
-    each (deliver (Propose r s v)) = refl
-    each (deliver (Vote r s)) = refl
+    each : (e : MemberEvent) → all-bytes (step-causes m e) ≡ true
+    each (starts r offer) = refl
+    each (delivers (Start r s)) = refl
+    each (delivers (Join r s)) = refl
+    each (delivers (JoinVoted r s q w)) = refl
+    each (delivers (Propose r s v)) = refl
+    each (delivers (Vote r s)) = refl
 
 -- the number of an answer that refuses is a byte, and not 0
-pub refused-byte : (m : MemberState) {a : Answer} {k : ℕ} → a ≡ Refused k → Kept (answer-outcome m a) → k < 256
+pub refused-byte : (m : MemberState) {a : StepAnswer} {k : ℕ} → a ≡ Refused k → Kept (answer-outcome m a) → k < 256
 refused-byte m q K = subst (λ b. answer-outcome m b .number < 256) q (K .number-byte)
 
-pub refused-some : {a : Answer} {k : ℕ} → a ≡ Refused k → numbered-answer a ≡ true → k ≡ 0 → ⊥
+pub refused-some : {a : StepAnswer} {k : ℕ} → a ≡ Refused k → numbered-answer a ≡ true → k ≡ 0 → ⊥
 refused-some {a} {k} q h z =
     let n : not (eqb k 0) ≡ true = subst (λ b. numbered-answer b ≡ true) q h in
     absurd (omega (tests, not-true (eqb k 0) n))
+
+-- what an answer sends is within the ranges of its kind
+pub sent-in-bounds : (m : MemberState) {a : StepAnswer} {g : Message} → a ≡ Sent g → Kept (answer-outcome m a) → in-range g ≡ true
+sent-in-bounds m {a} {g} q K = subst (λ b. Kept (answer-outcome m b)) q K .sent-in-range g (here refl)
+
+pub proposed-in-bounds : (m : MemberState) {a : StepAnswer} {g : Message} {r : Round} {x : ℕ} {b : Round} → a ≡ Proposed g r x b → Kept (answer-outcome m a) →
+    in-range g ≡ true
+proposed-in-bounds m {a} {g} q K = subst (λ d. Kept (answer-outcome m d)) q K .sent-in-range g (here refl)

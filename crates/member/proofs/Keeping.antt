@@ -1,7 +1,7 @@
 -- An accepted step of a sound record gives a sound record, and what it sends is within the ranges of its kind. Row by row: what the
 -- row leaves is sound as it was, what it changes is so by the causes that did not hold. Assumes nothing.
 use mathlib.Core.Path.{_≡_, refl}
-use mathlib.Core.Bool.{Bool, true, false, cond, not}
+use mathlib.Core.Bool.{Bool, true, false, not}
 use mathlib.Core.List.{List, [], _∷_, List·Memᴰ·eq-of-singleton}
 use Prim.Native.Nat.{ℕ, suc, _<_}
 use native.Mathlib.Omega.{arith}
@@ -23,37 +23,37 @@ use Rattle.member_record.specs.Phases.{IDLE, COLLECTING, PROPOSED, DECIDED, nee
 use Rattle.member_record.specs.Record.{with-lead, leads, flagged, flag-from, no-flags, sound, sound-count, changes-durable}
 use Rattle.member_record.proofs.Flags.{number-sizes, cleared-from, set-count, set-from}
 use Rattle.member_record.proofs.Quorums.{needed-decided, cleared-short}
-use Rattle.member_record.proofs.Sound.{Sound, parts, whole, Votes, votes, Leading, leading-parts, leading-whole}
-use Rattle.member_rules.specs.Causes.{start-causes, START-causes, awaits, count-causes}
-use Rattle.member_rules.specs.Changes.{leading, joining, join-of, counting, adopted, adopting, voting}
-use Rattle.member.specs.Table.{silent, start-row, START-row, complete, completes, count-row, PROPOSE-row}
-use Rattle.member.specs.Table.{Event, start, deliver, fitting, causes, row, sound-step, step}
+use Rattle.member_record.proofs.Sound.{SoundParts, parts, whole, SoundVotes, vote-parts, SoundLeading, leading-parts, leading-whole}
+use Rattle.member_rules.specs.Causes.{start-call-causes, START-causes, awaits, count-causes}
+use Rattle.member_rules.specs.Changes.{starting, joining, join-of, counting, adopted, adopting, voting}
+use Rattle.member.specs.Table.{silent, start-call-row, START-row, complete, completes, count-row, PROPOSE-row}
+use Rattle.member.specs.Table.{MemberEvent, starts, delivers, fitting, step-causes, step-row, sound-step, member-step}
 use Rattle.member.specs.declared.Move.{Move}
-use Rattle.member.specs.declared.Step.{Step}
-use Rattle.member.specs.Answers.{MoveIs, outcome}
-use Rattle.member.specs.Kept.{Kept, Stepped}
+use Rattle.member.specs.declared.MemberStep.{MemberStep}
+use Rattle.member.specs.Answers.{MoveIs, step-outcome}
+use Rattle.member.specs.Kept.{Kept, StepOf}
 use Rattle.member.proofs.Checks.{causes-byte}
 
 one-sent : (x : Message) → in-range x ≡ true → (g : Message) → g ∈ x ∷ [] → in-range g ≡ true
 one-sent x h g i = rw (List·Memᴰ·eq-of-singleton i) h
 
 -- a message of round r from this member
-own-head : (m : MemberState) (r : Round) → Sound m → out-of-range (r .0) ≡ false → head-in-range r (m .who .me) ≡ true
+own-head : (m : MemberState) (r : Round) → SoundParts m → out-of-range (r .0) ≡ false → head-in-range r (m .who .me) ≡ true
 own-head m r s range =
     let (low, three, seven) = number-sizes (m .who .me) (m .who .n) (s .number) in
     let e : no-member (m .who .me .0) ≡ false = omega tests in
     rw (range, e)
 
-start-kept : (m : MemberState) (r : Round) (offer : ℕ) → Sound m → Passed (start-causes m r) → Kept (start-row m r offer)
+start-kept : (m : MemberState) (r : Round) (offer : ℕ) → SoundParts m → Passed (start-call-causes m r) → Kept (start-call-row m r offer)
 start-kept m r offer s (range, (leader, (higher, end))) =
     record {
       number-byte = omega arith;
-      sound-after = whole (leading m r offer) (record {
+      sound-after = whole (starting m r offer) (record {
         number = s .number;
         phases = refl;
         lasting = s .lasting;
         flags = cleared-from (m .who .n);
-        led = leading-whole (leading m r offer) (or-left (eqb (r .0) 0) (above-range (r .0)) range) (record {
+        led = leading-whole (starting m r offer) (or-left (eqb (r .0) 0) (above-range (r .0)) range) (record {
           active = refl;
           ranged = rw (or-right (eqb (r .0) 0) (above-range (r .0)) range);
           leader = not-false (leads (m .who .n) (m .who .me) r) leader;
@@ -65,9 +65,10 @@ start-kept m r offer s (range, (leader, (higher, end))) =
       sent-in-range = one-sent (Start r (m .who .me)) (own-head m r s range);
     }
 
-START-kept : (m : MemberState) (r : Round) (t : Member) → length (m .lead .flags) ≡ 7 → Sound m → out-of-range (r .0) ≡ false → Passed (START-causes m r t) → Kept (START-row m r)
+START-kept : (m : MemberState) (r : Round) (t : Member) → length (m .lead .flags) ≡ 7 → SoundParts m → out-of-range (r .0) ≡ false → Passed (START-causes m r t)
+    → Kept (START-row m r)
 START-kept m r t seven s range (leader, (higher, end)) =
-    let v : Votes (m .durable) = votes (m .durable) (s .lasting) in
+    let v : SoundVotes (m .durable) = vote-parts (m .durable) (s .lasting) in
     let o : leb (m .durable .voted .0) (r .0) ≡ true = omega (tests, v .ordered) in
     let o′ : ltb (m .durable .voted .0) (r .0) ≡ true = omega (tests, v .ordered) in
     record {
@@ -85,7 +86,7 @@ START-kept m r t seven s range (leader, (higher, end)) =
           (λ t. rw t (own-head m r s range)));
     }
 
-PROPOSE-kept : (m : MemberState) (r : Round) (v : ℕ) → length (m .lead .flags) ≡ 7 → Sound m → out-of-range (r .0) ≡ false → Kept (PROPOSE-row m r v)
+PROPOSE-kept : (m : MemberState) (r : Round) (v : ℕ) → length (m .lead .flags) ≡ 7 → SoundParts m → out-of-range (r .0) ≡ false → Kept (PROPOSE-row m r v)
 PROPOSE-kept m r v seven s range =
     let o : leb (r .0) (r .0) ≡ true = omega tests in
     record {
@@ -105,10 +106,10 @@ PROPOSE-kept m r v seven s range =
 abbrev recounted : MemberState → ℕ → List Bool → MemberState
 recounted m p fs = with-lead m (record { phase = p; value = m .lead .value; source = m .lead .source; flags = fs })
 
-recounted-sound : (m : MemberState) (p : ℕ) (fs : List Bool) → Sound m → eqb (m .durable .led .0) 0 ≡ false → leb p DECIDED ≡ true → eqb p IDLE ≡ false →
+recounted-sound : (m : MemberState) (p : ℕ) (fs : List Bool) → SoundParts m → eqb (m .durable .led .0) 0 ≡ false → leb p DECIDED ≡ true → eqb p IDLE ≡ false →
     not (some (flag-from (m .who .n) fs) 7) ≡ true → sound-count (m .who) (recounted m p fs .lead) ≡ true → sound (recounted m p fs) ≡ true
 recounted-sound m p fs s z high low from count =
-    let l : Leading m = leading-parts m s z in
+    let l : SoundLeading m = leading-parts m s z in
     whole (recounted m p fs) (record {
       number = s .number;
       phases = high;
@@ -120,7 +121,7 @@ recounted-sound m p fs s z high low from count =
 -- a JOIN or VOTE of round r from t that no cause refuses in the phase that awaits it
 record Awaited (phase : ℕ) (m : MemberState) (r : Round) (t : Member) : Type 0 where
   seven : length (m .lead .flags) ≡ 7
-  is-sound : Sound m
+  is-sound : SoundParts m
   range : out-of-range (r .0) ≡ false
   early : phase < DECIDED
   active : IDLE < phase
@@ -164,7 +165,8 @@ module _ {phase : ℕ} {m : MemberState} {r : Round} {t : Member} (a : Awaited p
       let active : eqb (m .lead .phase) IDLE ≡ false = omega (tests, now, a .active) in
       record {
         number-byte = omega arith;
-        sound-after = recounted-sound m (m .lead .phase) (set (m .lead .flags) (t .0) true) (a .is-sound) led (a .is-sound .phases) active from (rw undecided k);
+        sound-after = recounted-sound m (m .lead .phase) (set (m .lead .flags) (t .0) true) (a .is-sound) led (a .is-sound .phases) active from
+            (rw undecided k);
         seven-after = simp length-set (a .seven);
         sent-in-range = λ g i. elim i [ ];
       }
@@ -187,10 +189,10 @@ VOTE-kept : {m : MemberState} {r : Round} {t : Member} → Awaited PROPOSED m r 
 VOTE-kept {m} {r} {t} a =
     counted-kept a
     (λ h.
-    let votes : eqb (flagged (set (m .lead .flags) (t .0) true)) (needed (m .who) DECIDED) ≡ true = rw (needed-decided (m .who)) (rw (now a) at h) in
+    let enough : eqb (flagged (set (m .lead .flags) (t .0) true)) (needed (m .who) DECIDED) ≡ true = rw (needed-decided (m .who)) (rw (now a) at h) in
     record {
       number-byte = omega arith;
-      sound-after = recounted-sound m DECIDED (set (m .lead .flags) (t .0) true) (a .is-sound) (led a) refl refl (from a) votes;
+      sound-after = recounted-sound m DECIDED (set (m .lead .flags) (t .0) true) (a .is-sound) (led a) refl refl (from a) enough;
       seven-after = simp length-set (a .seven);
       sent-in-range = λ g i. elim i [ ];
     })
@@ -211,9 +213,9 @@ JOIN-voted-kept {m} {r} {t} q w below a =
     })))
     (λ h. rw h (JOIN-kept a))
   where
-    adopted-sound : Sound (adopted m q w)
+    adopted-sound : SoundParts (adopted m q w)
     adopted-sound =
-        let l : Leading m = leading-parts m (a .is-sound) (led a) in
+        let l : SoundLeading m = leading-parts m (a .is-sound) (led a) in
         record {
           number = a .is-sound .number;
           phases = a .is-sound .phases;
@@ -237,36 +239,37 @@ awaits-count {phase} m r t range seven s early active h =
     record { seven = seven; is-sound = parts m s; range = range; early = early; active = active; passes = passed (count-causes phase m r t) refl h }
 
 -- each accepted step of a sound record, at a message within its ranges
-pub row-kept : (m : MemberState) (e : Event) → length (m .lead .flags) ≡ 7 → sound m ≡ true → fitting e ≡ true → first (causes m e) ≡ 0 → Kept (row m e)
-unfolding causes row
-row-kept m (start r offer) seven s f h = start-kept m r offer (parts m s) (passed (start-causes m r) refl h)
-row-kept m (deliver (Start r t)) seven s f h = START-kept m r t seven (parts m s) (head-range r t f) (passed (START-causes m r t) refl h)
-row-kept m (deliver (Join r t)) seven s f h = JOIN-kept (awaits-count m r t (head-range r t f) seven s (omega arith) (omega arith) h)
-row-kept m (deliver (JoinVoted r t q w)) seven s f h =
+pub row-kept : (m : MemberState) (e : MemberEvent) → length (m .lead .flags) ≡ 7 → sound m ≡ true → fitting e ≡ true → first (step-causes m e) ≡ 0
+    → Kept (step-row m e)
+unfolding step-causes step-row
+row-kept m (starts r offer) seven s f h = start-kept m r offer (parts m s) (passed (start-call-causes m r) refl h)
+row-kept m (delivers (Start r t)) seven s f h = START-kept m r t seven (parts m s) (head-range r t f) (passed (START-causes m r t) refl h)
+row-kept m (delivers (Join r t)) seven s f h = JOIN-kept (awaits-count m r t (head-range r t f) seven s (omega arith) (omega arith) h)
+row-kept m (delivers (JoinVoted r t q w)) seven s f h =
     JOIN-voted-kept q w
     (and-right (leb 1 (q .0)) (ltb (q .0) (r .0)) (and-right (head-in-range r t) _ f))
     (awaits-count m r t (head-range r t (and-left (head-in-range r t) _ f)) seven s (omega arith) (omega arith) h)
-row-kept m (deliver (Propose r t v)) seven s f h = PROPOSE-kept m r v seven (parts m s) (head-range r t f)
-row-kept m (deliver (Vote r t)) seven s f h = VOTE-kept (awaits-count m r t (head-range r t f) seven s (omega arith) (omega arith) h)
+row-kept m (delivers (Propose r t v)) seven s f h = PROPOSE-kept m r v seven (parts m s) (head-range r t f)
+row-kept m (delivers (Vote r t)) seven s f h = VOTE-kept (awaits-count m r t (head-range r t f) seven s (omega arith) (omega arith) h)
 
 -- and each step, since a refused one leaves the record and sends nothing
-pub step-kept : (m : MemberState) (e : Event) → length (m .lead .flags) ≡ 7 → sound m ≡ true → fitting e ≡ true → Kept (sound-step m e)
+pub step-kept : (m : MemberState) (e : MemberEvent) → length (m .lead .flags) ≡ 7 → sound m ≡ true → fitting e ≡ true → Kept (sound-step m e)
 unfolding sound-step
 step-kept m e seven s f =
-    by-test (eqb (first (causes m e)) 0)
+    by-test (eqb (first (step-causes m e)) 0)
     (λ h. rw h (row-kept m e seven s f (omega tests)))
     (λ h. rw h (record { number-byte = causes-byte m e; sound-after = s; seven-after = seven; sent-in-range = λ g i. elim i [ ] }))
 
 -- so is the step that the code makes of a row's move
-pub stepped : (m : MemberState) (e : Event) {t : Move} {s : Step} →
+pub step-of-move : (m : MemberState) (e : MemberEvent) {t : Move} {s : MemberStep} →
     (s .state ≡ t .state) × (s .answer ≡ t .answer) × (s .lasting ≡ changes-durable (m .durable) (s .state .durable)) →
-    MoveIs (sound-step m e) t → Kept (sound-step m e) → Stepped m e s
-stepped m e {t} {s} (state, answer, lasting) moved k =
-    let same : outcome s ≡ sound-step m e = rw (state, answer) (moved .equals) in
+    MoveIs (sound-step m e) t → Kept (sound-step m e) → StepOf m e s
+step-of-move m e {t} {s} (state, answer, lasting) moved k =
+    let same : step-outcome s ≡ sound-step m e = rw (state, answer) (moved .equals) in
     record { equals = same; kept = rw same k; numbered = rw answer (moved .numbered); lasting = lasting }
 
 -- the step of any record at any event is that of a sound record where the record is sound and the message within its ranges
-pub step-of-sound : (m : MemberState) (e : Event) → sound m ≡ true → fitting e ≡ true → step m e ≡ sound-step m e
-unfolding step
-step-of-sound m (start r offer) s f = rw s
-step-of-sound m (deliver g) s f = rw (s, f)
+pub step-of-sound : (m : MemberState) (e : MemberEvent) → sound m ≡ true → fitting e ≡ true → member-step m e ≡ sound-step m e
+unfolding member-step
+step-of-sound m (starts r offer) s f = rw s
+step-of-sound m (delivers g) s f = rw (s, f)

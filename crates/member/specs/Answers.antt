@@ -4,13 +4,13 @@ use mathlib.Core.Bool.{Bool, true, not}
 use mathlib.Core.List.{[], _∷_}
 use lib.Dec.{eqb}
 use Rattle.member_record.specs.declared.MemberState.{MemberState}
-use Rattle.member.specs.declared.Answer.{Answer}
-use Rattle.member.specs.declared.Answer.the-variants.{Refused, Sent, Done, Proposed, Decided}
+use Rattle.member.specs.declared.StepAnswer.{StepAnswer}
+use Rattle.member.specs.declared.StepAnswer.the-variants.{Refused, Sent, Done, Proposed, Decided}
 use Rattle.member.specs.declared.Move.{Move}
-use Rattle.member.specs.declared.Step.{Step}
+use Rattle.member.specs.declared.MemberStep.{MemberStep}
 use Rattle.member.specs.Table.{Outcome, refused, sends, silent, proposal, decision}
 
-abbrev pub answer-outcome : MemberState → Answer → Outcome
+abbrev pub answer-outcome : MemberState → StepAnswer → Outcome
 answer-outcome m (Refused k) = refused k m
 answer-outcome m (Sent g) = sends m g
 answer-outcome m Done = silent m
@@ -18,7 +18,7 @@ answer-outcome m (Proposed g r x b) = record { number = 0; state = m; sent = g �
 answer-outcome m (Decided r x) = record { number = 0; state = m; sent = []; named = decision (r .0) x }
 
 -- a refusal has a number
-abbrev pub numbered-answer : Answer → Bool
+abbrev pub numbered-answer : StepAnswer → Bool
 numbered-answer (Refused k) = not (eqb k 0)
 numbered-answer (Sent g) = true
 numbered-answer Done = true
@@ -29,8 +29,8 @@ numbered-answer (Decided r x) = true
 abbrev pub move-outcome : Move → Outcome
 move-outcome t = answer-outcome (t .state) (t .answer)
 
-abbrev pub outcome : Step → Outcome
-outcome s = answer-outcome (s .state) (s .answer)
+abbrev pub step-outcome : MemberStep → Outcome
+step-outcome s = answer-outcome (s .state) (s .answer)
 
 -- a move comes to this, and a refusal has a number
 pub record MoveIs (o : Outcome) (t : Move) : Type 0 where

@@ -13,8 +13,8 @@ use Rattle.message.specs.Fields.{in-range}
 use Rattle.member_record.specs.declared.MemberState.{MemberState}
 use Rattle.member_record.specs.Phases.{COLLECTING, PROPOSED, needed}
 use Rattle.member_record.specs.Record.{flagged, sound}
-use Rattle.member_rules.specs.Causes.{start-causes, START-causes, count-causes, PROPOSE-causes}
-use Rattle.member_rules.specs.Changes.{leading, joining, join-of, counting, adopting, proposing, voting, deciding}
+use Rattle.member_rules.specs.Causes.{start-call-causes, START-causes, count-causes, PROPOSE-causes}
+use Rattle.member_rules.specs.Changes.{starting, joining, join-of, counting, adopting, proposing, voting, deciding}
 
 -- what an answer names
 pub data Named : Type 0 where
@@ -46,8 +46,8 @@ abbrev pub unless : List Cause → MemberState → Outcome → Outcome
 unless cs m o = cond (eqb (first cs) 0) o (refused (first cs) m)
 
 -- start(r, offer): L = r, phase 1, X = offer, B = 0, flags cleared; sends START
-abbrev pub start-row : MemberState → Round → ℕ → Outcome
-start-row m r offer = sends (leading m r offer) (Start r (m .who .me))
+abbrev pub start-call-row : MemberState → Round → ℕ → Outcome
+start-call-row m r offer = sends (starting m r offer) (Start r (m .who .me))
 
 -- START r: J = r; sends JOIN with V, W if V > 0
 abbrev pub START-row : MemberState → Round → Outcome
@@ -60,7 +60,12 @@ complete m = eqb (flagged (m .lead .flags)) (needed (m .who) (m .lead .phase))
 -- phase 2, flags cleared, sends PROPOSE(r, X), and the answer names r, X, B: add(r, X, B)
 abbrev pub proposes : MemberState → Round → Outcome
 proposes m r =
-    record { number = 0; state = proposing m; sent = Propose r (m .who .me) (m .lead .value) ∷ []; named = proposal (r .0) (m .lead .value) (m .lead .source .0) }
+    record {
+      number = 0;
+      state = proposing m;
+      sent = Propose r (m .who .me) (m .lead .value) ∷ [];
+      named = proposal (r .0) (m .lead .value) (m .lead .source .0);
+    }
 
 -- PROPOSE r, v: J = V = r, W = v; sends VOTE
 abbrev pub PROPOSE-row : MemberState → Round → ℕ → Outcome
@@ -75,53 +80,53 @@ abbrev pub completes : ℕ → MemberState → Round → Outcome
 completes phase m r = cond (eqb phase COLLECTING) (proposes m r) (decides m r)
 
 -- a record counted: at f+1 flags the phase is complete, and nothing more happens before
-abbrev pub counted : ℕ → MemberState → Round → Outcome
-counted phase m r = cond (complete m) (completes phase m r) (silent m)
+abbrev pub after-count : ℕ → MemberState → Round → Outcome
+after-count phase m r = cond (complete m) (completes phase m r) (silent m)
 
 -- JOIN r, awaited while COLLECTING, its vote taken over before, and VOTE r, awaited once PROPOSED: flags the sender
 abbrev pub count-row : ℕ → MemberState → Round → Member → Outcome
-count-row phase m r s = counted phase (counting m s) r
+count-row phase m r s = after-count phase (counting m s) r
 
 -- an event of a member
-pub data Event : Type 0 where
-  start : (r : Round) (offer : ℕ) → Event
-  deliver : (g : Message) → Event
+pub data MemberEvent : Type 0 where
+  starts : (r : Round) (offer : ℕ) → MemberEvent
+  delivers : (g : Message) → MemberEvent
 
 -- the rows "start" and "deliver" of the place table, by the member table
-unfoldable pub causes : MemberState → Event → List Cause
-causes m (start r offer) = start-causes m r
-causes m (deliver (Start r s)) = START-causes m r s
-causes m (deliver (Join r s)) = count-causes COLLECTING m r s
-causes m (deliver (JoinVoted r s q w)) = count-causes COLLECTING m r s
-causes m (deliver (Propose r s v)) = PROPOSE-causes m r s v
-causes m (deliver (Vote r s)) = count-causes PROPOSED m r s
+unfoldable pub step-causes : MemberState → MemberEvent → List Cause
+step-causes m (starts r offer) = start-call-causes m r
+step-causes m (delivers (Start r s)) = START-causes m r s
+step-causes m (delivers (Join r s)) = count-causes COLLECTING m r s
+step-causes m (delivers (JoinVoted r s q w)) = count-causes COLLECTING m r s
+step-causes m (delivers (Propose r s v)) = PROPOSE-causes m r s v
+step-causes m (delivers (Vote r s)) = count-causes PROPOSED m r s
 
 -- the column "Else"
-unfoldable pub row : MemberState → Event → Outcome
+unfoldable pub step-row : MemberState → MemberEvent → Outcome
 unfolding flagged needed adopting
-row m (start r offer) = start-row m r offer
-row m (deliver (Start r s)) = START-row m r
-row m (deliver (Join r s)) = count-row COLLECTING m r s
-row m (deliver (JoinVoted r s q w)) = count-row COLLECTING (adopting m q w) r s
-row m (deliver (Propose r s v)) = PROPOSE-row m r v
-row m (deliver (Vote r s)) = count-row PROPOSED m r s
+step-row m (starts r offer) = start-call-row m r offer
+step-row m (delivers (Start r s)) = START-row m r
+step-row m (delivers (Join r s)) = count-row COLLECTING m r s
+step-row m (delivers (JoinVoted r s q w)) = count-row COLLECTING (adopting m q w) r s
+step-row m (delivers (Propose r s v)) = PROPOSE-row m r v
+step-row m (delivers (Vote r s)) = count-row PROPOSED m r s
 
 -- the step of a sound record at a message within its ranges
-unfoldable pub sound-step : MemberState → Event → Outcome
-unfolding causes row
-sound-step m e = unless (causes m e) m (row m e)
+unfoldable pub sound-step : MemberState → MemberEvent → Outcome
+unfolding step-causes step-row
+sound-step m e = unless (step-causes m e) m (step-row m e)
 
 -- a message to be delivered is within its ranges
-abbrev pub fitting : Event → Bool
-fitting (start r offer) = true
-fitting (deliver g) = in-range g
+abbrev pub fitting : MemberEvent → Bool
+fitting (starts r offer) = true
+fitting (delivers g) = in-range g
 
 -- the rows "record" and "message": 17 not sound; 16 a field of the message out of range
-abbrev pub unfit : MemberState → Event → List Cause
-unfit m (start r offer) = not (sound m) gives NOT-SOUND ∷ []
-unfit m (deliver g) = not (sound m) gives NOT-SOUND ∷ not (in-range g) gives MESSAGE-FIELD ∷ []
+abbrev pub unfit : MemberState → MemberEvent → List Cause
+unfit m (starts r offer) = not (sound m) gives NOT-SOUND ∷ []
+unfit m (delivers g) = not (sound m) gives NOT-SOUND ∷ not (in-range g) gives MESSAGE-FIELD ∷ []
 
 -- the step of any record at any event
-unfoldable pub step : MemberState → Event → Outcome
+unfoldable pub member-step : MemberState → MemberEvent → Outcome
 unfolding sound sound-step
-step m e = unless (unfit m e) m (sound-step m e)
+member-step m e = unless (unfit m e) m (sound-step m e)

@@ -11,11 +11,11 @@ ghost use mathlib.Core.Path.{_≡_};
 ghost use mathlib.Core.Bool.{true};
 ghost use Rattle.message.specs.Fields.{in-range};
 ghost use Rattle.member_record.specs.Record.{sound, changes-durable};
-ghost use Rattle.member.specs.Table.{start, deliver};
-ghost use Rattle.member.specs.Kept.{Stepped};
+ghost use Rattle.member.specs.Table.{starts, delivers};
+ghost use Rattle.member.specs.Kept.{StepOf};
 
 // What a step answers.
-pub enum Answer {
+pub enum StepAnswer {
     // 01's number.
     Refused(u32),
     // The message is to be sent.
@@ -39,25 +39,25 @@ pub enum Answer {
 // What a row of the table leaves: the new record beside the answer.
 pub struct Move {
     pub state: MemberState,
-    pub answer: Answer,
+    pub answer: StepAnswer,
 }
 
 // A step: the new record beside the answer, and whether one of J, V, W and L changed.
-pub struct Step {
+pub struct MemberStep {
     pub state: MemberState,
-    pub answer: Answer,
+    pub answer: StepAnswer,
     pub lasting: bool,
 }
 
 // The step that a move from record m is.
-fn step_of(m: MemberState, moved: Move) -> Step
+fn step_of(m: MemberState, moved: Move) -> MemberStep
     ensures { λ s. ⌜ (s .state ≡ moved .state) × (s .answer ≡ moved .answer) × (s .lasting ≡ changes-durable (m .durable) (s .state .durable)) ⌝ }
 {
     let before = m.durable;
     let state = moved.state;
     let after = state.durable;
     let answer = moved.answer;
-    Step {
+    MemberStep {
         state,
         answer,
         lasting: changes_durable(before, after),
@@ -65,17 +65,17 @@ fn step_of(m: MemberState, moved: Move) -> Step
 }
 
 // start(r, offer) of a sound record.
-pub fn start_sound(m: MemberState, r: Round, offer: u64) -> Step
+pub fn start_sound(m: MemberState, r: Round, offer: u64) -> MemberStep
     requires { ⌜ sound m ≡ true ⌝ }
-    ensures { λ s. ⌜ Stepped m (start r offer) s ⌝ }
+    ensures { λ s. ⌜ StepOf m (starts r offer) s ⌝ }
 {
     step_of(m, on_start_call(m, r, offer))
 }
 
 // Delivery of a message within its ranges to a sound record.
-pub fn deliver_sound(m: MemberState, g: Message) -> Step
+pub fn deliver_sound(m: MemberState, g: Message) -> MemberStep
     requires { ⌜ (sound m ≡ true) × (in-range g ≡ true) ⌝ }
-    ensures { λ s. ⌜ Stepped m (deliver g) s ⌝ }
+    ensures { λ s. ⌜ StepOf m (delivers g) s ⌝ }
 {
     step_of(m, on_message(m, g))
 }

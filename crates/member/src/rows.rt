@@ -1,6 +1,6 @@
 // The rows of the member table of 01, "Members", for records that are sound.
-use crate::Answer;
 use crate::Move;
+use crate::StepAnswer;
 use ids::Member;
 use ids::Round;
 use member_record::COLLECTING;
@@ -13,8 +13,8 @@ use member_rules::changes::counting;
 use member_rules::changes::deciding;
 use member_rules::changes::join_message;
 use member_rules::changes::joining;
-use member_rules::changes::leading;
 use member_rules::changes::proposing;
+use member_rules::changes::starting;
 use member_rules::changes::voting;
 use member_rules::refusals::check_count;
 use member_rules::refusals::check_propose;
@@ -23,9 +23,9 @@ use member_rules::refusals::check_start_call;
 use message::Message;
 ghost use mathlib.Core.Path.{_≡_};
 ghost use Prim.Native.Nat.{_≤_, _<_};
-ghost use Rattle.member_rules.specs.Causes.{start-causes, START-causes, count-causes, PROPOSE-causes};
-ghost use Rattle.member.specs.Table.{refused, sends, silent, unless, start-row, START-row, complete, proposes, decides, completes};
-ghost use Rattle.member.specs.Table.{count-row, PROPOSE-row, deliver, sound-step};
+ghost use Rattle.member_rules.specs.Causes.{start-call-causes, START-causes, count-causes, PROPOSE-causes};
+ghost use Rattle.member.specs.Table.{refused, sends, unless, start-call-row, START-row, complete, proposes, decides, completes};
+ghost use Rattle.member.specs.Table.{count-row, PROPOSE-row, delivers, sound-step};
 ghost use Rattle.member.specs.Answers.{MoveIs};
 
 // A refusal leaves the record as it was.
@@ -35,7 +35,7 @@ fn refuse(m: MemberState, number: u32) -> Move
 {
     Move {
         state: m,
-        answer: Answer::Refused(number),
+        answer: StepAnswer::Refused(number),
     }
 }
 
@@ -45,14 +45,14 @@ fn send(m: MemberState, g: Message) -> Move
 {
     Move {
         state: m,
-        answer: Answer::Sent(g),
+        answer: StepAnswer::Sent(g),
     }
 }
 
 // start(r, offer).
 pub fn on_start_call(m: MemberState, r: Round, offer: u64) -> Move
     requires { ⌜ 1 ≤ m .who .n ⌝ }
-    ensures { λ t. ⌜ MoveIs (unless (start-causes m r) m (start-row m r offer)) t ⌝ }
+    ensures { λ t. ⌜ MoveIs (unless (start-call-causes m r) m (start-call-row m r offer)) t ⌝ }
 {
     let number = check_start_call(m, r);
     if number != numbers::OK {
@@ -60,7 +60,7 @@ pub fn on_start_call(m: MemberState, r: Round, offer: u64) -> Move
     }
     let me = m.who.me;
     send(
-        leading(m, r, offer),
+        starting(m, r, offer),
         Message::Start {
             round: r,
             sender: me,
@@ -98,7 +98,7 @@ fn propose(m: MemberState, r: Round) -> Move
     let source = m.lead.source;
     Move {
         state: proposing(m),
-        answer: Answer::Proposed {
+        answer: StepAnswer::Proposed {
             sent: Message::Propose {
                 round: r,
                 sender: me,
@@ -117,7 +117,7 @@ fn decide(m: MemberState, r: Round) -> Move
 {
     Move {
         state: deciding(m),
-        answer: Answer::Decided {
+        answer: StepAnswer::Decided {
             round: r,
             value: m.lead.value,
         },
@@ -143,7 +143,7 @@ fn count(phase: u32, m: MemberState, r: Round, s: Member) -> Move
     if !is_complete(counted) {
         return Move {
             state: counted,
-            answer: Answer::Done,
+            answer: StepAnswer::Done,
         };
     }
     end_phase(phase, counted, r)
@@ -183,7 +183,7 @@ fn on_propose(m: MemberState, r: Round, s: Member, v: u64) -> Move
 // Any message.
 pub fn on_message(m: MemberState, g: Message) -> Move
     requires { ⌜ (1 ≤ m .who .n) × (m .who .n ≤ 7) ⌝ }
-    ensures { λ t. ⌜ MoveIs (sound-step m (deliver g)) t ⌝ }
+    ensures { λ t. ⌜ MoveIs (sound-step m (delivers g)) t ⌝ }
 {
     match g {
         Message::Start { round, sender } => on_start(m, round, sender),

@@ -15,8 +15,8 @@ use Rattle.message.specs.Reading.{message-row, decoded, reading}
 use Rattle.message.proofs.RoundTrip.{refused-read, got}
 use Rattle.member_record.specs.declared.MemberState.{MemberState}
 use Rattle.member_record.specs.Record.{sound}
-use Rattle.member.specs.Table.{Outcome, refused, unless, deliver, sound-step}
-use Rattle.member_calls.specs.Calls.{record-row, call, deliver-call}
+use Rattle.member.specs.Table.{Outcome, refused, unless, delivers, sound-step}
+use Rattle.member_calls.specs.Calls.{record-row, call-outcome, deliver-call}
 
 -- the row's number, as the code has it
 module _ (m : MemberState) (old : List ℕ) (k : ℕ) (row : k ≡ first (record-row m (length old))) where
@@ -25,7 +25,7 @@ module _ (m : MemberState) (old : List ℕ) (k : ℕ) (row : k ≡ first (record
       let (is-sound, (room, end)) = passed (record-row m (length old)) refl (sym row ∙ z) in
       (not-false (sound m) is-sound, omega tests)
 
-  pub refusing : (cs : List Cause) (o : Outcome) → (k ≡ 0 → ⊥) → call m old cs o ≡ refused k m
+  pub refusing : (cs : List Cause) (o : Outcome) → (k ≡ 0 → ⊥) → call-outcome m old cs o ≡ refused k m
   refusing cs o nz =
       by-test (sound m)
       (λ t. by-test (ltb (length old) longest)
@@ -33,7 +33,7 @@ module _ (m : MemberState) (old : List ℕ) (k : ℕ) (row : k ≡ first (record
       (λ s. absurd (nz (row ∙ rw (t, s)))))
       (λ t. rw (row, t))
 
-  pub further : (cs : List Cause) (o : Outcome) → k ≡ 0 → call m old cs o ≡ unless cs m o
+  pub further : (cs : List Cause) (o : Outcome) → k ≡ 0 → call-outcome m old cs o ≡ unless cs m o
   further cs o z =
       let (is-sound, room) = passing z in
       rw (is-sound, le-ltb (length old) longest room)
@@ -44,11 +44,11 @@ module _ (m : MemberState) (s old : List ℕ) (k : ℕ) (row : k ≡ first (reco
   unfolding deliver-call
   unread n e =
       let (number, nonzero) = refused-read s n e in
-      further m old k row (message-row s) (sound-step m (deliver (decoded s))) z ∙ rw (number, nonzero)
+      further m old k row (message-row s) (sound-step m (delivers (decoded s))) z ∙ rw (number, nonzero)
 
   -- bytes that are
-  pub read-as : (g : Message) → reading s ≡ Got g → deliver-call m s old ≡ sound-step m (deliver g)
+  pub read-as : (g : Message) → reading s ≡ Got g → deliver-call m s old ≡ sound-step m (delivers g)
   unfolding deliver-call
   read-as g e =
       let (none, same, ranged) = got s g e in
-      further m old k row (message-row s) (sound-step m (deliver (decoded s))) z ∙ rw (none, same)
+      further m old k row (message-row s) (sound-step m (delivers (decoded s))) z ∙ rw (none, same)

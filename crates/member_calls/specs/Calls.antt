@@ -10,26 +10,25 @@ use Rattle.numbers.specs.Numbers.{NOT-SOUND, REPLY-SHORT}
 use Rattle.message.specs.Reading.{decoded, message-row}
 use Rattle.message.specs.Writing.{short-buffer}
 use Rattle.member_record.specs.declared.MemberState.{MemberState}
-use Rattle.member_record.specs.Record.{sound, sound-number}
-use Rattle.member_record.specs.Record as record-of
-use Rattle.member.specs.Table.{Outcome, unless, silent, start, deliver, sound-step}
+use Rattle.member_record.specs.Record.{fresh-record, sound, sound-number}
+use Rattle.member.specs.Table.{Outcome, unless, silent, starts, delivers, sound-step}
 
 -- 17 not sound; 18 a reply buffer of n bytes has no room for the longest message
 abbrev pub record-row : MemberState → ℕ → List Cause
 record-row m n = not (sound m) gives NOT-SOUND ∷ short-buffer n gives REPLY-SHORT ∷ []
 
 -- a call with this reply buffer: that row, then further causes; else the step
-abbrev pub call : MemberState → List ℕ → List Cause → Outcome → Outcome
-call m old cs o = unless (record-row m (length old) ++ cs) m o
+abbrev pub call-outcome : MemberState → List ℕ → List Cause → Outcome → Outcome
+call-outcome m old cs o = unless (record-row m (length old) ++ cs) m o
 
 -- start(r, offer): the round and start rows are the step's own
 unfoldable pub start-call : MemberState → Round → ℕ → List ℕ → Outcome
-start-call m r offer old = call m old [] (sound-step m (start r offer))
+start-call m r offer old = call-outcome m old [] (sound-step m (starts r offer))
 
 -- bytes delivered: the message row, and the deliver row is the step's own
 unfoldable pub deliver-call : MemberState → List ℕ → List ℕ → Outcome
-deliver-call m s old = call m old (message-row s) (sound-step m (deliver (decoded s)))
+deliver-call m s old = call-outcome m old (message-row s) (sound-step m (delivers (decoded s)))
 
 -- fresh: 17 number or N, and the record stays
 unfoldable pub fresh-call : MemberState → Member → ℕ → Outcome
-fresh-call m me n = unless (not (sound-number me n) gives NOT-SOUND ∷ []) m (silent (record-of.fresh me n))
+fresh-call m me n = unless (not (sound-number me n) gives NOT-SOUND ∷ []) m (silent (fresh-record me n))

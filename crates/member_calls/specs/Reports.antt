@@ -7,14 +7,14 @@ use Rattle.message.specs.declared.Message.{Message}
 use Rattle.message.specs.Layout.{bytes}
 use Rattle.message.specs.Writing.{in-front}
 use Rattle.member_record.specs.declared.MemberState.{MemberState}
-use Rattle.member_record.specs.Record.{round}
+use Rattle.member_record.specs.Record.{round-number}
 use Rattle.member.specs.Table.{Named, nothing, proposal, decision, Outcome}
 use Rattle.member_calls.specs.declared.reply.Report.{Report}
 
 -- the sent length; 0 if nothing is sent
-abbrev pub sent-length : List Message → ℕ
-sent-length [] = 0
-sent-length (g ∷ gs) = length (bytes g)
+abbrev pub reply-length : List Message → ℕ
+reply-length [] = 0
+reply-length (g ∷ gs) = length (bytes g)
 
 -- a sent message stands at the front of the reply; bytes behind it, or all if nothing is sent, stay
 abbrev pub reply-after : List Message → List ℕ → List ℕ
@@ -39,14 +39,20 @@ named-parent (decision r x) = 0
 
 abbrev pub reported : Outcome → Report
 reported o =
-    record { number = o .number; sent = sent-length (o .sent); round = round (named-round (o .named)); value = named-value (o .named); parent = round (named-parent (o .named)) }
+    record {
+      number = o .number;
+      sent = reply-length (o .sent);
+      round = round-number (named-round (o .named));
+      value = named-value (o .named);
+      parent = round-number (named-parent (o .named));
+    }
 
 -- the result, and the record after
-pub record Answers (o : Outcome) (after : MemberState) (r : Report) : Type 0 where
+pub record LeavesReport (o : Outcome) (after : MemberState) (r : Report) : Type 0 where
   pub report : r ≡ reported o
   pub state : after ≡ o .state
 
 -- and the reply after
-pub record Replies (o : Outcome) (old : List ℕ) (after : MemberState) (r : Report) (new : List ℕ) : Type 0 where
-  pub answers : Answers o after r
+pub record LeavesReply (o : Outcome) (old : List ℕ) (after : MemberState) (r : Report) (new : List ℕ) : Type 0 where
+  pub answers : LeavesReport o after r
   pub reply : new ≡ reply-after (o .sent) old

@@ -1,28 +1,28 @@
 // The member calls of 01, "Members", by value: a record in and out, and a reply buffer that what is sent is put in.
 pub mod reply;
 
-use crate::reply::Called;
+use crate::reply::AfterCall;
 use crate::reply::give;
 use crate::reply::refuse;
 use crate::reply::tell;
 use ids::Member;
 use ids::Round;
 use member_record::MemberState;
-use member_record::blank;
+use member_record::fresh_record;
 use member_record::is_sound;
 use member_record::number_sound;
 use message::LONGEST;
 use message::Read;
 ghost use mathlib.Core.Path.{_≡_};
 ghost use Rattle.laws.specs.First.{first};
-ghost use Rattle.member_calls.specs.Reports.{Answers, Replies};
+ghost use Rattle.member_calls.specs.Reports.{LeavesReport, LeavesReply};
 ghost use Rattle.member_calls.specs.Calls.{record-row, fresh-call, start-call, deliver-call};
 
 // Fresh: where the number or N isn't allowed, the old record stays.
-pub fn fresh_into(m: MemberState, me: Member, n: u32) -> Called
-    ensures { λ c. ⌜ Answers (fresh-call m me n) (c .state) (c .report) ⌝ }
+pub fn fresh_into(m: MemberState, me: Member, n: u32) -> AfterCall
+    ensures { λ c. ⌜ LeavesReport (fresh-call m me n) (c .state) (c .report) ⌝ }
 {
-    let fresh = blank(me, n);
+    let fresh = fresh_record(me, n);
     if !number_sound(me, n) {
         return refuse(m, numbers::NOT_SOUND);
     }
@@ -45,8 +45,8 @@ fn record_number(m: MemberState, room: usize) -> u32
 }
 
 // start(r, offer).
-pub fn start_into(m: MemberState, r: Round, offer: u64, reply: &mut [u8]) -> Called
-    ensures { λ c. ⌜ Replies (start-call m r offer (now (reply .entry))) (now (reply .entry)) (c .state) (c .report) (now (reply .exit)) ⌝ }
+pub fn start_into(m: MemberState, r: Round, offer: u64, reply: &mut [u8]) -> AfterCall
+    ensures { λ c. ⌜ LeavesReply (start-call m r offer (now (reply .entry))) (now (reply .entry)) (c .state) (c .report) (now (reply .exit)) ⌝ }
 {
     let number = record_number(m, reply.len());
     if number != numbers::OK {
@@ -56,8 +56,8 @@ pub fn start_into(m: MemberState, r: Round, offer: u64, reply: &mut [u8]) -> Cal
 }
 
 // Delivery of the message that bytes are.
-pub fn deliver_into(m: MemberState, bytes: &[u8], reply: &mut [u8]) -> Called
-    ensures { λ c. ⌜ Replies (deliver-call m (now (bytes .entry)) (now (reply .entry))) (now (reply .entry)) (c .state) (c .report) (now (reply .exit)) ⌝ }
+pub fn deliver_into(m: MemberState, bytes: &[u8], reply: &mut [u8]) -> AfterCall
+    ensures { λ c. ⌜ LeavesReply (deliver-call m (now (bytes .entry)) (now (reply .entry))) (now (reply .entry)) (c .state) (c .report) (now (reply .exit)) ⌝ }
 {
     let number = record_number(m, reply.len());
     if number != numbers::OK {

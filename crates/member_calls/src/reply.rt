@@ -1,7 +1,7 @@
 // The result of a member call, and what it puts in the reply buffer (01, "Members").
 use ids::Round;
-use member::Answer;
-use member::Step;
+use member::MemberStep;
+use member::StepAnswer;
 use member_record::MemberState;
 use message::Message;
 ghost use mathlib.Core.Path.{_≡_};
@@ -12,9 +12,9 @@ ghost use lib.ListN.{length};
 ghost use Rattle.message.specs.Fields.{in-range};
 ghost use Rattle.message.specs.Layout.{longest};
 ghost use Rattle.member.specs.Table.{refused};
-ghost use Rattle.member.specs.Answers.{outcome};
+ghost use Rattle.member.specs.Answers.{step-outcome};
 ghost use Rattle.member.specs.Kept.{Kept};
-ghost use Rattle.member_calls.specs.Reports.{sent-length, reply-after, Answers, Replies};
+ghost use Rattle.member_calls.specs.Reports.{reply-length, reply-after, LeavesReport, LeavesReply};
 
 // The result of a call: numbers of 01. Each that the call does not give or name is 0.
 pub struct Report {
@@ -31,14 +31,14 @@ pub struct Report {
 }
 
 // The record after a call, beside its result.
-pub struct Called {
+pub struct AfterCall {
     pub state: MemberState,
     pub report: Report,
 }
 
 // A refused call leaves the record as it was, and its number alone is not 0.
-pub fn refuse(m: MemberState, number: u32) -> Called
-    ensures { λ c. ⌜ Answers (refused number m) (c .state) (c .report) ⌝ }
+pub fn refuse(m: MemberState, number: u32) -> AfterCall
+    ensures { λ c. ⌜ LeavesReport (refused number m) (c .state) (c .report) ⌝ }
 {
     give(m, number, 0, Round(0), 0, Round(0))
 }
@@ -51,7 +51,7 @@ pub fn give(
     round: Round,
     value: u64,
     parent: Round,
-) -> Called
+) -> AfterCall
     ensures { λ c. ⌜ c ≡ record { state = m; report = record { number = number; sent = sent; round = round; value = value; parent = parent } } ⌝ }
 {
     let report = Report {
@@ -61,34 +61,34 @@ pub fn give(
         value,
         parent,
     };
-    Called { state: m, report }
+    AfterCall { state: m, report }
 }
 
 // Puts a message at the front of the reply, and answers its length.
 fn send(g: Message, reply: &mut [u8]) -> usize
     requires { ⌜ (longest ≤ length (now reply)) × (in-range g ≡ true) ⌝ }
-    ensures { λ n. ⌜ (n ≡ sent-length (g ∷ [])) × (now (reply .exit) ≡ reply-after (g ∷ []) (now (reply .entry))) ⌝ }
+    ensures { λ n. ⌜ (n ≡ reply-length (g ∷ [])) × (now (reply .exit) ≡ reply-after (g ∷ []) (now (reply .entry))) ⌝ }
 {
     let w = message_writer::write_message(g, reply);
     w.length
 }
 
 // The result of a step, and what it sends.
-pub fn tell(s: Step, reply: &mut [u8]) -> Called
-    requires { ⌜ (longest ≤ length (now reply)) × Kept (outcome s) ⌝ }
-    ensures { λ c. ⌜ Replies (outcome s) (now (reply .entry)) (c .state) (c .report) (now (reply .exit)) ⌝ }
+pub fn tell(s: MemberStep, reply: &mut [u8]) -> AfterCall
+    requires { ⌜ (longest ≤ length (now reply)) × Kept (step-outcome s) ⌝ }
+    ensures { λ c. ⌜ LeavesReply (step-outcome s) (now (reply .entry)) (c .state) (c .report) (now (reply .exit)) ⌝ }
 {
     let m = s.state;
     let answer = s.answer;
     let none = Round(0);
     match answer {
-        Answer::Refused(number) => refuse(m, number),
-        Answer::Sent(g) => {
+        StepAnswer::Refused(number) => refuse(m, number),
+        StepAnswer::Sent(g) => {
             let n = send(g, reply);
             give(m, numbers::OK, n, none, 0, none)
         }
-        Answer::Done => give(m, numbers::OK, 0, none, 0, none),
-        Answer::Proposed {
+        StepAnswer::Done => give(m, numbers::OK, 0, none, 0, none),
+        StepAnswer::Proposed {
             sent,
             round,
             value,
@@ -97,6 +97,6 @@ pub fn tell(s: Step, reply: &mut [u8]) -> Called
             let n = send(sent, reply);
             give(m, numbers::OK, n, round, value, parent)
         }
-        Answer::Decided { round, value } => give(m, numbers::OK, 0, round, value, none),
+        StepAnswer::Decided { round, value } => give(m, numbers::OK, 0, round, value, none),
     }
 }

@@ -7,7 +7,7 @@ use ids::Member;
 use ids::Round;
 use libc::STDIN_FILENO;
 use libc::STDOUT_FILENO;
-use member_calls::reply::Called;
+use member_calls::reply::AfterCall;
 use member_calls::reply::Report;
 use member_record::Durable;
 use member_record::Lead;
@@ -72,7 +72,7 @@ fn put_record(m: MemberState) {
 }
 
 // Writes what a call left.
-fn put_called(c: Called, reply: &[u8]) {
+fn put_called(c: AfterCall, reply: &[u8]) {
     let r = c.report;
     put_report(r);
     io::write_all(STDOUT_FILENO, b"| ");

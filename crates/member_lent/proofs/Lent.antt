@@ -26,10 +26,10 @@ use denote.Struct.Laws as LL
 use Rattle.member_record.specs.declared.MemberState.{MemberState}
 use Rattle.member_record.proofs.MemberState as T
 use Rattle.member_record.proofs.MemberState.Laws as T′
-use Rattle.member_calls.specs.declared.reply.Called.{Called}
+use Rattle.member_calls.specs.declared.reply.AfterCall.{AfterCall}
 use Rattle.member_calls.specs.declared.reply.Report.{Report}
-use Rattle.member_calls.proofs.reply.Called as K
-use Rattle.member_calls.proofs.reply.Called.Laws as K′
+use Rattle.member_calls.proofs.reply.AfterCall as K
+use Rattle.member_calls.proofs.reply.AfterCall.Laws as K′
 use Rattle.member_calls.proofs.reply.Report as R
 use Rattle.member_calls.proofs.reply.Report.Laws as R′
 
@@ -39,10 +39,10 @@ vals = LL.vals T.the-type T′.the-laws
 abbrev pub report-val : Report → Val
 report-val = LL.val R.the-type R′.the-laws
 
-pub state-is : (r : Called) (us : List Val) → Is K.the-row r us → Is T.the-row (r .state) (vals (r .state))
+pub state-is : (r : AfterCall) (us : List Val) → Is K.the-row r us → Is T.the-row (r .state) (vals (r .state))
 state-is r us is = LL.owed K.the-type K′.the-laws r us is .0
 
-pub report-is : (r : Called) (us : List Val) → Is K.the-row r us → Is R.the-row (r .report) (report-val (r .report) ∷ [])
+pub report-is : (r : AfterCall) (us : List Val) → Is K.the-row r us → Is R.the-row (r .report) (report-val (r .report) ∷ [])
 report-is r us is = LL.owed K.the-type K′.the-laws r us is .1 .0
 
 module _ {M : Type 1} (𝓤 : URA M) (H : Heap 𝓤) (A : Atoms 𝓤) (W : Given 𝓤 H A) where
@@ -55,7 +55,7 @@ module _ {M : Type 1} (𝓤 : URA M) (H : Heap 𝓤) (A : Atoms 𝓤) (W : Given
   pub typed-record : (h : MemberState) (v : Val) → Is T.the-row h (v ∷ []) → Holds (hasTy T′.mir v) × WT v
   typed-record h v is = LL.lawful T.the-type T′.the-laws 𝓤 H A W .typed h (v ∷ []) is .0
 
-  pub typed-called : (r : Called) (v : Val) → Is K.the-row r (v ∷ []) → Holds (hasTy K′.mir v) × WT v
+  pub typed-called : (r : AfterCall) (v : Val) → Is K.the-row r (v ∷ []) → Holds (hasTy K′.mir v) × WT v
   typed-called r v is = LL.lawful K.the-type K′.the-laws 𝓤 H A W .typed r (v ∷ []) is .0
 
   pub typed-report : (r : Report) (v : Val) → Is R.the-row r (v ∷ []) → Holds (hasTy R′.mir v) × WT v
@@ -63,13 +63,16 @@ module _ {M : Type 1} (𝓤 : URA M) (H : Heap 𝓤) (A : Atoms 𝓤) (W : Given
 
 module _ {M : Type 1} {𝓤 : URA M} {H : Heap 𝓤} {A : Atoms 𝓤} {X : Type 0} {W : Given 𝓤 H A} {Γ : List (Item 𝓤)} {G : Goal 𝓤 H} where
   pub copies-out : X → Soaks G → {κ : Lft} {q : Share} {γ : GName} (h : MemberState) (b o : ℕ)
-      → (Is T.the-row h (vals h) → Seq X W (‵ (cellAt fullShare (T.the-row .mir) (vals h) b o) ∷ ‵ (fobor κ q (Body (mem T.the-row) b o γ)) ∷ ‵ (fobs γ (T.the-row .coded .code h)) ∷ ‵ (fauth γ (T.the-row .coded .code h)) ∷ Γ) G)
+      → (Is T.the-row h (vals h) → Seq X W (‵ (cellAt fullShare (T.the-row .mir) (vals h) b o) ∷ ‵ (fobor κ q (Body (mem T.the-row) b o γ)) ∷ ‵
+      (fobs γ (T.the-row .coded .code h)) ∷ ‵ (fauth γ (T.the-row .coded .code h)) ∷ Γ) G)
       → Seq X W (‵ (fobs γ (T.the-row .coded .code h)) ∷ ‵ (fbor κ (Body (mem T.the-row) b o γ)) ∷ ‵ (flft κ q) ∷ Γ) G
   copies-out t z h b o k =
-      opens t z T.the-row {h = h} b o (λ vs. spelt t T.the-row (Is T.the-row) (shows 𝓤 H A T.the-row) vals (LL.tells T.the-type T′.the-laws) fullShare h vs b o $
+      opens t z T.the-row {h = h} b o (λ vs. spelt t T.the-row (Is T.the-row) (shows 𝓤 H A T.the-row) vals (LL.tells T.the-type T′.the-laws) fullShare h vs b o
+      $
       move t (1 ∷ []) $ peeks t T.the-row (Is T.the-row) (shows 𝓤 H A T.the-row) h (vals h) (λ was. drop t $ k was))
 
   pub copies-in : X → Soaks G → {κ : Lft} {q : Share} {u v : Gv} {γ : GName} (h : MemberState) (b o : ℕ) → Is T.the-row h (vals h)
       → Step X W (‵ (fobs γ (T.the-row .coded .code h)) ∷ ‵ (fbor κ (Body (mem T.the-row) b o γ)) ∷ ‵ (flft κ q) ∷ Γ) G
       (‵ (cellAt fullShare (T.the-row .mir) (vals h) b o) ∷ ‵ (fobor κ q (Body (mem T.the-row) b o γ)) ∷ ‵ (fobs γ u) ∷ ‵ (fauth γ v) ∷ Γ) G
-  copies-in t z h b o is = step (λ s. owned t T.the-row (Is T.the-row) (owned-record 𝓤 H A W) h (vals h) is $ move t (1 ∷ 0 ∷ []) $ closes t z T.the-row h (vals h) b o $ s)
+  copies-in t z h b o is = step (λ s. owned t T.the-row (Is T.the-row) (owned-record 𝓤 H A W) h (vals h) is $ move t (1 ∷ 0 ∷ []) $
+      closes t z T.the-row h (vals h) b o $ s)

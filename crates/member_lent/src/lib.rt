@@ -7,12 +7,12 @@ use member_calls::fresh_into;
 use member_calls::reply::Report;
 use member_calls::start_into;
 use member_record::MemberState;
-ghost use Rattle.member_calls.specs.Reports.{Answers, Replies};
+ghost use Rattle.member_calls.specs.Reports.{LeavesReport, LeavesReply};
 ghost use Rattle.member_calls.specs.Calls.{fresh-call, start-call, deliver-call};
 
 // Makes the record fresh.
 pub fn fresh(m: &mut MemberState, me: Member, n: u32) -> Report
-    ensures { λ r. ⌜ Answers (fresh-call (now (m .entry)) me n) (now (m .exit)) r ⌝ }
+    ensures { λ r. ⌜ LeavesReport (fresh-call (now (m .entry)) me n) (now (m .exit)) r ⌝ }
 {
     let c = fresh_into(*m, me, n);
     *m = c.state;
@@ -21,7 +21,7 @@ pub fn fresh(m: &mut MemberState, me: Member, n: u32) -> Report
 
 // start(r, offer).
 pub fn start(m: &mut MemberState, r: Round, offer: u64, reply: &mut [u8]) -> Report
-    ensures { λ p. ⌜ Replies (start-call (now (m .entry)) r offer (now (reply .entry))) (now (reply .entry)) (now (m .exit)) p (now (reply .exit)) ⌝ }
+    ensures { λ p. ⌜ LeavesReply (start-call (now (m .entry)) r offer (now (reply .entry))) (now (reply .entry)) (now (m .exit)) p (now (reply .exit)) ⌝ }
 {
     let c = start_into(*m, r, offer, reply);
     *m = c.state;
@@ -30,7 +30,8 @@ pub fn start(m: &mut MemberState, r: Round, offer: u64, reply: &mut [u8]) -> Rep
 
 // Delivers the message that bytes are.
 pub fn deliver(m: &mut MemberState, bytes: &[u8], reply: &mut [u8]) -> Report
-    ensures { λ p. ⌜ Replies (deliver-call (now (m .entry)) (now (bytes .entry)) (now (reply .entry))) (now (reply .entry)) (now (m .exit)) p (now (reply .exit)) ⌝ }
+    ensures { λ p. ⌜ LeavesReply (deliver-call (now (m .entry)) (now (bytes .entry)) (now (reply .entry))) (now (reply .entry)) (now (m .exit)) p
+        (now (reply .exit)) ⌝ }
 {
     let c = deliver_into(*m, bytes, reply);
     *m = c.state;

@@ -17,15 +17,15 @@ use Rattle.quorum.proofs.Counts.{count-none, count-more, count-beyond, beyond-n
 use Rattle.member_record.specs.Record.{allowed, sound-number, flag, flagged, flag-from, no-flags}
 
 -- an office has 3 to 7 members
-pub sizes : (n : ℕ) → allowed n ≡ true → (3 ≤ n) × (n ≤ 7)
-sizes n h =
+pub office-sizes : (n : ℕ) → allowed n ≡ true → (3 ≤ n) × (n ≤ 7)
+office-sizes n h =
     or-cases (eqb n 3) _ h (λ e. (omega tests, omega tests))
     (λ h′. or-cases (eqb n 5) (eqb n 7) h′ (λ e. (omega tests, omega tests)) (λ e. (omega tests, omega tests)))
 
 -- what the test of number and N says
 pub number-sizes : (me : Member) (n : ℕ) → sound-number me n ≡ true → (me .0 < n) × (3 ≤ n) × (n ≤ 7)
 number-sizes me n h =
-    let (low, high) = sizes n (and-left (allowed n) (ltb (me .0) n) h) in
+    let (low, high) = office-sizes n (and-left (allowed n) (ltb (me .0) n) h) in
     (omega (tests, and-right (allowed n) (ltb (me .0) n) h), low, high)
 
 -- no flag from N on

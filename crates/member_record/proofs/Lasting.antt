@@ -1,15 +1,15 @@
 -- Records of what must last are the same exactly if none of J, V, W and L differs. Assumes nothing.
 use mathlib.Core.Path.{_≡_, refl}
-use mathlib.Core.Bool.{Bool, true, false, not, _&&_}
+use mathlib.Core.Bool.{true, false, _&&_}
 use Prim.Native.Nat.{ℕ}
 use lib.Dec.{eqb}
 use borrow.Author.Tests.{not-false, eqb-true, eq-eqb}
 use Rattle.laws.specs.Tests.{and-left, and-right}
 use Rattle.member_record.specs.declared.Durable.{Durable}
-use Rattle.member_record.specs.Record.{round, changes-durable}
+use Rattle.member_record.specs.Record.{round-number, changes-durable}
 
-pub unchanged : (d e : Durable) → changes-durable d e ≡ false → d ≡ e
-unchanged d e h =
+pub durable-same : (d e : Durable) → changes-durable d e ≡ false → d ≡ e
+durable-same d e h =
     let vote = eqb (d .vote) (e .vote) && eqb (d .led .0) (e .led .0) in
     let voted = eqb (d .voted .0) (e .voted .0) && vote in
     let a : (eqb (d .joined .0) (e .joined .0) && voted) ≡ true = not-false (eqb (d .joined .0) (e .joined .0) && voted) h in
@@ -22,7 +22,7 @@ unchanged d e h =
     (eqb-true (d .led .0) (e .led .0) (and-right (eqb (d .vote) (e .vote)) (eqb (d .led .0) (e .led .0)) c))
   where
     of : (j v w l : ℕ) → Durable
-    of j v w l = record { joined = round j; voted = round v; vote = w; led = round l }
+    of j v w l = record { joined = round-number j; voted = round-number v; vote = w; led = round-number l }
 
     same : d .joined .0 ≡ e .joined .0 → d .voted .0 ≡ e .voted .0 → d .vote ≡ e .vote → d .led .0 ≡ e .led .0 → d ≡ e
     same j v w l =
@@ -31,4 +31,9 @@ unchanged d e h =
 
 pub changed-not : (d : Durable) → changes-durable d d ≡ false
 changed-not d =
-    rw (eq-eqb (d .joined .0) (d .joined .0) refl, eq-eqb (d .voted .0) (d .voted .0) refl, eq-eqb (d .vote) (d .vote) refl, eq-eqb (d .led .0) (d .led .0) refl)
+    rw (
+      eq-eqb (d .joined .0) (d .joined .0) refl,
+      eq-eqb (d .voted .0) (d .voted .0) refl,
+      eq-eqb (d .vote) (d .vote) refl,
+      eq-eqb (d .led .0) (d .led .0) refl,
+    )

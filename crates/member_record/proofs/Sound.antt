@@ -10,16 +10,16 @@ use Rattle.member_record.specs.declared.Durable.{Durable}
 use Rattle.member_record.specs.declared.MemberState.{MemberState}
 use Rattle.member_record.proofs.Flags.{number-sizes, cleared-from}
 use Rattle.member_record.specs.Phases.{IDLE, DECIDED}
-use Rattle.member_record.specs.Record.{fresh, leads, sound, sound-number, sound-durable, sound-flags, sound-count, sound-leading, sound-lead}
+use Rattle.member_record.specs.Record.{fresh-record, leads, sound, sound-number, sound-durable, sound-flags, sound-count, sound-leading, sound-lead}
 
-pub record Sound (m : MemberState) : Type 0 where
+pub record SoundParts (m : MemberState) : Type 0 where
   pub number : sound-number (m .who .me) (m .who .n) ≡ true
   pub phases : leb (m .lead .phase) DECIDED ≡ true
   pub lasting : sound-durable (m .durable) ≡ true
   pub flags : sound-flags (m .who) (m .lead) ≡ true
   pub led : sound-lead m ≡ true
 
-pub parts : (m : MemberState) → sound m ≡ true → Sound m
+pub parts : (m : MemberState) → sound m ≡ true → SoundParts m
 unfolding sound
 parts m h =
     let a : (leb (m .lead .phase) DECIDED && (sound-durable (m .durable) && (sound-flags (m .who) (m .lead) && sound-lead m))) ≡ true =
@@ -35,18 +35,18 @@ parts m h =
       led = and-right (sound-flags (m .who) (m .lead)) (sound-lead m) c;
     }
 
-pub whole : (m : MemberState) → Sound m → sound m ≡ true
+pub whole : (m : MemberState) → SoundParts m → sound m ≡ true
 unfolding sound
 whole m s = rw (s .number, s .phases, s .lasting, s .flags) (s .led)
 
 -- V ≤ J ≤ 1,000,000, and V = 0 only with W = 0
-pub record Votes (d : Durable) : Type 0 where
+pub record SoundVotes (d : Durable) : Type 0 where
   pub ordered : leb (d .voted .0) (d .joined .0) ≡ true
   pub ranged : not (above-range (d .joined .0)) ≡ true
   pub valued : (not (eqb (d .voted .0) 0) || eqb (d .vote) 0) ≡ true
 
-pub votes : (d : Durable) → sound-durable d ≡ true → Votes d
-votes d s =
+pub vote-parts : (d : Durable) → sound-durable d ≡ true → SoundVotes d
+vote-parts d s =
     let a : (not (above-range (d .joined .0)) && (not (eqb (d .voted .0) 0) || eqb (d .vote) 0)) ≡ true = and-right (leb (d .voted .0) (d .joined .0)) _ s in
     record {
       ordered = and-left (leb (d .voted .0) (d .joined .0)) _ s;
@@ -55,14 +55,14 @@ votes d s =
     }
 
 -- not idle, L ≤ 1,000,000, L mod N is the number, B < L, the count of the phase
-pub record Leading (m : MemberState) : Type 0 where
+pub record SoundLeading (m : MemberState) : Type 0 where
   pub active : not (eqb (m .lead .phase) IDLE) ≡ true
   pub ranged : not (above-range (m .durable .led .0)) ≡ true
   pub leader : leads (m .who .n) (m .who .me) (m .durable .led) ≡ true
   pub lower : ltb (m .lead .source .0) (m .durable .led .0) ≡ true
   pub counted : sound-count (m .who) (m .lead) ≡ true
 
-pub leading-parts : (m : MemberState) → Sound m → eqb (m .durable .led .0) 0 ≡ false → Leading m
+pub leading-parts : (m : MemberState) → SoundParts m → eqb (m .durable .led .0) 0 ≡ false → SoundLeading m
 leading-parts m s z =
     let h : sound-leading m ≡ true = rw z at (s .led) in
     let lower = ltb (m .lead .source .0) (m .durable .led .0) in
@@ -80,7 +80,7 @@ leading-parts m s z =
       counted = and-right lower counted c;
     }
 
-pub leading-whole : (m : MemberState) → eqb (m .durable .led .0) 0 ≡ false → Leading m → sound-lead m ≡ true
+pub leading-whole : (m : MemberState) → eqb (m .durable .led .0) 0 ≡ false → SoundLeading m → sound-lead m ≡ true
 leading-whole m z l = rw (z, l .active, l .ranged, l .leader, l .lower) (l .counted)
 
 -- a sound record has 3 to 7 members
@@ -90,6 +90,6 @@ sound-size m h =
     (low, high)
 
 -- a fresh record is sound exactly if its number and N are allowed
-pub fresh-sound : (me : Member) (n : ℕ) → sound (fresh me n) ≡ sound-number me n
+pub fresh-sound : (me : Member) (n : ℕ) → sound (fresh-record me n) ≡ sound-number me n
 unfolding sound
 fresh-sound me n = rw (cleared-from n) (and-true (sound-number me n))

@@ -33,8 +33,8 @@ allowed n = eqb n 3 || (eqb n 5 || eqb n 7)
 abbrev pub leads : ℕ → Member → Round → Bool
 leads n s r = eqb (r .0 % n) (s .0)
 
-abbrev pub round : ℕ → Round
-round r = record { 0 = r }
+abbrev pub round-number : ℕ → Round
+round-number r = record { 0 = r }
 
 -- whether member s is flagged
 abbrev pub flag : List Bool → ℕ → Bool
@@ -53,12 +53,12 @@ abbrev pub no-flags : List Bool
 no-flags = replicate 7 false
 
 -- Fresh: number and N given, all else zero or false
-abbrev pub fresh : Member → ℕ → MemberState
-fresh me n =
+abbrev pub fresh-record : Member → ℕ → MemberState
+fresh-record me n =
     record {
       who = record { me = me; n = n };
-      durable = record { joined = round 0; voted = round 0; vote = 0; led = round 0 };
-      lead = record { phase = IDLE; value = 0; source = round 0; flags = no-flags };
+      durable = record { joined = round-number 0; voted = round-number 0; vote = 0; led = round-number 0 };
+      lead = record { phase = IDLE; value = 0; source = round-number 0; flags = no-flags };
     }
 
 -- N allowed, number < N

@@ -8,7 +8,7 @@ ghost use mathlib.Core.Path.{_≡_};
 ghost use Prim.Native.Nat.{_≤_};
 ghost use Rattle.quorum.specs.Count.{count};
 ghost use Rattle.member_record.specs.Phases.{needed};
-ghost use Rattle.member_record.specs.Record.{changes-durable, allowed, leads, flag, flagged, fresh, sound-number};
+ghost use Rattle.member_record.specs.Record.{changes-durable, allowed, leads, flag, flagged, fresh-record, sound-number};
 ghost use Rattle.member_record.specs.Record.{sound-durable, sound-flags, sound-idle, sound-count, sound-leading, sound-lead, sound};
 
 // The phases of a leader: it has led no round yet; it counts JOINs; it has proposed and counts VOTEs; it has decided.
@@ -107,8 +107,8 @@ pub fn count_flags(flags: [bool; 7]) -> u32
 }
 
 // A record with its number and N given, all else zero or false.
-pub fn blank(me: Member, n: u32) -> MemberState
-    ensures { λ m. ⌜ m ≡ fresh me n ⌝ }
+pub fn fresh_record(me: Member, n: u32) -> MemberState
+    ensures { λ m. ⌜ m ≡ fresh-record me n ⌝ }
 {
     let none = Round(0);
     let who = Who { me, n };

@@ -7,6 +7,6 @@ pub denied : {x b v : Bool} → b ≡ x → not b ≡ v → not x ≡ v
 denied e h = ap not (sym e) ∙ h
 
 -- the function answers whether x doesn't hold, and the table asks for x
-pub held : (x : Bool) {b v : Bool} → b ≡ not x → not b ≡ v → x ≡ v
-held true e h = sym (ap not e) ∙ h
-held false e h = sym (ap not e) ∙ h
+pub affirmed : (x : Bool) {b v : Bool} → b ≡ not x → not b ≡ v → x ≡ v
+affirmed true e h = sym (ap not e) ∙ h
+affirmed false e h = sym (ap not e) ∙ h

@@ -12,8 +12,8 @@ use Rattle.member_record.specs.declared.MemberState.{MemberState}
 use Rattle.member_record.specs.Record.{leads, flag}
 
 -- start(r, offer): 3; 19 unless this member leads r; 20 if r ≤ L
-abbrev pub start-causes : MemberState → Round → List Cause
-start-causes m r =
+abbrev pub start-call-causes : MemberState → Round → List Cause
+start-call-causes m r =
     out-of-range (r .0) gives ROUND-RANGE ∷
     not (leads (m .who .n) (m .who .me) r) gives NOT-LEADER ∷
     leb (r .0) (m .durable .led .0) gives NOT-ABOVE-LED ∷ []

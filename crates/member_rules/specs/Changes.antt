@@ -9,14 +9,14 @@ use Rattle.message.specs.declared.Message.{Message}
 use Rattle.message.specs.declared.Message.the-variants.{Join, JoinVoted}
 use Rattle.member_record.specs.declared.MemberState.{MemberState}
 use Rattle.member_record.specs.Phases.{COLLECTING, PROPOSED, DECIDED}
-use Rattle.member_record.specs.Record.{with-durable, with-lead, round, no-flags}
+use Rattle.member_record.specs.Record.{with-durable, with-lead, round-number, no-flags}
 
 -- L = r, phase 1, X = offer, B = 0, flags cleared
-abbrev pub leading : MemberState → Round → ℕ → MemberState
-leading m r offer =
+abbrev pub starting : MemberState → Round → ℕ → MemberState
+starting m r offer =
     with-lead
     (with-durable m (record { joined = m .durable .joined; voted = m .durable .voted; vote = m .durable .vote; led = r }))
-    (record { phase = COLLECTING; value = offer; source = round 0; flags = no-flags })
+    (record { phase = COLLECTING; value = offer; source = round-number 0; flags = no-flags })
 
 -- J = r
 abbrev pub joining : MemberState → Round → MemberState

@@ -10,11 +10,11 @@ use member_record::PROPOSED;
 use message::Message;
 ghost use mathlib.Core.Path.{_≡_};
 ghost use Prim.Native.Nat.{_<_};
-ghost use Rattle.member_rules.specs.Changes.{leading, joining, join-of, counting, adopted, adopting, proposing, voting, deciding};
+ghost use Rattle.member_rules.specs.Changes.{starting, joining, join-of, counting, adopted, adopting, proposing, voting, deciding};
 
 // start(r, offer): the leader of round r in phase 1.
-pub fn leading(m: MemberState, r: Round, offer: u64) -> MemberState
-    ensures { λ t. ⌜ t ≡ leading m r offer ⌝ }
+pub fn starting(m: MemberState, r: Round, offer: u64) -> MemberState
+    ensures { λ t. ⌜ t ≡ starting m r offer ⌝ }
 {
     let none = Round(0);
     let d = m.durable;

@@ -7,12 +7,12 @@ use member_record::is_leader;
 ghost use mathlib.Core.Path.{_≡_};
 ghost use Prim.Native.Nat.{_≤_};
 ghost use Rattle.laws.specs.First.{first};
-ghost use Rattle.member_rules.specs.Causes.{start-causes, START-causes, count-causes, other-vote, PROPOSE-causes};
+ghost use Rattle.member_rules.specs.Causes.{start-call-causes, START-causes, count-causes, other-vote, PROPOSE-causes};
 
 // The refusals of start(r, offer).
 pub fn check_start_call(m: MemberState, r: Round) -> u32
     requires { ⌜ 1 ≤ m .who .n ⌝ }
-    ensures { λ k. ⌜ k ≡ first (start-causes m r) ⌝ }
+    ensures { λ k. ⌜ k ≡ first (start-call-causes m r) ⌝ }
 {
     if !in_range(r) {
         return numbers::ROUND_RANGE;

@@ -28,7 +28,7 @@ use Rattle.member_record.proofs.Flags.{counts-agree, set-from}
 use Rattle.member_record.proofs.Quorums.{needed-alike}
 use Rattle.model.specs.Model.{Sizes, member-number}
 use Rattle.model.proofs.Kept.{KeptMember, own-round, led-ranged, source-lower}
-use Rattle.model.proofs.Invariant.{office, JoinOf, carried, Voted, Reached, Spoken}
+use Rattle.model.proofs.Invariant.{office-who, JoinOf, carried, Voted, Reached, Spoken}
 use Rattle.model.proofs.Grows.{reached-rises}
 
 -- what soundness says of a member that isn't idle, its vote count apart
@@ -82,12 +82,14 @@ no-flag s =
 
 -- a complete count is a quorum
 pub flagged-quorum : (z : Sizes) (t : ℕ) (m : MemberState) (s : Member) (P : ℕ → Type 0) → Counts z t m → s .0 < m .who .n → complete (counting m s) ≡ true →
-    ((i : ℕ) → flag (set (m .lead .flags) (s .0) true) i ≡ true → P i) → Quorum (z .n) (needed (office (z .n)) (m .lead .phase)) P
+    ((i : ℕ) → flag (set (m .lead .flags) (s .0) true) i ≡ true → P i) → Quorum (z .n) (needed (office-who (z .n)) (m .lead .phase)) P
 unfolding flagged
 flagged-quorum z t m s P c low full f =
     let all : eqb (count (flag (set (m .lead .flags) (s .0) true)) (m .who .n)) (count (flag (set (m .lead .flags) (s .0) true)) 7) ≡ true =
-    counts-agree (m .who .n) (set (m .lead .flags) (s .0) true) (c .small) ∙ set-from (m .lead .flags) (s .0) (c .seven) (omega (arith, c .small)) (m .who .n) low (c .none-from) in
-    let asked : needed (m .who) (m .lead .phase) ≡ needed (office (m .who .n)) (m .lead .phase) = needed-alike (m .who) (office (m .who .n)) (m .lead .phase) refl in
+    counts-agree (m .who .n) (set (m .lead .flags) (s .0) true) (c .small) ∙ set-from (m .lead .flags) (s .0) (c .seven) (omega (arith, c .small)) (m .who .n)
+    low (c .none-from) in
+    let asked : needed (m .who) (m .lead .phase) ≡ needed (office-who (m .who .n)) (m .lead .phase) =
+    needed-alike (m .who) (office-who (m .who .n)) (m .lead .phase) refl in
     rw (← (c .size)) (record { who = flag (set (m .lead .flags) (s .0) true); enough = omega (tests, asked); each = λ i l h. f i h })
 
 -- neither a JOIN nor a VOTE

@@ -17,12 +17,12 @@ use Rattle.message.specs.declared.Message.the-variants.{Start, Join, JoinVoted,
 use Rattle.message.specs.Fields.{in-range, head-in-range, vote-in-range}
 use Rattle.member_record.specs.declared.MemberState.{MemberState}
 use Rattle.member_record.specs.Phases.{COLLECTING, PROPOSED}
-use Rattle.member_record.specs.Record.{allowed, fresh, round}
-use Rattle.member_rules.specs.Causes.{START-causes, start-causes, count-causes, PROPOSE-causes, awaits}
+use Rattle.member_record.specs.Record.{allowed, fresh-record, round-number}
+use Rattle.member_rules.specs.Causes.{START-causes, start-call-causes, count-causes, PROPOSE-causes, awaits}
 use Rattle.member_rules.specs.Changes.{adopted, adopting}
-use Rattle.member.specs.Table.{count-row, causes, row}
-use Rattle.member.specs.Table.{deliver as delivers}
-use Rattle.model.specs.Model.{Sizes, Event, start, deliver, Office, member-number, first-office, member-at, message-at, at-member, outcome, proposes-one, proposals, answer, next, after, offer-of, offers-at, offered}
+use Rattle.member.specs.Table.{count-row, delivers, step-causes, step-row}
+use Rattle.model.specs.Model.{Sizes, Event, start, deliver, Office, member-number, first-office, member-at, message-at, at-member, outcome, proposes-one}
+use Rattle.model.specs.Model.{proposals, answer, next, after, offer-of, offers-at, offered}
 use Rattle.model.specs.Demand.{calls, ended}
 use Rattle.model.proofs.Kept.{KeptMember, KeptOffice, Accepted, accepted, message-in, accepted-row, sent-by, next-kept, first-member, first-kept}
 use Rattle.model.proofs.Invariant.{join-quorum, vote-quorum, JoinOf, carried, Joined, Stands, Invariant}
@@ -36,16 +36,18 @@ module _ (z : Sizes) (o : Office) (offers : List ℕ) (I : Invariant z o offers)
     (t : ℕ) (m : MemberState) (M : KeptMember z t m) (S : Stands (z .n) (o .sent) (o .made) offers t m) where
   awaited-round : (phase : ℕ) (r : Round) → not (awaits m phase r) ≡ false → r ≡ m .durable .led
   awaited-round phase r h =
-      let e : eqb (r .0) (m .durable .led .0) ≡ true = and-left (eqb (r .0) (m .durable .led .0)) (eqb (m .lead .phase) phase) (not-false (awaits m phase r) h) in
+      let e : eqb (r .0) (m .durable .led .0) ≡ true =
+      and-left (eqb (r .0) (m .durable .led .0)) (eqb (m .lead .phase) phase) (not-false (awaits m phase r) h) in
       let q : r .0 ≡ m .durable .led .0 = omega tests in
-      ap round q
+      ap round-number q
 
   awaited-phase : (phase : ℕ) (r : Round) → not (awaits m phase r) ≡ false → m .lead .phase ≡ phase
   awaited-phase phase r h =
       omega (tests, and-right (eqb (r .0) (m .durable .led .0)) (eqb (m .lead .phase) phase) (not-false (awaits m phase r) h))
 
   -- a JOIN's vote is taken over if it is above B
-  adopting-cases : (P : MemberState → Type 0) (q : Round) (w : ℕ) → (m .lead .source .0 < q .0 → P (adopted m q w)) → (q .0 ≤ m .lead .source .0 → P m) → P (adopting m q w)
+  adopting-cases : (P : MemberState → Type 0) (q : Round) (w : ℕ) → (m .lead .source .0 < q .0 → P (adopted m q w)) → (q .0 ≤ m .lead .source .0 → P m)
+      → P (adopting m q w)
   unfolding adopting
   adopting-cases P q w f g = by-test (ltb (m .lead .source .0) (q .0)) (λ h. rw h (f (omega tests))) (λ h. rw h (g (omega tests)))
 
@@ -75,9 +77,9 @@ module _ (z : Sizes) (o : Office) (offers : List ℕ) (I : Invariant z o offers)
   join-new g r s k i join carries low now e C St =
       rw e (JOIN-new z o offers I meets t k C St s (omega (tests, M .size)) now (record { message = g; is-sent = i; is-join = join; at-most = carries }))
 
-  message-new : (g : Message) → g ∈ o .sent → in-range g ≡ true → first (causes m (delivers g)) ≡ 0 →
-      (proposes-one (row m (delivers g) .named) ≡ true → suc (proposals (o .made)) < z .table) → New z o offers t (row m (delivers g)) []
-  unfolding causes row
+  message-new : (g : Message) → g ∈ o .sent → in-range g ≡ true → first (step-causes m (delivers g)) ≡ 0 →
+      (proposes-one (step-row m (delivers g) .named) ≡ true → suc (proposals (o .made)) < z .table) → New z o offers t (step-row m (delivers g)) []
+  unfolding step-causes step-row
   message-new (Start r s) i f c room = START-new z o offers I t m M S r s (passed (START-causes m r s) refl c)
   message-new (Join r s) i f c room =
       let (sender, (await, rest)) = passed (count-causes COLLECTING m r s) refl c in
@@ -89,8 +91,10 @@ module _ (z : Sizes) (o : Office) (offers : List ℕ) (I : Invariant z o offers)
       let e : r ≡ m .durable .led = awaited-round COLLECTING r await in
       let now : m .lead .phase ≡ COLLECTING = awaited-phase COLLECTING r await in
       let C : Counts z t m = counts-of z t m M (omega arith) in
-      let below : q .0 < m .durable .led .0 = omega (tests, and-right (leb 1 (q .0)) (ltb (q .0) (r .0)) (and-right (head-in-range r s) (vote-in-range r q) f), ap (λ x. x .0) e) in
-      adopting-cases (λ k. (proposes-one (count-row COLLECTING k r s .named) ≡ true → suc (proposals (o .made)) < z .table) → New z o offers t (count-row COLLECTING k r s) []) q w
+      let below : q .0 < m .durable .led .0 = omega
+      (tests, and-right (leb 1 (q .0)) (ltb (q .0) (r .0)) (and-right (head-in-range r s) (vote-in-range r q) f), ap (λ x. x .0) e) in
+      adopting-cases (λ k. (proposes-one (count-row COLLECTING k r s .named) ≡ true → suc (proposals (o .made)) < z .table)
+      → New z o offers t (count-row COLLECTING k r s) []) q w
       (λ up. join-new (JoinVoted r s q w) r s (adopted m q w) i (ap (λ x. x .0) e, refl) (omega arith) sender now e
       (counts-adopted z t m q w below C) (adopted-stands r s q w i now up))
       (λ down. join-new (JoinVoted r s q w) r s m i (ap (λ x. x .0) e, refl) (omega arith) sender now e C S)
@@ -105,11 +109,12 @@ module _ (z : Sizes) (o : Office) (offers : List ℕ) (I : Invariant z o offers)
 module _ (z : Sizes) (ok : allowed (z .n) ≡ true) where
   module _ (o : Office) (offers : List ℕ) (K : KeptOffice z o) (I : Invariant z o offers) where
     event-new : (e : Event) → Accepted z o e → New z o offers (at-member e) (outcome z o e) (offer-of e)
-    unfolding causes row
+    unfolding step-causes step-row
     event-new (start k r x) a =
         let (c, same) = accepted-row z o K (start k r x) a in
         let m : MemberState = member-at z o k in
-        rw same (start-new z o offers I k m (K .each k (a .member)) (I .members k (a .member)) (round r) x (passed (start-causes m (round r)) refl c))
+        rw same (start-new z o offers I k m (K .each k (a .member)) (I .members k (a .member)) (round-number r) x
+        (passed (start-call-causes m (round-number r)) refl c))
     event-new (deliver j k) a =
         let (c, same) = accepted-row z o K (deliver j k) a in
         let m : MemberState = member-at z o k in
@@ -125,7 +130,8 @@ module _ (z : Sizes) (ok : allowed (z .n) ≡ true) where
         rw t (keep z o offers (at-member e) (outcome z o e) (offer-of e) K I (a .member) (sent-by z o K e a) (event-new e a)))
         (λ t. rw t (subst (Invariant z o) (sym (append-nil offers)) I))
 
-  pub all-hold : (o : Office) (offers : List ℕ) (es : List Event) → KeptOffice z o → Invariant z o offers → Invariant z (after z o es) (offers ++ offered z o es)
+  pub all-hold : (o : Office) (offers : List ℕ) (es : List Event) → KeptOffice z o → Invariant z o offers
+      → Invariant z (after z o es) (offers ++ offered z o es)
   unfolding after offered
   all-hold o offers [] K I = rw (append-nil offers) I
   all-hold o offers (e ∷ es) K I =
@@ -149,7 +155,7 @@ module _ (z : Sizes) (ok : allowed (z .n) ≡ true) where
     };
   }
     where
-      fresh-stands : (t : ℕ) → Stands (z .n) [] [] [] t (fresh (member-number t) (z .n))
+      fresh-stands : (t : ℕ) → Stands (z .n) [] [] [] t (fresh-record (member-number t) (z .n))
       fresh-stands t = record {
         spoken = record { reached = λ g i. elim i [ ]; past = λ g r c i. elim i [ ] };
         leading = record {

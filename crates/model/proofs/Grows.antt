@@ -12,7 +12,7 @@ use Rattle.laws.specs.Elements.{set-each}
 use Rattle.quorum.proofs.Meet.{wider}
 use Rattle.message.specs.declared.Message.{Message}
 use Rattle.message.specs.declared.Message.the-variants.{Start, Join, JoinVoted, Propose, Vote}
-use Rattle.member_record.specs.Record.{fresh}
+use Rattle.member_record.specs.Record.{fresh-record}
 use Rattle.member.specs.Table.{Outcome, Named, nothing, proposal, decision}
 use Rattle.model.specs.Model.{Sizes, Office, member-number, member-at, made-by}
 use Rattle.model.proofs.Senders.{sender}
@@ -111,7 +111,7 @@ becomes o t u = record { members = set (o .members) t (u .state); sent = o .sent
 pub keep : (z : Sizes) (o : Office) (offers : List ℕ) (t : ℕ) (u : Outcome) (xs : List ℕ) → KeptOffice z o → Invariant z o offers → t < z .n →
     ((g : Message) → g ∈ u .sent → sender g ≡ t) → New z o offers t u xs → Invariant z (becomes o t u) (offers ++ xs)
 keep z o offers t u xs K I low mine N = record {
-  members = λ s l. set-each (Stands (z .n) (o .sent ++ u .sent) (o .made ++ made-by (u .named)) (offers ++ xs)) (λ k. fresh (member-number k) (z .n))
+  members = λ s l. set-each (Stands (z .n) (o .sent ++ u .sent) (o .made ++ made-by (u .named)) (offers ++ xs)) (λ k. fresh-record (member-number k) (z .n))
       (o .members) t (u .state) (omega (arith, K .count)) (N .stands) (λ k b d. other k (omega (arith, K .count)) d) s (omega (arith, K .count));
   leaders = λ g i. ⊎-elim (I .leaders g) (N .leaders g) (List·Memᴰ·append-cases (o .sent) i);
   backed = λ g i. ⊎-elim (λ k. backed-grows (o .made) (made-by (u .named)) g (I .backed g k)) (N .backed g) (List·Memᴰ·append-cases (o .sent) i);

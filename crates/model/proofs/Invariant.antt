@@ -12,22 +12,22 @@ use Rattle.message.specs.declared.Message.the-variants.{Start, Join, JoinVoted,
 use Rattle.member_record.specs.declared.Who.{Who}
 use Rattle.member_record.specs.declared.MemberState.{MemberState}
 use Rattle.member_record.specs.Phases.{COLLECTING, PROPOSED, DECIDED, needed}
-use Rattle.member_record.specs.Record.{flag, round}
+use Rattle.member_record.specs.Record.{flag, round-number}
 use Rattle.member.specs.Table.{Named, proposal, decision}
 use Rattle.model.specs.Model.{Sizes, Office, member-number, member-at, proposals}
 use Rattle.model.specs.Demand.{calls}
 use Rattle.model.proofs.Senders.{sender}
 
 -- an office of n, in the eyes of one of its members
-abbrev pub office : ℕ → Who
-office n = record { me = member-number 0; n = n }
+abbrev pub office-who : ℕ → Who
+office-who n = record { me = member-number 0; n = n }
 
 -- joins needed and votes needed
 abbrev pub join-quorum : ℕ → ℕ
-join-quorum n = needed (office n) COLLECTING
+join-quorum n = needed (office-who n) COLLECTING
 
 abbrev pub vote-quorum : ℕ → ℕ
-vote-quorum n = needed (office n) PROPOSED
+vote-quorum n = needed (office-who n) PROPOSED
 
 -- a JOIN of round r by s, with or without a vote
 abbrev pub JoinOf : ℕ → ℕ → Message → Type 0
@@ -54,7 +54,7 @@ pub record Joined (sent : List Message) (r b s : ℕ) : Type 0 where
 
 -- s sent a VOTE of round r
 abbrev pub Voted : List Message → ℕ → ℕ → Type 0
-Voted sent r s = Vote (round r) (member-number s) ∈ sent
+Voted sent r s = Vote (round-number r) (member-number s) ∈ sent
 
 -- a proposal of round r with value x was made
 pub record Added (made : List Named) (r x : ℕ) : Type 0 where

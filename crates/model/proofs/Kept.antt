@@ -18,10 +18,10 @@ use Rattle.ids.specs.Ranges.{above-range, out-of-range}
 use Rattle.message.specs.declared.Message.{Message}
 use Rattle.message.specs.Fields.{in-range}
 use Rattle.member_record.specs.declared.MemberState.{MemberState}
-use Rattle.member_record.specs.Record.{allowed, fresh, sound}
-use Rattle.member.specs.Table.{sound-step, fitting, causes, row}
+use Rattle.member_record.specs.Record.{allowed, fresh-record, sound}
+use Rattle.member.specs.Table.{sound-step, fitting, step-causes, step-row}
 use Rattle.member.specs.Kept.{Kept}
-use Rattle.member_record.proofs.Sound.{Sound, parts, votes, leading-parts, Leading as MemberLeads, fresh-sound}
+use Rattle.member_record.proofs.Sound.{SoundParts, parts, vote-parts, leading-parts, SoundLeading, fresh-sound}
 use Rattle.member.proofs.Keeping.{step-kept, step-of-sound}
 use Rattle.model.specs.Model.{Sizes, Event, start, deliver, Office, member-number, fresh-members, first-office, member-at, message-at, at-member, unsent, event-of, outcome, absent, no-store-row, no-table-row, sends-one, proposes-one, proposals, answer, taken, next, after}
 use Rattle.model.specs.Demand.{ended}
@@ -44,9 +44,9 @@ pub record KeptOffice (z : Sizes) (o : Office) : Type 0 where
   pub fits : length (o .sent) ≤ z .store
 
 -- a member that isn't idle leads a round of its own, in range, and B is below it
-pub leads-one : (z : Sizes) (t : ℕ) (m : MemberState) → KeptMember z t m → 1 ≤ m .lead .phase → (eqb (m .durable .led .0) 0 ≡ false) × MemberLeads m
+pub leads-one : (z : Sizes) (t : ℕ) (m : MemberState) → KeptMember z t m → 1 ≤ m .lead .phase → (eqb (m .durable .led .0) 0 ≡ false) × SoundLeading m
 leads-one z t m M h =
-    let s : Sound m = parts m (M .is-sound) in
+    let s : SoundParts m = parts m (M .is-sound) in
     by-test (eqb (m .durable .led .0) 0)
     (λ e. absurd (omega (tests, and-left (eqb (m .lead .phase) 0) _ (rw e at (s .led)))))
     (λ e. (e, leading-parts m s e))
@@ -67,7 +67,7 @@ source-lower z t m M h = let (e, l) = leads-one z t m M h in omega (tests, l .lo
 
 -- V is at most J
 pub vote-lower : (z : Sizes) (t : ℕ) (m : MemberState) → KeptMember z t m → m .durable .voted .0 ≤ m .durable .joined .0
-vote-lower z t m M = omega (tests, votes (m .durable) (parts m (M .is-sound) .lasting) .ordered)
+vote-lower z t m M = omega (tests, vote-parts (m .durable) (parts m (M .is-sound) .lasting) .ordered)
 
 -- what an event that gets 0 has passed
 pub record Accepted (z : Sizes) (o : Office) (e : Event) : Type 0 where
@@ -119,14 +119,14 @@ module _ (z : Sizes) (o : Office) (K : KeptOffice z o) (e : Event) where
 
   -- an accepted event is its row of the member table, none of whose causes holds
   pub accepted-row : Accepted z o e →
-      (first (causes (member-at z o (at-member e)) (event-of o e)) ≡ 0) × (outcome z o e ≡ row (member-at z o (at-member e)) (event-of o e))
+      (first (step-causes (member-at z o (at-member e)) (event-of o e)) ≡ 0) × (outcome z o e ≡ step-row (member-at z o (at-member e)) (event-of o e))
   unfolding sound-step
   accepted-row a =
       let m : MemberState = member-at z o (at-member e) in
       let same : outcome z o e ≡ sound-step m (event-of o e) = accepted-sound a in
-      by-test (eqb (first (causes m (event-of o e))) 0)
+      by-test (eqb (first (step-causes m (event-of o e))) 0)
       (λ t. (omega tests, same ∙ rw t refl))
-      (λ t. let n : outcome z o e .number ≡ first (causes m (event-of o e)) = ap (λ u. u .number) same ∙ rw t refl in absurd (omega (tests, a .ok)))
+      (λ t. let n : outcome z o e .number ≡ first (step-causes m (event-of o e)) = ap (λ u. u .number) same ∙ rw t refl in absurd (omega (tests, a .ok)))
 
   taken-own : at-member e < z .n → Own (member-at z o (at-member e)) (outcome z o e)
   unfolding outcome
@@ -156,7 +156,7 @@ module _ (z : Sizes) (o : Office) (K : KeptOffice z o) (e : Event) where
   unfolding taken
   taken-kept a = record {
     count = simp length-set (K .count);
-    each = λ t l. set-each (KeptMember z) (λ k. fresh (member-number k) (z .n)) (o .members) (at-member e) (outcome z o e .state)
+    each = λ t l. set-each (KeptMember z) (λ k. fresh-record (member-number k) (z .n)) (o .members) (at-member e) (outcome z o e .state)
         (omega (arith, K .count, a .member)) (taken-member a) (λ s b d. K .each s (omega (arith, K .count))) t (omega (arith, K .count));
     ranged = λ g i. ⊎-elim (K .ranged g) (outcome-kept a .sent-in-range g) (List·Memᴰ·append-cases (o .sent) i);
     senders = λ g i. ⊎-elim (K .senders g) (λ j. rw (sent-by a g j) (a .member)) (List·Memᴰ·append-cases (o .sent) i);
@@ -180,15 +180,15 @@ unfolding fresh-members
 length-fresh n k zero = refl
 length-fresh n k (suc d) = ap suc (length-fresh n (suc k) d)
 
-fresh-at : (n k d i : ℕ) (x : MemberState) → i < d → getD (fresh-members n k d) i x ≡ fresh (member-number (k + i)) n
+fresh-at : (n k d i : ℕ) (x : MemberState) → i < d → getD (fresh-members n k d) i x ≡ fresh-record (member-number (k + i)) n
 unfolding fresh-members
 fresh-at n k zero i x h = absurd (omega arith)
 fresh-at n k (suc d) zero x h = let e : k + 0 ≡ k = omega arith in rw e refl
 fresh-at n k (suc d) (suc i) x h = let e : k + suc i ≡ suc k + i = omega arith in rw e (fresh-at n (suc k) d i x (omega arith))
 
-pub first-member : (z : Sizes) (t : ℕ) → t < z .n → member-at z (first-office (z .n)) t ≡ fresh (member-number t) (z .n)
+pub first-member : (z : Sizes) (t : ℕ) → t < z .n → member-at z (first-office (z .n)) t ≡ fresh-record (member-number t) (z .n)
 unfolding first-office
-first-member z t l = let e : 0 + t ≡ t = omega arith in rw (fresh-at (z .n) 0 (z .n) t (fresh (member-number t) (z .n)) l, e) refl
+first-member z t l = let e : 0 + t ≡ t = omega arith in rw (fresh-at (z .n) 0 (z .n) t (fresh-record (member-number t) (z .n)) l, e) refl
 
 pub first-kept : (z : Sizes) → allowed (z .n) ≡ true → KeptOffice z (first-office (z .n))
 unfolding first-office
@@ -200,7 +200,7 @@ first-kept z h = record {
   fits = omega arith;
 }
   where
-    fresh-kept : (t : ℕ) → t < z .n → KeptMember z t (fresh (member-number t) (z .n))
+    fresh-kept : (t : ℕ) → t < z .n → KeptMember z t (fresh-record (member-number t) (z .n))
     fresh-kept t l = record {
       is-sound = fresh-sound (member-number t) (z .n) ∙ and-intro h (lt-ltb t (z .n) l);
       seven = refl;

@@ -19,11 +19,11 @@ use Rattle.tree_theory.proofs.Calls.{unique}
 use Rattle.message.specs.declared.Message.{Message}
 use Rattle.message.specs.declared.Message.the-variants.{Start, Join, JoinVoted, Propose, Vote}
 use Rattle.member_record.specs.declared.MemberState.{MemberState}
-use Rattle.member_record.specs.Record.{allowed, leads, round}
-use Rattle.member_rules.specs.Causes.{start-causes, START-causes, count-causes, other-vote, PROPOSE-causes}
+use Rattle.member_record.specs.Record.{allowed, leads, round-number}
+use Rattle.member_rules.specs.Causes.{start-call-causes, START-causes, count-causes, other-vote, PROPOSE-causes}
 use Rattle.member_rules.specs.Changes.{counting, adopting}
-use Rattle.member.specs.Table.{Outcome, silent, complete, proposes, decides, causes, row, sound-step}
-use Rattle.member.specs.Table.{Event as MemberEvent, start as starts, deliver as delivers}
+use Rattle.member.specs.Table.{Outcome, silent, complete, proposes, decides, step-causes, step-row, sound-step}
+use Rattle.member.specs.Table.{MemberEvent, starts, delivers}
 use Rattle.model.specs.Model.{Sizes, Event, start, deliver, Office, first-office, member-at, message-at, at-member, unsent, event-of, outcome, absent, no-store-row, no-table-row, sends-one, proposes-one, proposals, answer, offered}
 use Rattle.model.specs.Demand.{calls, ended}
 use Rattle.model.specs.Counts.{tree}
@@ -58,8 +58,8 @@ either-zero : (b : Bool) (u v : Outcome) → u .number ≡ 0 → v .number ≡ 0
 either-zero true u v p q = p
 either-zero false u v p q = q
 
-row-number : (m : MemberState) (e : MemberEvent) → row m e .number ≡ 0
-unfolding row
+row-number : (m : MemberState) (e : MemberEvent) → step-row m e .number ≡ 0
+unfolding step-row
 row-number m (starts r x) = refl
 row-number m (delivers (Start r s)) = refl
 row-number m (delivers (Join r s)) = either-zero (complete (counting m s)) (proposes (counting m s) r) (silent (counting m s)) refl refl
@@ -68,11 +68,11 @@ row-number m (delivers (JoinVoted r s q w)) =
 row-number m (delivers (Propose r s v)) = refl
 row-number m (delivers (Vote r s)) = either-zero (complete (counting m s)) (decides (counting m s) r) (silent (counting m s)) refl refl
 
-step-number : (m : MemberState) (e : MemberEvent) → sound-step m e .number ≡ first (causes m e)
+step-number : (m : MemberState) (e : MemberEvent) → sound-step m e .number ≡ first (step-causes m e)
 unfolding sound-step
 step-number m e =
-    by-test (eqb (first (causes m e)) 0)
-    (λ t. let z : first (causes m e) ≡ 0 = omega tests in rw z (row-number m e))
+    by-test (eqb (first (step-causes m e)) 0)
+    (λ t. let z : first (step-causes m e) ≡ 0 = omega tests in rw z (row-number m e))
     (λ t. rw t refl)
 
 -- the row "last" of the place table
@@ -109,8 +109,8 @@ module _ (z : Sizes) (o : Office) (offers : List ℕ) (K : KeptOffice z o) (I : 
       (λ e. absurd (omega (tests, M .size)), (λ e. among 24 step-numbers refl, (λ e. among 25 step-numbers refl, tt)))
 
   message-numbers : (t : ℕ) (m : MemberState) → KeptMember z t m → Stands (z .n) (o .sent) (o .made) offers t m →
-      (g : Message) → g ∈ o .sent → first (causes m (delivers g)) ∈ step-numbers
-  unfolding causes
+      (g : Message) → g ∈ o .sent → first (step-causes m (delivers g)) ∈ step-numbers
+  unfolding step-causes
   message-numbers t m M S (Start r s) i =
       first-has (λ k. k ∈ step-numbers) (START-causes m r s) (among 0 step-numbers refl)
       (λ e. absurd (led t m M r s (I .leaders (Start r s) i) e), (λ e. among 22 step-numbers refl, tt))
@@ -127,10 +127,10 @@ module _ (z : Sizes) (o : Office) (offers : List ℕ) (K : KeptOffice z o) (I : 
   message-numbers t m M S (Vote r s) i = count-numbers t m M 2 r s (K .senders (Vote r s) i)
 
   -- the member's own number for an event of a member and of a message sent
-  own-number : (e : Event) → at-member e < z .n → unsent o e ≡ false → first (causes (member-at z o (at-member e)) (event-of o e)) ∈ step-numbers
-  unfolding causes
+  own-number : (e : Event) → at-member e < z .n → unsent o e ≡ false → first (step-causes (member-at z o (at-member e)) (event-of o e)) ∈ step-numbers
+  unfolding step-causes
   own-number (start k r x) l h =
-      first-has (λ k. k ∈ step-numbers) (start-causes (member-at z o k) (round r)) (among 0 step-numbers refl) (λ e. among 3 step-numbers refl, (λ e. among 19 step-numbers refl, (λ e. among 20 step-numbers refl, tt)))
+      first-has (λ k. k ∈ step-numbers) (start-call-causes (member-at z o k) (round-number r)) (among 0 step-numbers refl) (λ e. among 3 step-numbers refl, (λ e. among 19 step-numbers refl, (λ e. among 20 step-numbers refl, tt)))
   own-number (deliver j k) l h =
       message-numbers k (member-at z o k) (K .each k l) (I .members k l) (message-at o j) (message-in o j k h)
 

@@ -18,10 +18,10 @@ use Rattle.message.specs.declared.Message.{Message}
 use Rattle.message.specs.declared.Message.the-variants.{Start, Join, JoinVoted, Propose, Vote}
 use Rattle.member_record.specs.declared.MemberState.{MemberState}
 use Rattle.member_record.specs.Phases.{COLLECTING, PROPOSED}
-use Rattle.member_record.specs.Record.{leads, round}
-use Rattle.member_rules.specs.Causes.{start-causes, START-causes, PROPOSE-causes}
-use Rattle.member_rules.specs.Changes.{leading, join-of, counting}
-use Rattle.member.specs.Table.{proposal, decision, silent, start-row, START-row, complete, proposes, decides, count-row, PROPOSE-row}
+use Rattle.member_record.specs.Record.{leads, round-number}
+use Rattle.member_rules.specs.Causes.{start-call-causes, START-causes, PROPOSE-causes}
+use Rattle.member_rules.specs.Changes.{join-of, counting}
+use Rattle.member.specs.Table.{proposal, decision, silent, start-call-row, START-row, complete, proposes, decides, count-row, PROPOSE-row}
 use Rattle.model.specs.Model.{Sizes, Office, member-number, proposals, proposes-one}
 use Rattle.model.specs.Demand.{calls}
 use Rattle.model.proofs.Made.{decision-call, call-proposal}
@@ -45,14 +45,17 @@ module _ (z : Sizes) (o : Office) (offers : List ℕ) (I : Invariant z o offers)
 
   -- the leader's part, while only messages and offers are new
   leading-calm : (gs : List Message) (xs : List ℕ) →
-      Leading (z .n) (o .sent ++ gs) (o .made ++ []) (offers ++ xs) t (m .durable .led .0) (m .lead .phase) (m .lead .value) (m .lead .source .0) (m .lead .flags)
+      Leading (z .n) (o .sent ++ gs) (o .made ++ []) (offers ++ xs) t (m .durable .led .0) (m .lead .phase) (m .lead .value) (m .lead .source .0)
+      (m .lead .flags)
   leading-calm gs xs = leading-grows gs [] xs (λ a i. elim i [ ]) (λ h. counts-of z t m M h .own) (S .leading)
 
-  pub start-new : (r : Round) (x : ℕ) → Passed (start-causes m r) → New z o offers t (start-row m r x) (x ∷ [])
+  pub start-new : (r : Round) (x : ℕ) → Passed (start-call-causes m r) → New z o offers t (start-call-row m r x) (x ∷ [])
   start-new r x (range, (leader, (above, end))) = record {
     stands = record {
-      spoken = spoken-quiet (o .sent) (Start r (m .who .me) ∷ []) t (m .durable .joined .0) (m .durable .voted .0) (m .durable .led .0) (m .durable .joined .0) (m .durable .voted .0) (r .0)
-          (only (Reached (m .durable .joined .0) (m .durable .voted .0) (r .0)) (Start r (m .who .me)) (omega arith)) (omega arith) (omega arith) (omega tests) (S .spoken)
+      spoken = spoken-quiet (o .sent) (Start r (m .who .me) ∷ []) t (m .durable .joined .0) (m .durable .voted .0) (m .durable .led .0) (m .durable .joined .0)
+          (m .durable .voted .0) (r .0)
+          (only (Reached (m .durable .joined .0) (m .durable .voted .0) (r .0)) (Start r (m .who .me)) (omega arith)) (omega arith) (omega arith) (omega tests)
+          (S .spoken)
           (only _ (Start r (m .who .me)) tt);
       leading = record {
         highest = λ s y b i e. omega (tests, S .leading .highest s y b (rw (append-nil (o .made)) at i) e);
@@ -73,17 +76,19 @@ module _ (z : Sizes) (o : Office) (offers : List ℕ) (I : Invariant z o offers)
   }
 
   -- what holds of a JOIN with the member's vote and of one without
-  of-join : (r : Round) (P : Message → Type 0) → (0 < m .durable .voted .0 → P (JoinVoted r (m .who .me) (m .durable .voted) (m .durable .vote))) → (m .durable .voted .0 ≡ 0 → P (Join r (m .who .me))) → P (join-of m r)
+  of-join : (r : Round) (P : Message → Type 0) → (0 < m .durable .voted .0 → P (JoinVoted r (m .who .me) (m .durable .voted) (m .durable .vote)))
+      → (m .durable .voted .0 ≡ 0 → P (Join r (m .who .me))) → P (join-of m r)
   of-join r P f g = by-test (ltb 0 (m .durable .voted .0)) (λ h. rw h (f (omega tests))) (λ h. rw h (g (omega tests)))
 
   no-vote : (r : Round) (k : ℕ) → Voted (join-of m r ∷ []) k t → ⊥
   no-vote r k i =
-      of-join r (λ g. Vote (round k) (member-number t) ≡ g → ⊥) (λ v e. impossible (cc)) (λ v e. impossible (cc)) (List·Memᴰ·eq-of-singleton i)
+      of-join r (λ g. Vote (round-number k) (member-number t) ≡ g → ⊥) (λ v e. impossible (cc)) (λ v e. impossible (cc)) (List·Memᴰ·eq-of-singleton i)
 
   pub START-new : (r : Round) (s : Member) → Passed (START-causes m r s) → New z o offers t (START-row m r) []
   START-new r s (leader, (above, end)) = record {
     stands = record {
-      spoken = spoken-new (o .sent) (join-of m r ∷ []) t (m .durable .joined .0) (m .durable .voted .0) (m .durable .led .0) (r .0) (m .durable .voted .0) (m .durable .led .0)
+      spoken = spoken-new (o .sent) (join-of m r ∷ []) t (m .durable .joined .0) (m .durable .voted .0) (m .durable .led .0) (r .0) (m .durable .voted .0)
+          (m .durable .led .0)
           (only (Reached (r .0) (m .durable .voted .0) (m .durable .led .0)) (join-of m r)
           (of-join r (Reached (r .0) (m .durable .voted .0) (m .durable .led .0)) (λ v. omega arith) (λ v. omega arith)))
           (omega tests) (omega arith) (omega arith) (S .spoken)
@@ -101,21 +106,27 @@ module _ (z : Sizes) (o : Office) (offers : List ℕ) (I : Invariant z o offers)
       -- each vote was for a round at most V
       lower : (k : ℕ) → Voted (o .sent ++ join-of m r ∷ []) k t → k ≤ m .durable .voted .0
       lower k w =
-          ⊎-elim (λ i. S .spoken .reached (Vote (round k) (member-number t)) i refl) (λ i. absurd (no-vote r k i)) (List·Memᴰ·append-cases (o .sent) w)
+          ⊎-elim (λ i. S .spoken .reached (Vote (round-number k) (member-number t)) i refl) (λ i. absurd (no-vote r k i)) (List·Memᴰ·append-cases (o .sent) w)
 
   pub PROPOSE-new : (r : Round) (s : Member) (v : ℕ) → Propose r s v ∈ o .sent → Passed (PROPOSE-causes m r s v) → New z o offers t (PROPOSE-row m r v) []
   PROPOSE-new r s v sent (leader, (past, (same, end))) =
       let up : m .durable .voted .0 ≤ m .durable .joined .0 = vote-lower z t m M in
       record {
         stands = record {
-          spoken = spoken-new (o .sent) (Vote r (m .who .me) ∷ []) t (m .durable .joined .0) (m .durable .voted .0) (m .durable .led .0) (r .0) (r .0) (m .durable .led .0)
+          spoken = spoken-new (o .sent) (Vote r (m .who .me) ∷ []) t (m .durable .joined .0) (m .durable .voted .0) (m .durable .led .0) (r .0) (r .0)
+              (m .durable .led .0)
               (only (Reached (r .0) (r .0) (m .durable .led .0)) (Vote r (m .who .me)) (omega arith))
               (omega tests) (omega tests) (omega arith) (S .spoken)
               (λ g r₁ k i j w low. absurd (only (λ x. JoinOf r₁ t x → ⊥) (Vote r (m .who .me)) (λ x. x) g i j))
               (λ g r₁ k i j w low.
-              let e : Vote (round k) (member-number t) ≡ Vote r (m .who .me) = List·Memᴰ·eq-of-singleton w in
-              let q : round k ≡ r = cc in
-              absurd (omega (tests, ap (λ x. x .0) q, join-reached r₁ t (m .durable .joined .0) (m .durable .voted .0) (m .durable .led .0) g j (S .spoken .reached g i (join-sender r₁ t g j)))));
+              let e : Vote (round-number k) (member-number t) ≡ Vote r (m .who .me) = List·Memᴰ·eq-of-singleton w in
+              let q : round-number k ≡ r = cc in
+              absurd (omega (
+                tests,
+                ap (λ x. x .0) q,
+                join-reached r₁ t (m .durable .joined .0) (m .durable .voted .0) (m .durable .led .0) g j
+                    (S .spoken .reached g i (join-sender r₁ t g j)),
+              )));
           leading = leading-calm (Vote r (m .who .me) ∷ []) [];
           vote-added = λ h. added-grows [] (I .backed (Propose r s v) sent);
         };
@@ -135,14 +146,17 @@ module _ (z : Sizes) (o : Office) (offers : List ℕ) (I : Invariant z o offers)
   own-number-of = ap (λ x. x .0) (C .number)
 
   -- one more flag, short of the quorum
-  counted-new : (k .lead .phase ≡ COLLECTING → Joined (o .sent) (k .durable .led .0) (k .lead .source .0) (s .0)) → (k .lead .phase ≡ PROPOSED → Voted (o .sent) (k .durable .led .0) (s .0)) →
+  counted-new : (k .lead .phase ≡ COLLECTING → Joined (o .sent) (k .durable .led .0) (k .lead .source .0) (s .0))
+      → (k .lead .phase ≡ PROPOSED → Voted (o .sent) (k .durable .led .0) (s .0)) →
       New z o offers t (silent (counting k s)) []
   counted-new join vote =
-      let L : Leading (z .n) (o .sent ++ []) (o .made ++ []) (offers ++ []) t (k .durable .led .0) (k .lead .phase) (k .lead .value) (k .lead .source .0) (k .lead .flags) =
+      let L : Leading (z .n) (o .sent ++ []) (o .made ++ []) (offers ++ []) t (k .durable .led .0) (k .lead .phase) (k .lead .value) (k .lead .source .0)
+      (k .lead .flags) =
       leading-grows [] [] [] (λ a i. elim i [ ]) (λ h. C .own) (S .leading) in
       record {
         stands = record {
-          spoken = spoken-quiet (o .sent) [] t (k .durable .joined .0) (k .durable .voted .0) (k .durable .led .0) (k .durable .joined .0) (k .durable .voted .0) (k .durable .led .0)
+          spoken = spoken-quiet (o .sent) [] t (k .durable .joined .0) (k .durable .voted .0) (k .durable .led .0) (k .durable .joined .0)
+              (k .durable .voted .0) (k .durable .led .0)
               (λ g i. elim i [ ]) (omega arith) (omega arith) (omega arith) (S .spoken) (λ g i. elim i [ ]);
           leading = record {
             highest = L .highest;
@@ -163,13 +177,16 @@ module _ (z : Sizes) (o : Office) (offers : List ℕ) (I : Invariant z o offers)
       }
 
   -- the JOIN that makes the quorum
-  proposes-new : k .lead .phase ≡ COLLECTING → Joined (o .sent) (k .durable .led .0) (k .lead .source .0) (s .0) → complete (counting k s) ≡ true → suc (proposals (o .made)) < z .table →
+  proposes-new : k .lead .phase ≡ COLLECTING → Joined (o .sent) (k .durable .led .0) (k .lead .source .0) (s .0) → complete (counting k s) ≡ true
+      → suc (proposals (o .made)) < z .table →
       New z o offers t (proposes (counting k s) (k .durable .led)) []
   proposes-new now join full row =
       record {
         stands = record {
-          spoken = spoken-quiet (o .sent) (Propose (k .durable .led) (k .who .me) (k .lead .value) ∷ []) t (k .durable .joined .0) (k .durable .voted .0) (k .durable .led .0) (k .durable .joined .0) (k .durable .voted .0) (k .durable .led .0)
-              (only (Reached (k .durable .joined .0) (k .durable .voted .0) (k .durable .led .0)) (Propose (k .durable .led) (k .who .me) (k .lead .value)) (omega arith)) (omega arith) (omega arith) (omega arith) (S .spoken)
+          spoken = spoken-quiet (o .sent) (Propose (k .durable .led) (k .who .me) (k .lead .value) ∷ []) t (k .durable .joined .0) (k .durable .voted .0)
+              (k .durable .led .0) (k .durable .joined .0) (k .durable .voted .0) (k .durable .led .0)
+              (only (Reached (k .durable .joined .0) (k .durable .voted .0) (k .durable .led .0)) (Propose (k .durable .led) (k .who .me) (k .lead .value))
+              (omega arith)) (omega arith) (omega arith) (omega arith) (S .spoken)
               (only _ (Propose (k .durable .led) (k .who .me) (k .lead .value)) tt);
           leading = record {
             highest = λ r y b i e. by-last (o .made) i (λ j. S .leading .highest r y b j e) (λ q. let w : r ≡ k .durable .led .0 = cc in omega arith);
@@ -184,7 +201,8 @@ module _ (z : Sizes) (o : Office) (offers : List ℕ) (I : Invariant z o offers)
           vote-added = λ h. added-grows (proposal (k .durable .led .0) (k .lead .value) (k .lead .source .0) ∷ []) (S .vote-added h);
         };
         leaders = only (FromLeader (z .n)) (Propose (k .durable .led) (k .who .me) (k .lead .value)) (C .own ∙ sym own-number-of);
-        backed = only (Backed (o .made ++ proposal (k .durable .led .0) (k .lead .value) (k .lead .source .0) ∷ [])) (Propose (k .durable .led) (k .who .me) (k .lead .value))
+        backed = only (Backed (o .made ++ proposal (k .durable .led .0) (k .lead .value) (k .lead .source .0) ∷ []))
+            (Propose (k .durable .led) (k .who .me) (k .lead .value))
             (record { parent = k .lead .source .0; is-made = in-last (o .made) (proposal (k .durable .led .0) (k .lead .value) (k .lead .source .0)) });
         names = λ a i. rw (List·Memᴰ·eq-of-singleton i) (C .own);
         made-so = proposes-so z (o .sent) (o .made) offers (I .made-so) pasts meets (k .durable .led .0) (k .lead .value) (k .lead .source .0) (C .ranged)
@@ -204,10 +222,12 @@ module _ (z : Sizes) (o : Office) (offers : List ℕ) (I : Invariant z o offers)
           (λ v p j. S .leading .collects now v p (call-proposal (o .made) j))
 
   -- the VOTE that makes the quorum
-  decides-new : k .lead .phase ≡ PROPOSED → Voted (o .sent) (k .durable .led .0) (s .0) → complete (counting k s) ≡ true → New z o offers t (decides (counting k s) (k .durable .led)) []
+  decides-new : k .lead .phase ≡ PROPOSED → Voted (o .sent) (k .durable .led .0) (s .0) → complete (counting k s) ≡ true
+      → New z o offers t (decides (counting k s) (k .durable .led)) []
   decides-new now vote full = record {
     stands = record {
-      spoken = spoken-quiet (o .sent) [] t (k .durable .joined .0) (k .durable .voted .0) (k .durable .led .0) (k .durable .joined .0) (k .durable .voted .0) (k .durable .led .0)
+      spoken = spoken-quiet (o .sent) [] t (k .durable .joined .0) (k .durable .voted .0) (k .durable .led .0) (k .durable .joined .0) (k .durable .voted .0)
+          (k .durable .led .0)
           (λ g i. elim i [ ]) (omega arith) (omega arith) (omega arith) (S .spoken) (λ g i. elim i [ ]);
       leading = record {
         highest = λ r y b i e. by-last (o .made) i (λ j. S .leading .highest r y b j e) (λ q. impossible (cc));
@@ -236,7 +256,8 @@ module _ (z : Sizes) (o : Office) (offers : List ℕ) (I : Invariant z o offers)
           (λ i h. flag-set (k .lead .flags) (s .0) i h (λ e. rw e vote) (S .leading .votes now i)))
 
   pub JOIN-new : k .lead .phase ≡ COLLECTING → Joined (o .sent) (k .durable .led .0) (k .lead .source .0) (s .0) →
-      (proposes-one (count-row COLLECTING k (k .durable .led) s .named) ≡ true → suc (proposals (o .made)) < z .table) → New z o offers t (count-row COLLECTING k (k .durable .led) s) []
+      (proposes-one (count-row COLLECTING k (k .durable .led) s .named) ≡ true → suc (proposals (o .made)) < z .table)
+      → New z o offers t (count-row COLLECTING k (k .durable .led) s) []
   JOIN-new now join row =
       by-test (complete (counting k s))
       (λ h. rw h (proposes-new now join h (row (rw h refl))))

@@ -15,7 +15,8 @@ use Rattle.message.specs.declared.Message.{Message}
 use Rattle.message.specs.declared.Message.the-variants.{Start, Join, JoinVoted, Propose, Vote}
 use Rattle.member_record.specs.declared.MemberState.{MemberState}
 use Rattle.member_rules.specs.Changes.{counting, adopting, adopted, join-of}
-use Rattle.member.specs.Table.{Outcome, refused, silent, complete, proposes, decides, Event, start, deliver, causes, row, unfit, sound-step, step}
+use Rattle.member.specs.Table.{Outcome, refused, silent, complete, proposes, decides, MemberEvent, starts, delivers, step-causes, step-row, unfit, sound-step}
+use Rattle.member.specs.Table.{member-step}
 
 abbrev pub sender : Message → ℕ
 sender (Start r s) = s .0
@@ -49,7 +50,8 @@ own-join m r = pick (ltb 0 (m .durable .voted .0))
     pick true = refl
     pick false = refl
 
-own-counted : (m k : MemberState) (s : Member) (full : Outcome) → k .who .me ≡ m .who .me → k .who .n ≡ m .who .n → Own m full → Own m (cond (complete (counting k s)) full (silent (counting k s)))
+own-counted : (m k : MemberState) (s : Member) (full : Outcome) → k .who .me ≡ m .who .me → k .who .n ≡ m .who .n → Own m full
+    → Own m (cond (complete (counting k s)) full (silent (counting k s)))
 own-counted m k s full p q f =
     either m (complete (counting k s)) full (silent (counting k s)) f (record { number = p; size = q; from = λ g i. elim i [ ]; one = omega arith })
 
@@ -59,24 +61,27 @@ own-JOIN m k r s p q =
     own-counted m k s (proposes (counting k s) r) p q
     (record { number = p; size = q; from = only (λ g. sender g ≡ m .who .me .0) (Propose r (k .who .me) (k .lead .value)) (rw p refl); one = omega arith })
 
-own-adopting : (m : MemberState) (b : Bool) (q : Round) (w : ℕ) → (cond b (adopted m q w) m .who .me ≡ m .who .me) × (cond b (adopted m q w) m .who .n ≡ m .who .n)
+own-adopting : (m : MemberState) (b : Bool) (q : Round) (w : ℕ)
+    → (cond b (adopted m q w) m .who .me ≡ m .who .me) × (cond b (adopted m q w) m .who .n ≡ m .who .n)
 own-adopting m true q w = (refl, refl)
 own-adopting m false q w = (refl, refl)
 
-pub own-row : (m : MemberState) (e : Event) → Own m (row m e)
-unfolding row
-own-row m (start r offer) = record { number = refl; size = refl; from = only (λ g. sender g ≡ m .who .me .0) (Start r (m .who .me)) refl; one = omega arith }
-own-row m (deliver (Start r s)) = record { number = refl; size = refl; from = only (λ g. sender g ≡ m .who .me .0) (join-of m r) (own-join m r); one = omega arith }
-own-row m (deliver (Join r s)) = own-JOIN m m r s refl refl
-own-row m (deliver (JoinVoted r s q w)) =
+pub own-row : (m : MemberState) (e : MemberEvent) → Own m (step-row m e)
+unfolding step-row
+own-row m (starts r offer) = record { number = refl; size = refl; from = only (λ g. sender g ≡ m .who .me .0) (Start r (m .who .me)) refl; one = omega arith }
+own-row m (delivers (Start r s)) = record
+    { number = refl; size = refl; from = only (λ g. sender g ≡ m .who .me .0) (join-of m r) (own-join m r); one = omega arith }
+own-row m (delivers (Join r s)) = own-JOIN m m r s refl refl
+own-row m (delivers (JoinVoted r s q w)) =
     let (p, c) = own-adopting m (ltb (m .lead .source .0) (q .0)) q w in own-JOIN m (adopting m q w) r s p c
-own-row m (deliver (Propose r s v)) = record { number = refl; size = refl; from = only (λ g. sender g ≡ m .who .me .0) (Vote r (m .who .me)) refl; one = omega arith }
-own-row m (deliver (Vote r s)) =
+own-row m (delivers (Propose r s v)) = record
+    { number = refl; size = refl; from = only (λ g. sender g ≡ m .who .me .0) (Vote r (m .who .me)) refl; one = omega arith }
+own-row m (delivers (Vote r s)) =
     own-counted m m s (decides (counting m s) r) refl refl (record { number = refl; size = refl; from = λ g i. elim i [ ]; one = omega arith })
 
-pub own-step : (m : MemberState) (e : Event) → Own m (step m e)
-unfolding step
+pub own-step : (m : MemberState) (e : MemberEvent) → Own m (member-step m e)
+unfolding member-step
 own-step m e =
     either m (eqb (first (unfit m e)) 0) (sound-step m e) (refused (first (unfit m e)) m)
-    (either m (eqb (first (causes m e)) 0) (row m e) (refused (first (causes m e)) m) (own-row m e) (own-refused m (first (causes m e))))
+    (either m (eqb (first (step-causes m e)) 0) (step-row m e) (refused (first (step-causes m e)) m) (own-row m e) (own-refused m (first (step-causes m e))))
     (own-refused m (first (unfit m e)))

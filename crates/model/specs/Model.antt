@@ -10,9 +10,9 @@ use Rattle.numbers.specs.Numbers.{TABLE-FULL, NO-SUCH, STORE-FULL, no-row-left}
 use Rattle.message.specs.declared.Message.{Message}
 use Rattle.message.specs.declared.Message.the-variants.{Start}
 use Rattle.member_record.specs.declared.MemberState.{MemberState}
-use Rattle.member_record.specs.Record.{fresh, round}
-use Rattle.member.specs.Table.{Named, nothing, proposal, decision, Outcome, step}
-use Rattle.member.specs.Table.{Event as MemberEvent, start as starts, deliver as delivers}
+use Rattle.member_record.specs.Record.{fresh-record, round-number}
+use Rattle.member.specs.Table.{Named, nothing, proposal, decision, Outcome, member-step}
+use Rattle.member.specs.Table.{MemberEvent, starts, delivers}
 
 -- what the model is fed beside the events: N, and the rows of store and table
 pub record Sizes : Type 0 where
@@ -22,7 +22,7 @@ pub record Sizes : Type 0 where
 
 -- an event of a list
 pub data Event : Type 0 where
-  start : (member round offer : ℕ) → Event
+  start : (member round-number offer : ℕ) → Event
   deliver : (message member : ℕ) → Event
 
 -- what the model keeps
@@ -37,7 +37,7 @@ member-number k = record { 0 = k }
 -- the fresh members from k on, d of them
 unfoldable pub fresh-members : ℕ → ℕ → ℕ → List MemberState
 fresh-members n k zero = []
-fresh-members n k (suc d) = fresh (member-number k) n ∷ fresh-members n (suc k) d
+fresh-members n k (suc d) = fresh-record (member-number k) n ∷ fresh-members n (suc k) d
 
 -- at first the members are fresh and the rest is empty
 unfoldable pub first-office : ℕ → Office
@@ -46,11 +46,11 @@ first-office n = record { members = fresh-members n 0 n; sent = []; made = [] }
 
 -- member k; for k ≥ N, which gets 29, a fresh record stands in
 abbrev pub member-at : Sizes → Office → ℕ → MemberState
-member-at z o k = getD (o .members) k (fresh (member-number k) (z .n))
+member-at z o k = getD (o .members) k (fresh-record (member-number k) (z .n))
 
 -- message k; for a number that wasn't sent, which gets 29, some message stands in
 abbrev pub message-at : Office → ℕ → Message
-message-at o k = getD (o .sent) k (Start (round 0) (member-number 0))
+message-at o k = getD (o .sent) k (Start (round-number 0) (member-number 0))
 
 abbrev pub at-member : Event → ℕ
 at-member (start m r x) = m
@@ -63,13 +63,13 @@ unsent o (deliver k m) = leb (length (o .sent)) k
 
 -- the event as one of its member
 abbrev pub event-of : Office → Event → MemberEvent
-event-of o (start m r x) = starts (round r) x
+event-of o (start m r x) = starts (round-number r) x
 event-of o (deliver k m) = delivers (message-at o k)
 
 -- its member's step
 unfoldable pub outcome : Sizes → Office → Event → Outcome
-unfolding step
-outcome z o e = step (member-at z o (at-member e)) (event-of o e)
+unfolding member-step
+outcome z o e = member-step (member-at z o (at-member e)) (event-of o e)
 
 abbrev pub sends-one : List Message → Bool
 sends-one [] = false

@@ -16,7 +16,7 @@ use Rattle.tree_theory.specs.Machine.{after}
 use Rattle.tree_theory.specs.Table.{rows, sized, table}
 use Rattle.tree_theory.proofs.Trees.{sized-rows}
 use Rattle.member_record.specs.declared.MemberState.{MemberState}
-use Rattle.member_record.specs.Record.{fresh as fresh-member}
+use Rattle.member_record.specs.Record.{fresh-record as fresh-member}
 use Rattle.model.specs.Model.{Event, Office, at-member, member-number, fresh-members, first-office, answers, proposals}
 use Rattle.model.specs.Model.{after as ended-from}
 use Rattle.model.specs.Demand.{calls, ended}

@@ -9,12 +9,12 @@ use Rattle.numbers.specs.Numbers.{NO-SUCH}
 use Rattle.message.specs.declared.Message.{Message}
 use Rattle.message.specs.Fields.{in-range}
 use Rattle.member_record.specs.declared.MemberState.{MemberState}
-use Rattle.member.specs.declared.Step.{Step}
-use Rattle.member_record.specs.Record.{sound, round}
-use Rattle.member.specs.Answers.{outcome as step-outcome}
-use Rattle.member.specs.Kept.{Stepped}
+use Rattle.member.specs.declared.MemberStep.{MemberStep}
+use Rattle.member_record.specs.Record.{sound, round-number}
+use Rattle.member.specs.Answers.{step-outcome}
+use Rattle.member.specs.Kept.{StepOf}
 use Rattle.member.specs.Table.{Outcome, sound-step}
-use Rattle.member.specs.Table.{Event as MemberEvent, start as starts, deliver as delivers}
+use Rattle.member.specs.Table.{MemberEvent, starts, delivers}
 use Rattle.model.specs.Model.{Event, start, deliver, at-member, unsent, absent, event-of, message-at, member-at, event-causes, answer}
 use Rattle.model.proofs.Kept.{step-is-sound, message-in}
 use Rattle.play_store.specs.Rows.{HasRow, fetched}
@@ -54,7 +54,7 @@ module _ {t : Tally} {m : MemberState} {e : Event} {M : Memory} (E : EventBefore
     sound-member = subst (λ r. sound r ≡ true) (sym record-held) model-sound
 
     -- the member's step at an event of the model
-    step-at : {v : MemberEvent} {s : Step} → unsent (E .before .o) e ≡ false → v ≡ event-of (E .before .o) e → Stepped m v s →
+    step-at : {v : MemberEvent} {s : MemberStep} → unsent (E .before .o) e ≡ false → v ≡ event-of (E .before .o) e → StepOf m v s →
         ModelStep (E .before .z) (E .before .o) e (place-of (at-member e)) (step-outcome s)
     step-at {v} u q P =
         let z = E .before .z in
@@ -103,6 +103,6 @@ module _ {t : Tally} {m : MemberState} {row k : ℕ} {M : Memory} (E : EventBefo
     pub row-ranged : {g : Message} → g ≡ fetched (M .store) row → in-range g ≡ true
     row-ranged e = rw (e ∙ row-reads) (E .before .sound .ranged (message-at (E .before .o) row) (message-in (E .before .o) row k there))
 
-    pub step-deliver : {g : Message} {s : Step} → k < t .n → g ≡ fetched (M .store) row → Stepped m (delivers g) s →
+    pub step-deliver : {g : Message} {s : MemberStep} → k < t .n → g ≡ fetched (M .store) row → Stepped m (delivers g) s →
         ModelStep (E .before .z) (E .before .o) (deliver row k) (place-of k) (step-outcome s)
     step-deliver a e P = step-at E a there (ap delivers (e ∙ row-reads)) P

@@ -2,10 +2,10 @@
 pub mod event;
 
 use ids::Member;
-use member::Answer;
-use member::Step;
+use member::MemberStep;
+use member::StepAnswer;
 use member_record::MemberState;
-use member_record::blank;
+use member_record::fresh_record;
 use play_effects::AfterEvent;
 use play_effects::Tally;
 use play_effects::decide;
@@ -14,8 +14,8 @@ use play_effects::refused_event;
 use play_effects::send;
 ghost use mathlib.Core.Path.{_≡_};
 ghost use mathlib.Core.Bool.{true};
-ghost use Rattle.member_record.specs.Record.{fresh};
-ghost use Rattle.member.specs.Answers.{outcome, numbered-answer};
+ghost use Rattle.member_record.specs.Record.{fresh-record};
+ghost use Rattle.member.specs.Answers.{step-outcome, numbered-answer};
 ghost use Rattle.model.specs.Model.{member-number};
 ghost use Rattle.play_effects.specs.Memory.{in-memory};
 ghost use Rattle.play_office.specs.Represents.{OutcomeBefore, OutcomeSettled, fresh-office};
@@ -28,9 +28,9 @@ pub struct PlayedOffice {
 
 // The fresh record of member k.
 fn fresh_member(k: u32, n: u32) -> MemberState
-    ensures { λ m. ⌜ m ≡ fresh (member-number k) n ⌝ }
+    ensures { λ m. ⌜ m ≡ fresh-record (member-number k) n ⌝ }
 {
-    blank(Member(k), n)
+    fresh_record(Member(k), n)
 }
 
 // Fresh members, nothing sent and nothing made.
@@ -61,30 +61,30 @@ pub fn fresh_office(n: u32) -> PlayedOffice
 pub fn settle(
     tally: Tally,
     m: MemberState,
-    s: Step,
+    s: MemberStep,
     messages: &mut [u8],
     nodes: &mut [u64],
 ) -> AfterEvent
-    requires { ⌜ OutcomeBefore tally m (outcome s) (in-memory (now messages) (now nodes)) × (numbered-answer (s .answer) ≡ true) ⌝ }
-    ensures { λ w. ⌜ OutcomeSettled tally m (outcome s) (in-memory (now (messages .entry)) (now (nodes .entry))) w
+    requires { ⌜ OutcomeBefore tally m (step-outcome s) (in-memory (now messages) (now nodes)) × (numbered-answer (s .answer) ≡ true) ⌝ }
+    ensures { λ w. ⌜ OutcomeSettled tally m (step-outcome s) (in-memory (now (messages .entry)) (now (nodes .entry))) w
         (in-memory (now (messages .exit)) (now (nodes .exit))) ⌝ }
 {
     let state = s.state;
     let a = s.answer;
     match a {
-        Answer::Refused(k) => refused_event(m, tally, k),
-        Answer::Done => AfterEvent {
+        StepAnswer::Refused(k) => refused_event(m, tally, k),
+        StepAnswer::Done => AfterEvent {
             state,
             tally,
             number: numbers::OK,
         },
-        Answer::Sent(g) => send(messages, tally, m, state, g),
-        Answer::Proposed {
+        StepAnswer::Sent(g) => send(messages, tally, m, state, g),
+        StepAnswer::Proposed {
             sent,
             round,
             value,
             parent,
         } => propose(messages, nodes, tally, m, state, sent, round, value, parent),
-        Answer::Decided { round, value: _ } => decide(nodes, tally, state, round),
+        StepAnswer::Decided { round, value: _ } => decide(nodes, tally, state, round),
     }
 }

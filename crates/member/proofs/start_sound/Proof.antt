@@ -3,8 +3,8 @@ use mathlib.Core.Path.{_≡_, refl}
 use native.Mathlib.Omega.{arith}
 use lib.ListN.{length, length-map}
 use Rattle.member_record.proofs.Sound.{sound-size}
-use Rattle.member.specs.Table.{start, sound-step}
-use Rattle.member.proofs.Keeping.{stepped, step-kept}
+use Rattle.member.specs.Table.{starts, sound-step}
+use Rattle.member.proofs.Keeping.{step-of-move, step-kept}
 use borrow.Author.Needs.{needs}
 use Rattle.member.proofs.start_sound.Statement.{statement}
 use Rattle.member.proofs.start_sound.Tie as tie
@@ -21,7 +21,8 @@ returns c =
     let entry = c .before .before in
     let args = entry .args in
     let seven : length (args .m .lead .flags) ≡ 7 = simp length-map at (entry .good .0 .1 .1 .1 .1 .0 .1 .1 .1 .1 .1 .0 .1 .0 .1) in
-    stepped (args .m) (start (args .r) (args .offer)) (c .step-of .ensures) (c .before .on-start-call .ensures) (step-kept (args .m) (start (args .r) (args .offer)) seven (entry .pre) refl)
+    step-of-move (args .m) (starts (args .r) (args .offer)) (c .step-of .ensures) (c .before .on-start-call .ensures)
+    (step-kept (args .m) (starts (args .r) (args .offer)) seven (entry .pre) refl)
 
 pub start-sound-spec : {M : Type 1} → statement M
 start-sound-spec = tie.close (tie.spec on-start-call-requires step-of-requires returns)

@@ -3,12 +3,22 @@ use mathlib.Core.Path.{refl, sym, _∙_}
 use denote.Ref.{now}
 use Rattle.message.specs.Reading.{message-row, decoded}
 use Rattle.message.proofs.RoundTrip.{got}
-use Rattle.member.specs.Table.{deliver, sound-step}
+use Rattle.member.specs.Table.{delivers, sound-step}
 use Rattle.member_calls.specs.Calls.{deliver-call}
 use Rattle.member_calls.proofs.Calls.{passing, refusing, unread, read-as}
 use borrow.Author.Needs.{needs}
 use Rattle.member_calls.proofs.deliver_into.Statement.{statement}
 use Rattle.member_calls.proofs.deliver_into.Tie as tie
+
+-- the entry, from where the row's number is asked for; that, from where the bytes are read; and that, from the step
+abbrev entry : tie.After-record-number → tie.Start
+entry c = c .before .before .before
+
+abbrev asked : tie.After-read-message → tie.After-record-number
+asked c = c .before .before
+
+abbrev read-before : tie.After-deliver-sound → tie.After-read-message
+read-before c = c .before .before .before .before
 
 record-number-requires : tie.Need-record-number-requires
 record-number-requires c κs = search needs
@@ -20,9 +30,10 @@ returns : tie.Need-returns
 unfolding deliver-call
 returns c =
     let row = c .before .before .record-number in
-    let args = c .before .before .before .before .before .args in
+    let args = entry (c .before .before) .args in
     let s = now (args .bytes) in
-    rw (refusing (args .m) (now (args .reply)) (row .result) (row .ensures) (message-row s) (sound-step (args .m) (deliver (decoded s))) (c .before .if1 .taken))
+    rw (refusing (args .m) (now (args .reply)) (row .result) (row .ensures) (message-row s) (sound-step (args .m) (delivers (decoded s)))
+    (c .before .if1 .taken))
     (record { answers = c .refuse .ensures; reply = refl })
 
 read-message-requires : tie.Need-read-message-requires
@@ -40,24 +51,30 @@ enum-known-read-2 c = search needs
 deliver-sound-requires : tie.Need-deliver-sound-requires
 deliver-sound-requires c κs =
     let read = c .before .before .before in
-    let row = read .before .before .record-number in
-    let args = read .before .before .before .before .before .args in
-    (passing (args .m) (now (args .reply)) (row .result) (row .ensures) (read .before .if1 .left) .0, got (now (args .bytes)) _ (sym (read .read-message .ensures .answer) ∙ c .before .read2 .given .1) .2)
+    let row = asked read .record-number in
+    let args = entry (asked read) .args in (
+      passing (args .m) (now (args .reply)) (row .result) (row .ensures) (read .before .if1 .left) .0,
+      got (now (args .bytes)) _ (sym (read .read-message .ensures .answer) ∙ c .before .read2 .given .1) .2,
+    )
 
 tell-requires : tie.Need-tell-requires
 tell-requires c κs =
-    let read = c .before .before .before .before .before in
-    let row = read .before .before .record-number in
-    let args = read .before .before .before .before .before .args in
+    let read = read-before (c .before) in
+    let row = asked read .record-number in
+    let args = entry (asked read) .args in
     (passing (args .m) (now (args .reply)) (row .result) (row .ensures) (read .before .if1 .left) .1, c .before .deliver-sound .ensures .kept)
 
 returns-2 : tie.Need-returns-2
 returns-2 c =
-    let read = c .before .before .before .before in
-    let row = read .before .before .record-number in
-    let args = read .before .before .before .before .before .args in
-    let fault = c .before .before .read .given in
-    rw (unread (args .m) (now (args .bytes)) (now (args .reply)) (row .result) (row .ensures) (read .before .if1 .left) (fault .0 .0) (sym (read .read-message .ensures .answer) ∙ fault .1))
+    let arm = c .before .before in
+    let read = arm .before .before in
+    let row = asked read .record-number in
+    let args = entry (asked read) .args in
+    let fault = arm .read .given in
+    rw (
+      unread (args .m) (now (args .bytes)) (now (args .reply)) (row .result) (row .ensures) (read .before .if1 .left) (fault .0 .0)
+          (sym (read .read-message .ensures .answer) ∙ fault .1),
+    )
     (record { answers = c .refuse2 .ensures; reply = refl })
 
 same-length : tie.Need-same-length
@@ -65,13 +82,18 @@ same-length c = search needs
 
 returns-3 : tie.Need-returns-3
 returns-3 c =
-    let step = c .before .before .before .before in
-    let read = step .before .before .before .before in
-    let row = read .before .before .record-number in
-    let args = read .before .before .before .before .before .args in
+    let told = c .before .before in
+    let step = told .before .before in
+    let read = read-before step in
+    let row = asked read .record-number in
+    let args = entry (asked read) .args in
     let message = step .before .before .read2 .given in
-    rw (read-as (args .m) (now (args .bytes)) (now (args .reply)) (row .result) (row .ensures) (read .before .if1 .left) (message .0 .0) (sym (read .read-message .ensures .answer) ∙ message .1), ← step .deliver-sound .ensures .equals)
-    (c .before .before .tell .ensures)
+    rw (
+      read-as (args .m) (now (args .bytes)) (now (args .reply)) (row .result) (row .ensures) (read .before .if1 .left) (message .0 .0)
+          (sym (read .read-message .ensures .answer) ∙ message .1),
+      ← step .deliver-sound .ensures .equals,
+    )
+    (told .tell .ensures)
 
 pub deliver-into-spec : {M : Type 1} → statement M
 deliver-into-spec =

@@ -6,8 +6,8 @@ use borrow.Author.Needs.{needs}
 use Rattle.member_calls.proofs.fresh_into.Statement.{statement}
 use Rattle.member_calls.proofs.fresh_into.Tie as tie
 
-blank-requires : tie.Need-blank-requires
-blank-requires c κs = search needs
+fresh-record-requires : tie.Need-fresh-record-requires
+fresh-record-requires c κs = search needs
 
 number-sound-requires : tie.Need-number-sound-requires
 number-sound-requires c κs = search needs
@@ -32,9 +32,9 @@ returns-2 c =
       ← b .number-sound .ensures,
       not-false (b .number-sound .result) (c .before .if1 .left),
       c .give .ensures,
-      b .before .blank .ensures,
+      b .before .fresh-record .ensures,
     ) (record { report = refl; state = refl })
 
 pub fresh-into-spec : {M : Type 1} → statement M
 fresh-into-spec =
-    tie.close (tie.spec blank-requires number-sound-requires refuse-requires returns give-requires returns-2)
+    tie.close (tie.spec fresh-record-requires number-sound-requires refuse-requires returns give-requires returns-2)

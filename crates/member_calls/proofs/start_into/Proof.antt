@@ -2,7 +2,7 @@
 use mathlib.Core.Path.{refl}
 use mathlib.Core.List.{[]}
 use denote.Ref.{now}
-use Rattle.member.specs.Table.{start, sound-step}
+use Rattle.member.specs.Table.{starts, sound-step}
 use Rattle.member_calls.specs.Calls.{start-call}
 use Rattle.member_calls.proofs.Calls.{passing, refusing, further}
 use borrow.Author.Needs.{needs}
@@ -18,9 +18,10 @@ refuse-requires c κs = search needs
 returns : tie.Need-returns
 unfolding start-call
 returns c =
-    let row = c .before .before .record-number in
-    let args = c .before .before .before .before .args in
-    rw (refusing (args .m) (now (args .reply)) (row .result) (row .ensures) [] (sound-step (args .m) (start (args .r) (args .offer))) (c .before .if1 .taken))
+    let asked = c .before .before in
+    let row = asked .record-number in
+    let args = asked .before .before .args in
+    rw (refusing (args .m) (now (args .reply)) (row .result) (row .ensures) [] (sound-step (args .m) (starts (args .r) (args .offer))) (c .before .if1 .taken))
     (record { answers = c .refuse .ensures; reply = refl })
 
 start-sound-requires : tie.Need-start-sound-requires
@@ -46,7 +47,10 @@ returns-2 c =
     let test = step .before in
     let row = test .before .record-number in
     let args = test .before .before .before .args in
-    rw (further (args .m) (now (args .reply)) (row .result) (row .ensures) [] (sound-step (args .m) (start (args .r) (args .offer))) (test .if1 .left), ← step .start-sound .ensures .equals)
+    rw (
+      further (args .m) (now (args .reply)) (row .result) (row .ensures) [] (sound-step (args .m) (starts (args .r) (args .offer))) (test .if1 .left),
+      ← step .start-sound .ensures .equals,
+    )
     (c .before .before .tell .ensures)
 
 pub start-into-spec : {M : Type 1} → statement M

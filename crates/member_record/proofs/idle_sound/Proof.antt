@@ -11,17 +11,21 @@ returns-2 : tie.Need-returns-2
 returns-2 c = simp (eq-eqb _ _ (c .before .before .if1 .left), ne-eqb _ _ (c .if2 .taken))
 
 returns-3 : tie.Need-returns-3
-returns-3 c = simp (eq-eqb _ _ (c .before .before .before .before .if1 .left), eq-eqb _ _ (c .before .before .if2 .left), ne-eqb _ _ (c .if3 .taken))
+returns-3 c =
+    let b = c .before .before in
+    simp (eq-eqb _ _ (b .before .before .if1 .left), eq-eqb _ _ (b .if2 .left), ne-eqb _ _ (c .if3 .taken))
 
 count-flags-requires : tie.Need-count-flags-requires
 count-flags-requires c κs = search needs
 
 returns-4 : tie.Need-returns-4
 returns-4 c =
+    let a = c .before .before in
+    let b = a .before .before in
     simp (
-      eq-eqb _ _ (c .before .before .before .before .before .before .if1 .left),
-      eq-eqb _ _ (c .before .before .before .before .if2 .left),
-      eq-eqb _ _ (c .before .before .if3 .left),
+      eq-eqb _ _ (b .before .before .if1 .left),
+      eq-eqb _ _ (b .if2 .left),
+      eq-eqb _ _ (a .if3 .left),
       c .count-flags .ensures,
     )
 

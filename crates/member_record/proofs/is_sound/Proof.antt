@@ -1,11 +1,9 @@
 -- `member_record::is_sound` meets its contract: each return goes by the tests that led there; an allowed N is 3 to 7. Assumes nothing.
 use mathlib.Core.Path.{_≡_, sym, _∙_}
-use mathlib.Core.Bool.{Bool, true, _&&_}
+use mathlib.Core.Bool.{true, _&&_}
 use Prim.Native.Nat.{_≤_}
-use lib.Dec.{leb}
 use borrow.Author.Tests.{le-leb, lt-leb, not-true, not-false}
 use native.Mathlib.Omega.{arith}
-use Rattle.member_record.specs.Phases.{DECIDED}
 use Rattle.member_record.specs.Record.{sound, sound-number, sound-durable, sound-flags, sound-lead}
 use Rattle.member_record.proofs.Flags.{number-sizes}
 use borrow.Author.Needs.{needs}

@@ -1,6 +1,6 @@
 -- `member_record::leading_sound` meets its contract: each return goes by the tests that led there. Assumes nothing.
 use mathlib.Core.Path.{_≡_, sym, _∙_}
-use mathlib.Core.Bool.{Bool, _&&_}
+use mathlib.Core.Bool.{_&&_}
 use lib.Dec.{ltb}
 use borrow.Author.Tests.{eq-eqb, ne-eqb, lt-ltb, le-ltb, not-true, not-false}
 use Rattle.member_record.specs.Record.{sound-count, leads, sound-leading}
@@ -35,24 +35,29 @@ is-leader-requires c κs = search needs
 
 returns-3 : tie.Need-returns-3
 returns-3 c =
-    let is-leader = c .before .is-leader in
-    rw (left (c .before .before .before .before), ← is-leader .ensures, not-true (is-leader .result) (c .if3 .taken))
+    let asked = c .before in
+    let is-leader = asked .is-leader in
+    rw (left (asked .before .before .before), ← is-leader .ensures, not-true (is-leader .result) (c .if3 .taken))
 
 left-2 : (c : tie.Else3) →
     let m = c .before .before .before .before .before .before .before .before .before .before .args .m in
     sound-leading m ≡ (ltb (m .lead .source .0) (m .durable .led .0) && sound-count (m .who) (m .lead))
 left-2 c =
-    let is-leader = c .before .is-leader in
-    rw (left (c .before .before .before .before), ← is-leader .ensures, not-false (is-leader .result) (c .if3 .left))
+    let asked = c .before in
+    let is-leader = asked .is-leader in
+    rw (left (asked .before .before .before), ← is-leader .ensures, not-false (is-leader .result) (c .if3 .left))
 
 returns-4 : tie.Need-returns-4
-returns-4 c = rw (left-2 (c .before .before .before .before), le-ltb _ _ (c .if4 .taken))
+returns-4 c = let lead = c .before .before .before in rw (left-2 (lead .before), le-ltb _ _ (c .if4 .taken))
 
 count-sound-requires : tie.Need-count-sound-requires
 count-sound-requires c κs = search needs
 
 returns-5 : tie.Need-returns-5
-returns-5 c = let d = c .before in rw (left-2 (d .before .before .before .before), lt-ltb _ _ (d .if4 .left)) (c .count-sound .ensures)
+returns-5 c =
+    let d = c .before in
+    let lead = d .before .before .before in
+    rw (left-2 (lead .before), lt-ltb _ _ (d .if4 .left)) (c .count-sound .ensures)
 
 pub leading-sound-spec : {M : Type 1} → statement M
 leading-sound-spec =

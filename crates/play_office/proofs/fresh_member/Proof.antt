@@ -3,11 +3,11 @@ use borrow.Author.Needs.{needs}
 use Rattle.play_office.proofs.fresh_member.Statement.{statement}
 use Rattle.play_office.proofs.fresh_member.Tie as tie
 
-blank-requires : tie.Need-blank-requires
-blank-requires c κs = search needs
+fresh-record-requires : tie.Need-fresh-record-requires
+fresh-record-requires c κs = search needs
 
 returns : tie.Need-returns
-returns c = c .blank .ensures
+returns c = c .fresh-record .ensures
 
 pub fresh-member-spec : {M : Type 1} → statement M
-fresh-member-spec = tie.close (tie.spec blank-requires returns)
+fresh-member-spec = tie.close (tie.spec fresh-record-requires returns)

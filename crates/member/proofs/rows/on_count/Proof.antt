@@ -17,7 +17,8 @@ returns : tie.Need-returns
 returns c =
     let test = c .before in
     let args = test .before .before .args in
-    check-refused (count-causes (args .phase) (args .m) (args .r) (args .s)) (args .m) (count-row (args .phase) (args .taken) (args .r) (args .s)) (test .before .check-count .ensures) (test .if1 .taken) (c .refuse .ensures)
+    check-refused (count-causes (args .phase) (args .m) (args .r) (args .s)) (args .m) (count-row (args .phase) (args .taken) (args .r) (args .s))
+    (test .before .check-count .ensures) (test .if1 .taken) (c .refuse .ensures)
 
 count-requires : tie.Need-count-requires
 count-requires c κs =
@@ -30,7 +31,8 @@ returns-2 : tie.Need-returns-2
 returns-2 c =
     let test = c .before in
     let args = test .before .before .args in
-    check-passed (count-causes (args .phase) (args .m) (args .r) (args .s)) (args .m) (count-row (args .phase) (args .taken) (args .r) (args .s)) (test .before .check-count .ensures) (test .if1 .left) (c .count .ensures)
+    check-passed (count-causes (args .phase) (args .m) (args .r) (args .s)) (args .m) (count-row (args .phase) (args .taken) (args .r) (args .s))
+    (test .before .check-count .ensures) (test .if1 .left) (c .count .ensures)
 
 pub on-count-spec : {M : Type 1} → statement M
 on-count-spec = tie.close (tie.spec check-count-requires refuse-requires returns count-requires returns-2)

@@ -17,7 +17,8 @@ returns : tie.Need-returns
 returns c =
     let test = c .before in
     let args = test .before .before .args in
-    check-refused (PROPOSE-causes (args .m) (args .r) (args .s) (args .v)) (args .m) (PROPOSE-row (args .m) (args .r) (args .v)) (test .before .check-propose .ensures) (test .if1 .taken) (c .refuse .ensures)
+    check-refused (PROPOSE-causes (args .m) (args .r) (args .s) (args .v)) (args .m) (PROPOSE-row (args .m) (args .r) (args .v))
+    (test .before .check-propose .ensures) (test .if1 .taken) (c .refuse .ensures)
 
 voting-requires : tie.Need-voting-requires
 voting-requires c κs = search needs
@@ -29,7 +30,8 @@ returns-2 : tie.Need-returns-2
 returns-2 c =
     let test = c .before .before .before in
     let args = test .before .before .args in
-    check-passed (PROPOSE-causes (args .m) (args .r) (args .s) (args .v)) (args .m) (PROPOSE-row (args .m) (args .r) (args .v)) (test .before .check-propose .ensures) (test .if1 .left) (rw (c .before .voting .ensures) at (c .send .ensures))
+    check-passed (PROPOSE-causes (args .m) (args .r) (args .s) (args .v)) (args .m) (PROPOSE-row (args .m) (args .r) (args .v))
+    (test .before .check-propose .ensures) (test .if1 .left) (rw (c .before .voting .ensures) at (c .send .ensures))
 
 pub on-propose-spec : {M : Type 1} → statement M
 on-propose-spec = tie.close (tie.spec check-propose-requires refuse-requires returns voting-requires send-requires returns-2)

@@ -17,7 +17,8 @@ returns : tie.Need-returns
 returns c =
     let test = c .before in
     let args = test .before .before .args in
-    check-refused (START-causes (args .m) (args .r) (args .s)) (args .m) (START-row (args .m) (args .r)) (test .before .check-start .ensures) (test .if1 .taken) (c .refuse .ensures)
+    check-refused (START-causes (args .m) (args .r) (args .s)) (args .m) (START-row (args .m) (args .r)) (test .before .check-start .ensures) (test .if1 .taken)
+    (c .refuse .ensures)
 
 joining-requires : tie.Need-joining-requires
 joining-requires c κs = search needs
@@ -33,7 +34,8 @@ returns-2 c =
     let join = c .before in
     let test = join .before .before in
     let args = test .before .before .args in
-    check-passed (START-causes (args .m) (args .r) (args .s)) (args .m) (START-row (args .m) (args .r)) (test .before .check-start .ensures) (test .if1 .left) (rw (join .before .joining .ensures, join .join-message .ensures) at (c .send .ensures))
+    check-passed (START-causes (args .m) (args .r) (args .s)) (args .m) (START-row (args .m) (args .r)) (test .before .check-start .ensures) (test .if1 .left)
+    (rw (join .before .joining .ensures, join .join-message .ensures) at (c .send .ensures))
 
 pub on-start-spec : {M : Type 1} → statement M
 on-start-spec = tie.close (tie.spec check-start-requires refuse-requires returns joining-requires join-message-requires send-requires returns-2)

@@ -1,9 +1,13 @@
 -- `crate::reply::tell` meets its contract, answer by answer. Assumes nothing.
 use mathlib.Core.Path.{refl}
-use mathlib.Core.List.{List·Memᴰ·head as here}
+use Rattle.member.proofs.Checks.{sent-in-bounds, proposed-in-bounds}
 use borrow.Author.Needs.{needs}
 use Rattle.member_calls.proofs.reply.tell.Statement.{statement}
 use Rattle.member_calls.proofs.reply.tell.Tie as tie
+
+-- the entry, from where the record is taken out
+abbrev entry : tie.After-m → tie.Start
+entry c = c .before .before
 
 enum-known-answer : tie.Need-enum-known-answer
 enum-known-answer c = search needs
@@ -16,8 +20,9 @@ enum-known-answer-2 c = search needs
 
 send-requires : tie.Need-send-requires
 send-requires c κs =
-    let s = c .before .before .before .before .before .before in
-    (s .pre .0, (rw (c .before .before .answer2 .given .1) at (s .pre .1)) .sent-in-range _ (here refl))
+    let arm = c .before .before in
+    let s = entry (arm .before .before) in
+    (s .pre .0, sent-in-bounds (s .args .s .state) (arm .answer2 .given .1) (s .pre .1))
 
 give-requires : tie.Need-give-requires
 give-requires c κs = search needs
@@ -33,8 +38,9 @@ enum-known-answer-3 c = search needs
 
 send-requires-2 : tie.Need-send-requires-2
 send-requires-2 c κs =
-    let s = c .before .before .before .before .before .before in
-    (s .pre .0, (rw (c .before .before .answer3 .given .1) at (s .pre .1)) .sent-in-range _ (here refl))
+    let arm = c .before .before in
+    let s = entry (arm .before .before) in
+    (s .pre .0, proposed-in-bounds (s .args .s .state) (arm .answer3 .given .1) (s .pre .1))
 
 give-requires-3 : tie.Need-give-requires-3
 give-requires-3 c κs = search needs
@@ -54,8 +60,10 @@ same-length c = search needs
 
 returns-2 : tie.Need-returns-2
 returns-2 c =
-    let send = c .before .before .before .send in
-    rw (c .before .before .before .before .before .before .answer2 .given .1, c .give .ensures) (record { answers = record { report = rw (send .ensures .0); state = refl }; reply = send .ensures .1 })
+    let sent = c .before .before .before in
+    let send = sent .send in
+    rw (sent .before .before .before .answer2 .given .1, c .give .ensures)
+    (record { answers = record { report = rw (send .ensures .0); state = refl }; reply = send .ensures .1 })
 
 returns-3 : tie.Need-returns-3
 returns-3 c = rw (c .before .enum-told .given .1, c .give2 .ensures) (record { answers = record { report = refl; state = refl }; reply = refl })
@@ -65,8 +73,10 @@ same-length-2 c = search needs
 
 returns-4 : tie.Need-returns-4
 returns-4 c =
-    let send = c .before .before .before .send2 in
-    rw (c .before .before .before .before .before .before .answer3 .given .1, c .give3 .ensures) (record { answers = record { report = rw (send .ensures .0); state = refl }; reply = send .ensures .1 })
+    let sent = c .before .before .before in
+    let send = sent .send2 in
+    rw (sent .before .before .before .answer3 .given .1, c .give3 .ensures)
+    (record { answers = record { report = rw (send .ensures .0); state = refl }; reply = send .ensures .1 })
 
 returns-5 : tie.Need-returns-5
 returns-5 c = rw (c .before .before .answer4 .given .1, c .give4 .ensures) (record { answers = record { report = refl; state = refl }; reply = refl })

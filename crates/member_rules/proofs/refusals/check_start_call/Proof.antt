@@ -6,8 +6,8 @@ use borrow.Author.Tests.{le-leb, lt-leb}
 use Rattle.laws.specs.First.{_gives_, first}
 use Rattle.ids.specs.Ranges.{out-of-range}
 use Rattle.numbers.specs.Numbers.{NOT-ABOVE-LED}
-use Rattle.member_rules.specs.Causes.{start-causes}
-use Rattle.member_rules.proofs.Checks.{denied, held}
+use Rattle.member_rules.specs.Causes.{start-call-causes}
+use Rattle.member_rules.proofs.Checks.{denied, affirmed}
 use borrow.Author.Needs.{needs}
 use Rattle.member_rules.proofs.refusals.check_start_call.Statement.{statement}
 use Rattle.member_rules.proofs.refusals.check_start_call.Tie as tie
@@ -16,7 +16,7 @@ in-range-requires : tie.Need-in-range-requires
 in-range-requires c κs = search needs
 
 returns : tie.Need-returns
-returns c = rw (held (out-of-range (c .before .before .args .r .0)) (c .before .in-range .ensures) (c .if1 .taken))
+returns c = rw (affirmed (out-of-range (c .before .before .args .r .0)) (c .before .in-range .ensures) (c .if1 .taken))
 
 is-leader-requires : tie.Need-is-leader-requires
 is-leader-requires c κs = search needs
@@ -25,18 +25,18 @@ returns-2 : tie.Need-returns-2
 returns-2 c =
     let a = c .before .before .before in
     rw (
-      held (out-of-range (a .before .before .args .r .0)) (a .before .in-range .ensures) (a .if1 .left),
+      affirmed (out-of-range (a .before .before .args .r .0)) (a .before .in-range .ensures) (a .if1 .left),
       denied (c .before .is-leader .ensures) (c .if2 .taken),
     )
 
 -- where the first two tests fail, the last cause is left
 left : (c : tie.Else2) →
     let args = c .before .before .before .before .before .args in
-    first (start-causes (args .m) (args .r)) ≡ first (leb (args .r .0) (args .m .durable .led .0) gives NOT-ABOVE-LED ∷ [])
+    first (start-call-causes (args .m) (args .r)) ≡ first (leb (args .r .0) (args .m .durable .led .0) gives NOT-ABOVE-LED ∷ [])
 left c =
     let a = c .before .before .before in
     rw (
-      held (out-of-range (a .before .before .args .r .0)) (a .before .in-range .ensures) (a .if1 .left),
+      affirmed (out-of-range (a .before .before .args .r .0)) (a .before .in-range .ensures) (a .if1 .left),
       denied (c .before .is-leader .ensures) (c .if2 .left),
     )
 
