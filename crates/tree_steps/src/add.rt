@@ -20,10 +20,12 @@ fn add_number(valued: bool, t: &[u64], l: Look, r: Round, v: u64, p: Round) -> u
     if l.row < l.used {
         return numbers::ROUND_PRESENT;
     }
-    if l.used <= l.parent {
+    let absent = l.used <= l.parent;
+    let not_below = r.0 <= p.0;
+    if absent {
         return numbers::PARENT_ABSENT;
     }
-    if r.0 <= p.0 {
+    if not_below {
         return numbers::PARENT_NOT_BELOW;
     }
     if tree_table::other_value(valued, v, p.0 as u64, tree_table::value_at(t, l.parent)) {

@@ -3,11 +3,11 @@
 use mathlib.Core.Path.{_≡_, refl, sym, _∙_}
 use mathlib.Core.Bool.{false, _&&_}
 use mathlib.Core.List.{List, [], _∷_}
-use Prim.Native.Nat.{ℕ}
+use Prim.Native.Nat.{ℕ, _<_}
 use lib.ListN.{length}
 use lib.Dec.{leb}
 use borrow.Author.Needs.{needs}
-use borrow.Author.Tests.{le-leb, lt-leb}
+use borrow.Author.Tests.{leb-true, leb-false}
 use denote.Ref.{now}
 use Rattle.ids.specs.Ranges.{out-of-range}
 use Rattle.numbers.specs.Numbers.{PARENT-NOT-BELOW, PARENT-VALUE, CROSSES-COMMITTED, TABLE-FULL, no-row-left}
@@ -52,11 +52,14 @@ begun c = c .before .before .before
 abbrev begun-2 : tie.Else2 → tie.Start
 begun-2 c = begun (c .before .before)
 
+abbrev tested : tie.After-struct-known4 → tie.Else2
+tested c = c .before .before .before
+
 abbrev begun-3 : tie.Else3 → tie.Start
-begun-3 c = begun-2 (c .before .before)
+begun-3 c = begun-2 (tested (c .before))
 
 abbrev begun-4 : tie.Else4 → tie.Start
-begun-4 c = begun-3 (c .before .before .before)
+begun-4 c = begun-3 (c .before)
 
 in-range-requires : tie.Need-in-range-requires
 in-range-requires c κs = search needs
@@ -78,24 +81,28 @@ returns-2 c =
 returns-3 : tie.Need-returns-3
 unfolding answer causes
 returns-3 c =
-    let b = c .before .before in
+    let b = tested (c .before) in
     let s = begun-2 b in
-    rw (ranged (b .before .before), round-absent (looked s) (b .if2 .left), parent-absent (looked s) (c .if3 .taken)) refl
+    rw (ranged (b .before .before), round-absent (looked s) (b .if2 .left), parent-absent (looked s) (leb-true _ _ (c .if3 .taken))) refl
+
+-- the parent is one of the rows
+parent-within : (c : tie.Else3) → let l = begun-3 c .args .l in l .parent < l .used
+parent-within c = leb-false _ _ (c .if3 .left)
 
 -- once the parent is known to be present, the answer is the first of the last four causes
 parent-there : (c : tie.Else3) → answered (begun-3 c) ≡ first (from-below (begun-3 c))
 unfolding answer causes
 parent-there c =
-    let b = c .before .before in
+    let b = tested (c .before) in
     let s = begun-2 b in
-    rw (ranged (b .before .before), round-absent (looked s) (b .if2 .left), parent-present (looked s) (c .if3 .left)) refl
+    rw (ranged (b .before .before), round-absent (looked s) (b .if2 .left), parent-present (looked s) (parent-within c)) refl
 
 returns-4 : tie.Need-returns-4
-returns-4 c = sym (parent-there (c .before .before .before) ∙ rw (le-leb _ _ (c .if4 .taken)) refl)
+returns-4 c = sym (parent-there (c .before) ∙ rw (c .if4 .taken) refl)
 
 -- once the parent is known to be lower, that of the last three
 lower : (c : tie.Else4) → answered (begun-4 c) ≡ first (from-value (begun-4 c))
-lower c = parent-there (c .before .before .before) ∙ rw (lt-leb _ _ (c .if4 .left)) refl
+lower c = parent-there (c .before) ∙ rw (c .if4 .left) refl
 
 cast-other-value : tie.Need-cast-other-value
 cast-other-value c = search needs
@@ -104,7 +111,7 @@ value-at-requires : tie.Need-value-at-requires
 value-at-requires c κs =
     let d = c .before in
     let s = begun-4 d in
-    parent-fits (looked s) (d .before .before .before .if3 .left)
+    parent-fits (looked s) (parent-within (d .before))
 
 other-value-requires : tie.Need-other-value-requires
 other-value-requires c κs = search needs
@@ -119,7 +126,7 @@ valued-by : (c : tie.After-other-value) →
 valued-by c =
     let d = compared c in
     let s = begun-4 d in
-    rw (parent-node (looked s) (d .before .before .before .if3 .left), ← (c .before .value-at .ensures)) (c .other-value .ensures)
+    rw (parent-node (looked s) (parent-within (d .before)), ← (c .before .value-at .ensures)) (c .other-value .ensures)
 
 returns-5 : tie.Need-returns-5
 returns-5 c = let o = c .before in sym (lower (compared o) ∙ rw (sym (valued-by o) ∙ c .if5 .taken) refl)
