@@ -15,11 +15,10 @@ use Rattle.tree_theory.specs.Machine.{Call, add, commit, step}
 use Rattle.tree_theory.specs.Table.{rows, table}
 use Rattle.message.specs.declared.Message.{Message}
 use Rattle.member_record.specs.declared.MemberState.{MemberState}
-use Rattle.member.specs.declared.Answer.{Answer}
-use Rattle.member.specs.declared.Answer.the-variants.{Sent, Proposed}
-use Rattle.member.specs.declared.Step.{Step}
-use Rattle.member.specs.Answers.{answer-outcome}
-use Rattle.member.specs.Answers.{outcome as step-outcome}
+use Rattle.member.specs.declared.StepAnswer.{StepAnswer}
+use Rattle.member.specs.declared.StepAnswer.the-variants.{Sent, Proposed}
+use Rattle.member.specs.declared.MemberStep.{MemberStep}
+use Rattle.member.specs.Answers.{answer-outcome, step-outcome}
 use Rattle.member.specs.Kept.{Kept}
 use Rattle.member.specs.Table.{Outcome, refused, sends, silent, nothing, proposal, decision}
 use Rattle.member.proofs.Keeping.{step-kept}
@@ -47,7 +46,7 @@ abbrev pub deciding : MemberState → ℕ → ℕ → Outcome
 deciding m r x = record { number = 0; state = m; sent = []; named = decision r x }
 
 -- the step taken, by its answer
-pub by-answer : {z : Sizes} {o : Office} {e : Event} {i : ℕ} (s : Step) {b : Answer} → s .answer ≡ b →
+pub by-answer : {z : Sizes} {o : Office} {e : Event} {i : ℕ} (s : MemberStep) {b : StepAnswer} → s .answer ≡ b →
     ModelStep z o e i (step-outcome s) → ModelStep z o e i (answer-outcome (s .state) b)
 by-answer {z} {o} {e} {i} s q T = subst (λ b. ModelStep z o e i (answer-outcome (s .state) b)) q T
 
@@ -64,10 +63,10 @@ step-keeps F =
     rw same (step-kept (member-at z o k) (event-of o (F .e)) (was .seven) (was .is-sound) (event-fits z o (K .ranged) (F .e) (T .there)))
 
 -- the message of an answer that sends one
-pub answers-sent : (m : MemberState) {a : Answer} {g : Message} → a ≡ Sent g → g ∈ answer-outcome m a .sent
+pub answers-sent : (m : MemberState) {a : StepAnswer} {g : Message} → a ≡ Sent g → g ∈ answer-outcome m a .sent
 answers-sent m {a} {g} q = subst (λ b. g ∈ answer-outcome m b .sent) (sym q) (here refl)
 
-pub answers-proposed : (m : MemberState) {a : Answer} {g : Message} {r : Round} {x : ℕ} {b : Round} → a ≡ Proposed g r x b → g ∈ answer-outcome m a .sent
+pub answers-proposed : (m : MemberState) {a : StepAnswer} {g : Message} {r : Round} {x : ℕ} {b : Round} → a ≡ Proposed g r x b → g ∈ answer-outcome m a .sent
 answers-proposed m {a} {g} q = subst (λ d. g ∈ answer-outcome m d .sent) (sym q) (here refl)
 
 -- what the model's step names

@@ -18,7 +18,7 @@ use Rattle.tree_theory.proofs.Trees.{grown-fit, grown-stated, sized-rows}
 use Rattle.tree_theory.proofs.Steps.{written-tree}
 use Rattle.member_record.specs.declared.MemberState.{MemberState}
 use Rattle.member_record.specs.Record.{allowed}
-use Rattle.member_record.specs.Record.{fresh as fresh-member}
+use Rattle.member_record.specs.Record.{fresh-record as fresh-member}
 use Rattle.model.specs.Model.{member-at, member-number}
 use Rattle.model.specs.Demand.{calls}
 use Rattle.model.specs.Counts.{tree, committed-nodes}

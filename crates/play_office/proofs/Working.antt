@@ -73,8 +73,8 @@ abbrev pub to-settle : {t : Tally} {m : MemberState} {e : Event} {M : Memory} {u
     ModelStep (E .before .z) (E .before .o) e (place-of (at-member e)) u → OutcomeBefore t m u M
 to-settle {e = e} E T = record { before = E .before; i = place-of (at-member e); record-at = E .record-at; e = e; step = T }
 
-pub step-start : {t : Tally} {m : MemberState} {k r x : ℕ} {M : Memory} {s : Step} (E : EventBefore t m (start k r x) M) → k < t .n →
-    Stepped m (starts (round r) x) s → ModelStep (E .before .z) (E .before .o) (start k r x) (place-of k) (step-outcome s)
+pub step-start : {t : Tally} {m : MemberState} {k r x : ℕ} {M : Memory} {s : MemberStep} (E : EventBefore t m (start k r x) M) → k < t .n →
+    StepOf m (starts (round-number r) x) s → ModelStep (E .before .z) (E .before .o) (start k r x) (place-of k) (step-outcome s)
 step-start E h P = step-at E h refl refl P
 
 module _ {t : Tally} {m : MemberState} {row k : ℕ} {M : Memory} (E : EventBefore t m (deliver row k) M) where
@@ -103,6 +103,6 @@ module _ {t : Tally} {m : MemberState} {row k : ℕ} {M : Memory} (E : EventBefo
     pub row-ranged : {g : Message} → g ≡ fetched (M .store) row → in-range g ≡ true
     row-ranged e = rw (e ∙ row-reads) (E .before .sound .ranged (message-at (E .before .o) row) (message-in (E .before .o) row k there))
 
-    pub step-deliver : {g : Message} {s : MemberStep} → k < t .n → g ≡ fetched (M .store) row → Stepped m (delivers g) s →
+    pub step-deliver : {g : Message} {s : MemberStep} → k < t .n → g ≡ fetched (M .store) row → StepOf m (delivers g) s →
         ModelStep (E .before .z) (E .before .o) (deliver row k) (place-of k) (step-outcome s)
     step-deliver a e P = step-at E a there (ap delivers (e ∙ row-reads)) P

@@ -71,10 +71,8 @@ returns-2 c =
     let row = asked read .record-number in
     let args = entry (asked read) .args in
     let fault = arm .read .given in
-    rw (
-      unread (args .m) (now (args .bytes)) (now (args .reply)) (row .result) (row .ensures) (read .before .if1 .left) (fault .0 .0)
-          (sym (read .read-message .ensures .answer) ∙ fault .1),
-    )
+    rw (unread (args .m) (now (args .bytes)) (now (args .reply)) (row .result) (row .ensures) (read .before .if1 .left) (fault .0 .0)
+    (sym (read .read-message .ensures .answer) ∙ fault .1))
     (record { answers = c .refuse2 .ensures; reply = refl })
 
 same-length : tie.Need-same-length
