@@ -22,10 +22,14 @@ refused-result-requires : tie.Need-refused-result-requires
 refused-result-requires c κs = search needs
 
 returns : tie.Need-returns
-returns c = c .message-result .ensures ∙ ap read-result (sym (c .before .before .m .given .1) ∙ c .before .before .before .before .read-message .ensures .answer)
+returns c =
+    let arm = c .before .before in
+    c .message-result .ensures ∙ ap read-result (sym (arm .m .given .1) ∙ arm .before .before .read-message .ensures .answer)
 
 returns-2 : tie.Need-returns-2
-returns-2 c = c .refused-result .ensures ∙ ap read-result (sym (c .before .before .m2 .given .1) ∙ c .before .before .before .before .read-message .ensures .answer)
+returns-2 c =
+    let arm = c .before .before in
+    c .refused-result .ensures ∙ ap read-result (sym (arm .m2 .given .1) ∙ arm .before .before .read-message .ensures .answer)
 
 pub kalebasin-read-message-spec : {M : Type 1} → statement M
 kalebasin-read-message-spec =

@@ -57,7 +57,8 @@ enum-known-a-3 c = search needs
 propose-requires : tie.Need-propose-requires
 propose-requires c κs =
     let F = entry (proposed-arm c .before .before) .pre .0 in
-    (counts-fit (F .before), step-keeps F .sent-in-range _ (answers-proposed _ (proposed-arm c .a3 .given .1)), F .before .sizes .table-length, is-a-tree (F .before))
+    let ranged = step-keeps F .sent-in-range _ (answers-proposed _ (proposed-arm c .a3 .given .1)) in
+    (counts-fit (F .before), ranged, F .before .sizes .table-length, is-a-tree (F .before))
 
 enum-known-a-4 : tie.Need-enum-known-a-4
 enum-known-a-4 c = search needs
