@@ -67,5 +67,4 @@ Holds (c ∷ cs) = Meets c × Holds cs
 pub rig : Holds cases
 unfolding cases answers after step answer causes change find path-in struck new-node commit-node reading size decoded encoded word word-at
 rig =
-    ((refl, refl), ((refl, refl), ((refl, refl), ((refl, refl), ((refl, refl), ((refl, refl), ((refl, refl),
-    ((refl, refl), ((refl, refl), ((refl, refl), ((refl, refl), (refl, (refl, tt)))))))))))))
+    ((refl, refl), ((refl, refl), ((refl, refl), ((refl, refl), ((refl, refl), ((refl, refl), ((refl, refl), ((refl, refl), ((refl, refl), ((refl, refl), ((refl, refl), (refl, (refl, tt)))))))))))))
