@@ -10,7 +10,8 @@ use borrow.Author.Tests.{not-false, eq-eqb}
 use Rattle.laws.specs.Tests.{tests, by-test, clash, and-left, or-left, or-right}
 use Rattle.laws.specs.Lists.{_∈_, any, any-none, none-any, cut}
 use Rattle.laws.specs.First.{passed}
-use Rattle.tree_theory.specs.Machine.{Call, add, commit, Node, ADDED, COMMITTED, has-round, present, find, above, strikes, struck, new-node, commit-node, causes, answer, change, step, after, answers}
+use Rattle.tree_theory.specs.Machine.{Call, add, commit, Node, ADDED, COMMITTED, has-round, present, find, above, strikes, struck, new-node}
+use Rattle.tree_theory.specs.Machine.{commit-node, causes, answer, change, step, after, answers}
 use Rattle.tree_theory.proofs.Grown.{Grown, placed-cut}
 use Rattle.tree_theory.proofs.History.{step-ok}
 use Rattle.tree_theory.proofs.Steps.{step-grown}

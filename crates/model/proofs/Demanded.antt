@@ -19,9 +19,9 @@ use Rattle.member_record.specs.Record.{allowed}
 use Rattle.member.specs.Table.{decision}
 use Rattle.model.specs.Model.{Sizes, Event, first-office, offered}
 use Rattle.model.specs.Demand.{calls, ended, Demand}
-use Rattle.model.specs.Counts.{tree}
+use Rattle.model.specs.Counts.{made-tree}
 use Rattle.model.proofs.Made.{adds-in-calls, proposal-call, decision-call}
-use Rattle.model.proofs.Invariant.{Added, MadeSo}
+use Rattle.model.proofs.Invariant.{ProposalMade, MadeSo}
 use Rattle.model.proofs.Events.{holds}
 
 module _ (z : Sizes) (es : List Event) (ok : allowed (z .n) ≡ true) where
@@ -54,14 +54,14 @@ module _ (z : Sizes) (es : List Event) (ok : allowed (z .n) ≡ true) where
     decided-node {κ} : {C : Type κ} (r x : ℕ) → decision r x ∈ ended z es .made →
         ((n : Node) → n ∈ after true (z .table) fresh (calls (ended z es .made)) → n .status ≡ COMMITTED → 0 < n .round → n .value ≡ x → C) → C
     decided-node r x i f =
-        let a : Added (ended z es .made) r x = made-holds .decided-added r x i in
+        let a : ProposalMade (ended z es .made) r x = made-holds .decided-added r x i in
         let h : List Call = calls (ended z es .made) in
         let pos : 0 < r = round-positive true (z .table) h (tree-told .story) (proposal-call (ended z es .made) (a .is-made)) in
         f (made h r x (a .parent)) (rw (tree-told .nodes) (there (in-added h h (proposal-call (ended z es .made) (a .is-made)))))
         (eqb-true (history h r) COMMITTED (history-committed h r pos ∙ commits-intro h (decision-call (ended z es .made) i))) pos refl
 
     -- given that the table left is the tree of what the model made
-    pub demand : (left : List ℕ) → left ≡ table (length left) (tree z (ended z es)) → Demand z es left
+    pub demand : (left : List ℕ) → left ≡ table (length left) (made-tree z (ended z es)) → Demand z es left
     demand left t = record {
       ok = all-ok;
       table-is = t;

@@ -21,11 +21,12 @@ use Rattle.member_record.specs.Record.{allowed, fresh-record, round-number}
 use Rattle.member_rules.specs.Causes.{START-causes, start-call-causes, count-causes, PROPOSE-causes, awaits}
 use Rattle.member_rules.specs.Changes.{adopted, adopting}
 use Rattle.member.specs.Table.{count-row, delivers, step-causes, step-row}
-use Rattle.model.specs.Model.{Sizes, Event, start, deliver, Office, member-number, first-office, member-at, message-at, at-member, outcome, proposes-one}
-use Rattle.model.specs.Model.{proposals, answer, next, after, offer-of, offers-at, offered}
+use Rattle.model.specs.Model.{Sizes, Event, start, deliver, Office, member-number, first-office, member-at, message-at, at-member}
+use Rattle.model.specs.Model.{event-outcome, proposes-one}
+use Rattle.model.specs.Model.{proposals, event-answer, next, office-after, offer-of, offers-at, offered}
 use Rattle.model.specs.Demand.{calls, ended}
-use Rattle.model.proofs.Kept.{KeptMember, KeptOffice, Accepted, accepted, message-in, accepted-row, sent-by, next-kept, first-member, first-kept}
-use Rattle.model.proofs.Invariant.{join-quorum, vote-quorum, JoinOf, carried, Joined, Stands, Invariant}
+use Rattle.model.proofs.Kept.{KeptMember, KeptOffice, Accepted, was-accepted, message-in, accepted-row, sent-by, next-kept, first-member, first-kept}
+use Rattle.model.proofs.Invariant.{join-quorum, vote-quorum, JoinOf, carried, Joined, MemberHolds, Invariant}
 use Rattle.model.proofs.Grows.{New, keep}
 use Rattle.model.proofs.Meeting.{allowed-meets}
 use Rattle.model.proofs.Counts.{Counts, counts-of, counts-adopted}
@@ -33,7 +34,7 @@ use Rattle.model.proofs.Rows.{start-new, START-new, PROPOSE-new, JOIN-n
 
 -- the events of one member, whose record is m
 module _ (z : Sizes) (o : Office) (offers : List ℕ) (I : Invariant z o offers) (meets : z .n < join-quorum (z .n) + vote-quorum (z .n))
-    (t : ℕ) (m : MemberState) (M : KeptMember z t m) (S : Stands (z .n) (o .sent) (o .made) offers t m) where
+    (t : ℕ) (m : MemberState) (M : KeptMember z t m) (S : MemberHolds (z .n) (o .sent) (o .made) offers t m) where
   awaited-round : (phase : ℕ) (r : Round) → not (awaits m phase r) ≡ false → r ≡ m .durable .led
   awaited-round phase r h =
       let e : eqb (r .0) (m .durable .led .0) ≡ true =
@@ -53,7 +54,7 @@ module _ (z : Sizes) (o : Office) (offers : List ℕ) (I : Invariant z o offers)
 
   -- the member with the vote of a JOIN taken over
   adopted-stands : (r : Round) (s : Member) (q : Round) (w : ℕ) → JoinVoted r s q w ∈ o .sent → m .lead .phase ≡ COLLECTING → m .lead .source .0 < q .0 →
-      Stands (z .n) (o .sent) (o .made) offers t (adopted m q w)
+      MemberHolds (z .n) (o .sent) (o .made) offers t (adopted m q w)
   adopted-stands r s q w i now up = record {
     spoken = S .spoken;
     leading = record {
@@ -72,7 +73,7 @@ module _ (z : Sizes) (o : Office) (offers : List ℕ) (I : Invariant z o offers)
 
   -- a JOIN of the round awaited, k being m or m with the vote taken over
   join-new : (g : Message) (r : Round) (s : Member) (k : MemberState) → g ∈ o .sent → JoinOf (k .durable .led .0) (s .0) g → carried g ≤ k .lead .source .0 →
-      leb (m .who .n) (s .0) ≡ false → k .lead .phase ≡ COLLECTING → r ≡ k .durable .led → Counts z t k → Stands (z .n) (o .sent) (o .made) offers t k →
+      leb (m .who .n) (s .0) ≡ false → k .lead .phase ≡ COLLECTING → r ≡ k .durable .led → Counts z t k → MemberHolds (z .n) (o .sent) (o .made) offers t k →
       (proposes-one (count-row COLLECTING k r s .named) ≡ true → suc (proposals (o .made)) < z .table) → New z o offers t (count-row COLLECTING k r s) []
   join-new g r s k i join carries low now e C St =
       rw e (JOIN-new z o offers I meets t k C St s (omega (tests, M .size)) now (record { message = g; is-sent = i; is-join = join; at-most = carries }))
@@ -108,7 +109,7 @@ module _ (z : Sizes) (o : Office) (offers : List ℕ) (I : Invariant z o offers)
 
 module _ (z : Sizes) (ok : allowed (z .n) ≡ true) where
   module _ (o : Office) (offers : List ℕ) (K : KeptOffice z o) (I : Invariant z o offers) where
-    event-new : (e : Event) → Accepted z o e → New z o offers (at-member e) (outcome z o e) (offer-of e)
+    event-new : (e : Event) → Accepted z o e → New z o offers (at-member e) (event-outcome z o e) (offer-of e)
     unfolding step-causes step-row
     event-new (start k r x) a =
         let (c, same) = accepted-row z o K (start k r x) a in
@@ -125,14 +126,14 @@ module _ (z : Sizes) (ok : allowed (z .n) ≡ true) where
     pub next-holds : (e : Event) → Invariant z (next z o e) (offers ++ offers-at z o e)
     unfolding next
     next-holds e =
-        by-test (eqb (answer z o e) 0)
-        (λ t. let a : Accepted z o e = accepted z o e (omega tests) in
-        rw t (keep z o offers (at-member e) (outcome z o e) (offer-of e) K I (a .member) (sent-by z o K e a) (event-new e a)))
+        by-test (eqb (event-answer z o e) 0)
+        (λ t. let a : Accepted z o e = was-accepted z o e (omega tests) in
+        rw t (keep z o offers (at-member e) (event-outcome z o e) (offer-of e) K I (a .member) (sent-by z o K e a) (event-new e a)))
         (λ t. rw t (subst (Invariant z o) (sym (append-nil offers)) I))
 
   pub all-hold : (o : Office) (offers : List ℕ) (es : List Event) → KeptOffice z o → Invariant z o offers
-      → Invariant z (after z o es) (offers ++ offered z o es)
-  unfolding after offered
+      → Invariant z (office-after z o es) (offers ++ offered z o es)
+  unfolding office-after offered
   all-hold o offers [] K I = rw (append-nil offers) I
   all-hold o offers (e ∷ es) K I =
       rw (← append-assoc offers (offers-at z o e) (offered z (next z o e) es))
@@ -155,7 +156,7 @@ module _ (z : Sizes) (ok : allowed (z .n) ≡ true) where
     };
   }
     where
-      fresh-stands : (t : ℕ) → Stands (z .n) [] [] [] t (fresh-record (member-number t) (z .n))
+      fresh-stands : (t : ℕ) → MemberHolds (z .n) [] [] [] t (fresh-record (member-number t) (z .n))
       fresh-stands t = record {
         spoken = record { reached = λ g i. elim i [ ]; past = λ g r c i. elim i [ ] };
         leading = record {

@@ -8,54 +8,55 @@ use lib.ListN.{length}
 use lib.Dec.{eqb}
 use borrow.Author.Tests.{eq-eqb}
 use Rattle.laws.specs.Tests.{by-test}
-use Rattle.model.specs.Model.{Sizes, Event, Office, answer, taken, next, after, answers, offers-at, offered}
+use Rattle.model.specs.Model.{Sizes, Event, Office, event-answer, taken, next, office-after, event-answers, offers-at, offered}
 use Rattle.model.specs.Counts.{zeros, accepted-events}
 
 module _ (z : Sizes) where
-  pub next-taken : (o : Office) (e : Event) → answer z o e ≡ 0 → next z o e ≡ taken z o e
+  pub next-taken : (o : Office) (e : Event) → event-answer z o e ≡ 0 → next z o e ≡ taken z o e
   unfolding next
-  next-taken o e h = rw (eq-eqb (answer z o e) 0 h) refl
+  next-taken o e h = rw (eq-eqb (event-answer z o e) 0 h) refl
 
-  pub next-refused : (o : Office) (e : Event) → eqb (answer z o e) 0 ≡ false → next z o e ≡ o
+  pub next-refused : (o : Office) (e : Event) → eqb (event-answer z o e) 0 ≡ false → next z o e ≡ o
   unfolding next
   next-refused o e h = rw h refl
 
-  pub after-append : (o : Office) (es fs : List Event) → after z o (es ++ fs) ≡ after z (after z o es) fs
-  unfolding after
+  pub after-append : (o : Office) (es fs : List Event) → office-after z o (es ++ fs) ≡ office-after z (office-after z o es) fs
+  unfolding office-after
   after-append o [] fs = refl
   after-append o (e ∷ es) fs = after-append (next z o e) es fs
 
-  pub after-last : (o : Office) (es : List Event) (e : Event) → after z o (es ++ e ∷ []) ≡ next z (after z o es) e
-  unfolding after
+  pub after-last : (o : Office) (es : List Event) (e : Event) → office-after z o (es ++ e ∷ []) ≡ next z (office-after z o es) e
+  unfolding office-after
   after-last o es e = after-append o es (e ∷ [])
 
-  pub answers-append : (o : Office) (es fs : List Event) → answers z o (es ++ fs) ≡ answers z o es ++ answers z (after z o es) fs
-  unfolding answers after
+  pub answers-append : (o : Office) (es fs : List Event) → event-answers z o (es ++ fs) ≡ event-answers z o es ++ event-answers z (office-after z o es) fs
+  unfolding event-answers office-after
   answers-append o [] fs = refl
-  answers-append o (e ∷ es) fs = ap (λ l. answer z o e ∷ l) (answers-append (next z o e) es fs)
+  answers-append o (e ∷ es) fs = ap (λ l. event-answer z o e ∷ l) (answers-append (next z o e) es fs)
 
-  pub answers-last : (o : Office) (es : List Event) (e : Event) → answers z o (es ++ e ∷ []) ≡ answers z o es ++ answer z (after z o es) e ∷ []
-  unfolding answers
+  pub answers-last : (o : Office) (es : List Event) (e : Event) →
+      event-answers z o (es ++ e ∷ []) ≡ event-answers z o es ++ event-answer z (office-after z o es) e ∷ []
+  unfolding event-answers
   answers-last o es e = answers-append o es (e ∷ [])
 
-  pub offered-append : (o : Office) (es fs : List Event) → offered z o (es ++ fs) ≡ offered z o es ++ offered z (after z o es) fs
-  unfolding offered after
+  pub offered-append : (o : Office) (es fs : List Event) → offered z o (es ++ fs) ≡ offered z o es ++ offered z (office-after z o es) fs
+  unfolding offered office-after
   offered-append o [] fs = refl
   offered-append o (e ∷ es) fs =
       ap (λ l. offers-at z o e ++ l) (offered-append (next z o e) es fs) ∙
-      sym (append-assoc (offers-at z o e) (offered z (next z o e) es) (offered z (after z (next z o e) es) fs))
+      sym (append-assoc (offers-at z o e) (offered z (next z o e) es) (offered z (office-after z (next z o e) es) fs))
 
   -- one answer for each event
-  pub length-answers : (o : Office) (es : List Event) → length (answers z o es) ≡ length es
-  unfolding answers
+  pub length-answers : (o : Office) (es : List Event) → length (event-answers z o es) ≡ length es
+  unfolding event-answers
   length-answers o [] = refl
   length-answers o (e ∷ es) = ap suc (length-answers (next z o e) es)
 
   -- accepted events are the zeros among the answers
-  pub accepted-zeros : (o : Office) (es : List Event) → accepted-events z o es ≡ zeros (answers z o es)
-  unfolding accepted-events answers zeros
+  pub accepted-zeros : (o : Office) (es : List Event) → accepted-events z o es ≡ zeros (event-answers z o es)
+  unfolding accepted-events event-answers zeros
   accepted-zeros o [] = refl
-  accepted-zeros o (e ∷ es) = ap (λ k. cond (eqb (answer z o e) 0) (suc k) k) (accepted-zeros (next z o e) es)
+  accepted-zeros o (e ∷ es) = ap (λ k. cond (eqb (event-answer z o e) 0) (suc k) k) (accepted-zeros (next z o e) es)
 
 pub zeros-append : (l k : List ℕ) → zeros (l ++ k) ≡ zeros l + zeros k
 unfolding zeros

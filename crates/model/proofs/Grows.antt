@@ -17,14 +17,14 @@ use Rattle.member.specs.Table.{Outcome, Named, nothing, proposal, decision}
 use Rattle.model.specs.Model.{Sizes, Office, member-number, member-at, made-by}
 use Rattle.model.proofs.Senders.{sender}
 use Rattle.model.proofs.Kept.{KeptOffice, own-round}
-use Rattle.model.proofs.Invariant.{JoinOf, Joined, Added, Reached, Spoken, Leading, Stands, FromLeader, Backed, MadeSo, Invariant}
+use Rattle.model.proofs.Invariant.{JoinOf, Joined, ProposalMade, Reached, Spoken, Leading, MemberHolds, FromLeader, Backed, MadeSo, Invariant}
 
 abbrev pub round-named : Named → ℕ
 round-named nothing = 0
 round-named (proposal r x b) = r
 round-named (decision r x) = r
 
-pub added-grows : {made : List Named} {r x : ℕ} (ns : List Named) → Added made r x → Added (made ++ ns) r x
+pub added-grows : {made : List Named} {r x : ℕ} (ns : List Named) → ProposalMade made r x → ProposalMade (made ++ ns) r x
 added-grows ns a = record { parent = a .parent; is-made = Memᴰ·append-left ns (a .is-made) }
 
 pub joined-grows : {sent : List Message} {r b s : ℕ} (gs : List Message) → Joined sent r b s → Joined (sent ++ gs) r b s
@@ -60,7 +60,8 @@ join-reached r t j v l (Propose r₁ s x) o h = absurd o
 join-reached r t j v l (Vote r₁ s) o h = absurd o
 
 -- a member other than the sender said nothing new
-pub spoken-other : {sent : List Message} {t j v l : ℕ} (gs : List Message) → ((g : Message) → g ∈ gs → sender g ≢ t) → Spoken sent t j v l → Spoken (sent ++ gs) t j v l
+pub spoken-other : {sent : List Message} {t j v l : ℕ} (gs : List Message) → ((g : Message) → g ∈ gs → sender g ≢ t) →
+    Spoken sent t j v l → Spoken (sent ++ gs) t j v l
 spoken-other {sent} {t} gs f S = record {
   reached = λ g i e. ⊎-elim (λ k. S .reached g k e) (λ k. absurd (f g k e)) (List·Memᴰ·append-cases sent i);
   past = λ g r c i o w b. ⊎-elim
@@ -98,7 +99,7 @@ made-calm {made = made} gs xs M = rw (append-nil made) (record {
 
 -- what is asked of a step of member t with outcome u, at which xs was offered
 pub record New (z : Sizes) (o : Office) (offers : List ℕ) (t : ℕ) (u : Outcome) (xs : List ℕ) : Type 0 where
-  pub stands : Stands (z .n) (o .sent ++ u .sent) (o .made ++ made-by (u .named)) (offers ++ xs) t (u .state)
+  pub stands : MemberHolds (z .n) (o .sent ++ u .sent) (o .made ++ made-by (u .named)) (offers ++ xs) t (u .state)
   pub leaders : (g : Message) → g ∈ u .sent → FromLeader (z .n) g
   pub backed : (g : Message) → g ∈ u .sent → Backed (o .made ++ made-by (u .named)) g
   -- what is made is of a round that t leads
@@ -111,18 +112,20 @@ becomes o t u = record { members = set (o .members) t (u .state); sent = o .sent
 pub keep : (z : Sizes) (o : Office) (offers : List ℕ) (t : ℕ) (u : Outcome) (xs : List ℕ) → KeptOffice z o → Invariant z o offers → t < z .n →
     ((g : Message) → g ∈ u .sent → sender g ≡ t) → New z o offers t u xs → Invariant z (becomes o t u) (offers ++ xs)
 keep z o offers t u xs K I low mine N = record {
-  members = λ s l. set-each (Stands (z .n) (o .sent ++ u .sent) (o .made ++ made-by (u .named)) (offers ++ xs)) (λ k. fresh-record (member-number k) (z .n))
+  members = λ s l. set-each (MemberHolds (z .n) (o .sent ++ u .sent) (o .made ++ made-by (u .named)) (offers ++ xs))
+      (λ k. fresh-record (member-number k) (z .n))
       (o .members) t (u .state) (omega (arith, K .count)) (N .stands) (λ k b d. other k (omega (arith, K .count)) d) s (omega (arith, K .count));
   leaders = λ g i. ⊎-elim (I .leaders g) (N .leaders g) (List·Memᴰ·append-cases (o .sent) i);
   backed = λ g i. ⊎-elim (λ k. backed-grows (o .made) (made-by (u .named)) g (I .backed g k)) (N .backed g) (List·Memᴰ·append-cases (o .sent) i);
   made-so = N .made-so;
 }
   where
-    other : (k : ℕ) → k < z .n → k ≢ t → Stands (z .n) (o .sent ++ u .sent) (o .made ++ made-by (u .named)) (offers ++ xs) k (member-at z o k)
+    other : (k : ℕ) → k < z .n → k ≢ t → MemberHolds (z .n) (o .sent ++ u .sent) (o .made ++ made-by (u .named)) (offers ++ xs) k (member-at z o k)
     other k l d =
-        let S : Stands (z .n) (o .sent) (o .made) offers k (member-at z o k) = I .members k l in
+        let S : MemberHolds (z .n) (o .sent) (o .made) offers k (member-at z o k) = I .members k l in
         record {
           spoken = spoken-other (u .sent) (λ g i e. d (sym e ∙ mine g i)) (S .spoken);
-          leading = leading-grows (u .sent) (made-by (u .named)) xs (λ a i e. d (sym e ∙ N .names a i)) (own-round z k (member-at z o k) (K .each k l)) (S .leading);
+          leading = leading-grows (u .sent) (made-by (u .named)) xs (λ a i e. d (sym e ∙ N .names a i))
+              (own-round z k (member-at z o k) (K .each k l)) (S .leading);
           vote-added = λ h. added-grows (made-by (u .named)) (S .vote-added h);
         }

@@ -57,7 +57,7 @@ abbrev pub Voted : List Message → ℕ → ℕ → Type 0
 Voted sent r s = Vote (round-number r) (member-number s) ∈ sent
 
 -- a proposal of round r with value x was made
-pub record Added (made : List Named) (r x : ℕ) : Type 0 where
+pub record ProposalMade (made : List Named) (r x : ℕ) : Type 0 where
   pub parent : ℕ
   pub is-made : proposal r x parent ∈ made
 
@@ -86,18 +86,18 @@ pub record Leading (n : ℕ) (sent : List Message) (made : List Named) (offers :
   pub undecided : phase ≡ PROPOSED → (x : ℕ) → decision led x ∈ made → ⊥
   -- while it collects, each flagged member sent a JOIN of L whose vote is at most B, and B, if above 0, was proposed with X
   pub joins : phase ≡ COLLECTING → (s : ℕ) → flag flags s ≡ true → Joined sent led source s
-  pub source-added : phase ≡ COLLECTING → 0 < source → Added made source value
+  pub source-added : phase ≡ COLLECTING → 0 < source → ProposalMade made source value
   -- while it has only proposed, each flagged member sent a VOTE of L
   pub votes : phase ≡ PROPOSED → (s : ℕ) → flag flags s ≡ true → Voted sent led s
   -- X was offered
   pub value-offered : COLLECTING ≤ phase → phase ≤ DECIDED → value ∈ offers
 
 -- what holds of member t, whose record is m
-pub record Stands (n : ℕ) (sent : List Message) (made : List Named) (offers : List ℕ) (t : ℕ) (m : MemberState) : Type 0 where
+pub record MemberHolds (n : ℕ) (sent : List Message) (made : List Named) (offers : List ℕ) (t : ℕ) (m : MemberState) : Type 0 where
   pub spoken : Spoken sent t (m .durable .joined .0) (m .durable .voted .0) (m .durable .led .0)
   pub leading : Leading n sent made offers t (m .durable .led .0) (m .lead .phase) (m .lead .value) (m .lead .source .0) (m .lead .flags)
   -- V, if above 0, was proposed with W
-  pub vote-added : 0 < m .durable .voted .0 → Added made (m .durable .voted .0) (m .durable .vote)
+  pub vote-added : 0 < m .durable .voted .0 → ProposalMade made (m .durable .voted .0) (m .durable .vote)
 
 -- a START or PROPOSE is sent by the leader of its round
 abbrev pub FromLeader : ℕ → Message → Type 0
@@ -111,8 +111,8 @@ FromLeader n (Vote r s) = Unit {0}
 abbrev pub Backed : List Named → Message → Type 0
 Backed made (Start r s) = Unit {0}
 Backed made (Join r s) = Unit {0}
-Backed made (JoinVoted r s q w) = Added made (q .0) w
-Backed made (Propose r s v) = Added made (r .0) v
+Backed made (JoinVoted r s q w) = ProposalMade made (q .0) w
+Backed made (Propose r s v) = ProposalMade made (r .0) v
 Backed made (Vote r s) = Unit {0}
 
 -- what holds of the proposals and decisions made
@@ -124,14 +124,14 @@ pub record MadeSo (z : Sizes) (sent : List Message) (made : List Named) (offers 
   pub join-met : (r x b : ℕ) → proposal r x b ∈ made → Quorum (z .n) (join-quorum (z .n)) (Joined sent r b)
   -- a vote quorum sent VOTEs of the round decided, and the value decided is the one proposed
   pub vote-met : (r x : ℕ) → decision r x ∈ made → Quorum (z .n) (vote-quorum (z .n)) (Voted sent r)
-  pub decided-added : (r x : ℕ) → decision r x ∈ made → Added made r x
+  pub decided-added : (r x : ℕ) → decision r x ∈ made → ProposalMade made r x
   -- each value proposed was offered
   pub offered-so : (r x b : ℕ) → proposal r x b ∈ made → x ∈ offers
   -- there is a row for each proposal
   pub room : 0 < z .table → proposals made < z .table
 
 pub record Invariant (z : Sizes) (o : Office) (offers : List ℕ) : Type 0 where
-  pub members : (t : ℕ) → t < z .n → Stands (z .n) (o .sent) (o .made) offers t (member-at z o t)
+  pub members : (t : ℕ) → t < z .n → MemberHolds (z .n) (o .sent) (o .made) offers t (member-at z o t)
   pub leaders : (g : Message) → g ∈ o .sent → FromLeader (z .n) g
   pub backed : (g : Message) → g ∈ o .sent → Backed (o .made) g
   pub made-so : MadeSo z (o .sent) (o .made) offers

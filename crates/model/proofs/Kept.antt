@@ -23,7 +23,9 @@ use Rattle.member.specs.Table.{sound-step, fitting, step-causes, step-row}
 use Rattle.member.specs.Kept.{Kept}
 use Rattle.member_record.proofs.Sound.{SoundParts, parts, vote-parts, leading-parts, SoundLeading, fresh-sound}
 use Rattle.member.proofs.Keeping.{step-kept, step-of-sound}
-use Rattle.model.specs.Model.{Sizes, Event, start, deliver, Office, member-number, fresh-members, first-office, member-at, message-at, at-member, unsent, event-of, outcome, absent, no-store-row, no-table-row, sends-one, proposes-one, proposals, answer, taken, next, after}
+use Rattle.model.specs.Model.{Sizes, Event, start, deliver, Office, member-number, fresh-members, first-office, member-at, message-at}
+use Rattle.model.specs.Model.{at-member, unsent, event-of, event-outcome, absent, no-store-row, no-table-row, sends-one, proposes-one}
+use Rattle.model.specs.Model.{proposals, event-answer, taken, next, office-after}
 use Rattle.model.specs.Demand.{ended}
 use Rattle.model.proofs.Senders.{sender, Own, own-step}
 
@@ -73,16 +75,16 @@ vote-lower z t m M = omega (tests, vote-parts (m .durable) (parts m (M .is-sound
 pub record Accepted (z : Sizes) (o : Office) (e : Event) : Type 0 where
   pub member : at-member e < z .n
   pub there : unsent o e ≡ false
-  pub ok : outcome z o e .number ≡ 0
-  pub stored : sends-one (outcome z o e .sent) ≡ true → length (o .sent) < z .store
-  pub room : proposes-one (outcome z o e .named) ≡ true → suc (proposals (o .made)) < z .table
+  pub ok : event-outcome z o e .number ≡ 0
+  pub stored : sends-one (event-outcome z o e .sent) ≡ true → length (o .sent) < z .store
+  pub room : proposes-one (event-outcome z o e .named) ≡ true → suc (proposals (o .made)) < z .table
 
-pub accepted : (z : Sizes) (o : Office) (e : Event) → answer z o e ≡ 0 → Accepted z o e
-unfolding answer
-accepted z o e h =
+pub was-accepted : (z : Sizes) (o : Office) (e : Event) → event-answer z o e ≡ 0 → Accepted z o e
+unfolding event-answer
+was-accepted z o e h =
     by-test (absent z o e)
     (λ a. absurd (omega (arith, rw a at h)))
-    (λ a. by-test (eqb (outcome z o e .number) 0)
+    (λ a. by-test (eqb (event-outcome z o e .number) 0)
     (λ b. by-test (no-store-row z o e)
     (λ c. absurd (omega (arith, rw (a, b, c) at h)))
     (λ c. by-test (no-table-row z o e)
@@ -91,8 +93,8 @@ accepted z o e h =
       member = omega (tests, or-left (leb (z .n) (at-member e)) (unsent o e) a);
       there = or-right (leb (z .n) (at-member e)) (unsent o e) a;
       ok = omega tests;
-      stored = λ s. and-cases (sends-one (outcome z o e .sent)) (leb (z .store) (length (o .sent))) c (λ f. clash s f) (λ f. omega tests);
-      room = λ s. and-cases (proposes-one (outcome z o e .named)) (leb (z .table) (suc (proposals (o .made)))) d (λ f. clash s f) (λ f. omega tests);
+      stored = λ s. and-cases (sends-one (event-outcome z o e .sent)) (leb (z .store) (length (o .sent))) c (λ f. clash s f) (λ f. omega tests);
+      room = λ s. and-cases (proposes-one (event-outcome z o e .named)) (leb (z .table) (suc (proposals (o .made)))) d (λ f. clash s f) (λ f. omega tests);
     })))
     (λ b. absurd (omega (tests, rw (a, b) at h))))
 
@@ -109,36 +111,37 @@ module _ (z : Sizes) (o : Office) (ranged : (g : Message) → g ∈ o .sent → 
       fits-of (start m r x) h = refl
       fits-of (deliver k m) h = ranged (message-at o k) (message-in o k m h)
 
-  pub step-is-sound : sound (member-at z o (at-member e)) ≡ true → unsent o e ≡ false → outcome z o e ≡ sound-step (member-at z o (at-member e)) (event-of o e)
-  unfolding outcome
+  pub step-is-sound : sound (member-at z o (at-member e)) ≡ true → unsent o e ≡ false →
+      event-outcome z o e ≡ sound-step (member-at z o (at-member e)) (event-of o e)
+  unfolding event-outcome
   step-is-sound s h = step-of-sound (member-at z o (at-member e)) (event-of o e) s (event-fits h)
 
 module _ (z : Sizes) (o : Office) (K : KeptOffice z o) (e : Event) where
-  accepted-sound : Accepted z o e → outcome z o e ≡ sound-step (member-at z o (at-member e)) (event-of o e)
+  accepted-sound : Accepted z o e → event-outcome z o e ≡ sound-step (member-at z o (at-member e)) (event-of o e)
   accepted-sound a = step-is-sound z o (K .ranged) e (K .each (at-member e) (a .member) .is-sound) (a .there)
 
   -- an accepted event is its row of the member table, none of whose causes holds
   pub accepted-row : Accepted z o e →
-      (first (step-causes (member-at z o (at-member e)) (event-of o e)) ≡ 0) × (outcome z o e ≡ step-row (member-at z o (at-member e)) (event-of o e))
+      (first (step-causes (member-at z o (at-member e)) (event-of o e)) ≡ 0) × (event-outcome z o e ≡ step-row (member-at z o (at-member e)) (event-of o e))
   unfolding sound-step
   accepted-row a =
       let m : MemberState = member-at z o (at-member e) in
-      let same : outcome z o e ≡ sound-step m (event-of o e) = accepted-sound a in
+      let same : event-outcome z o e ≡ sound-step m (event-of o e) = accepted-sound a in
       by-test (eqb (first (step-causes m (event-of o e))) 0)
       (λ t. (omega tests, same ∙ rw t refl))
-      (λ t. let n : outcome z o e .number ≡ first (step-causes m (event-of o e)) = ap (λ u. u .number) same ∙ rw t refl in absurd (omega (tests, a .ok)))
+      (λ t. let n : event-outcome z o e .number ≡ first (step-causes m (event-of o e)) = ap (λ u. u .number) same ∙ rw t refl in absurd (omega (tests, a .ok)))
 
-  taken-own : at-member e < z .n → Own (member-at z o (at-member e)) (outcome z o e)
-  unfolding outcome
+  taken-own : at-member e < z .n → Own (member-at z o (at-member e)) (event-outcome z o e)
+  unfolding event-outcome
   taken-own l = own-step (member-at z o (at-member e)) (event-of o e)
 
-  outcome-kept : Accepted z o e → Kept (outcome z o e)
+  outcome-kept : Accepted z o e → Kept (event-outcome z o e)
   outcome-kept a =
       let M : KeptMember z (at-member e) (member-at z o (at-member e)) = K .each (at-member e) (a .member) in
       subst Kept (sym (accepted-sound a))
       (step-kept (member-at z o (at-member e)) (event-of o e) (M .seven) (M .is-sound) (event-fits z o (K .ranged) e (a .there)))
 
-  pub taken-member : Accepted z o e → KeptMember z (at-member e) (outcome z o e .state)
+  pub taken-member : Accepted z o e → KeptMember z (at-member e) (event-outcome z o e .state)
   taken-member a =
       let M : KeptMember z (at-member e) (member-at z o (at-member e)) = K .each (at-member e) (a .member) in
       record {
@@ -149,18 +152,18 @@ module _ (z : Sizes) (o : Office) (K : KeptOffice z o) (e : Event) where
       }
 
   -- what it sends is its member's
-  pub sent-by : Accepted z o e → (g : Message) → g ∈ outcome z o e .sent → sender g ≡ at-member e
+  pub sent-by : Accepted z o e → (g : Message) → g ∈ event-outcome z o e .sent → sender g ≡ at-member e
   sent-by a g i = taken-own (a .member) .from g i ∙ ap (λ s. s .0) (K .each (at-member e) (a .member) .number)
 
   pub taken-kept : Accepted z o e → KeptOffice z (taken z o e)
   unfolding taken
   taken-kept a = record {
     count = simp length-set (K .count);
-    each = λ t l. set-each (KeptMember z) (λ k. fresh-record (member-number k) (z .n)) (o .members) (at-member e) (outcome z o e .state)
+    each = λ t l. set-each (KeptMember z) (λ k. fresh-record (member-number k) (z .n)) (o .members) (at-member e) (event-outcome z o e .state)
         (omega (arith, K .count, a .member)) (taken-member a) (λ s b d. K .each s (omega (arith, K .count))) t (omega (arith, K .count));
     ranged = λ g i. ⊎-elim (K .ranged g) (outcome-kept a .sent-in-range g) (List·Memᴰ·append-cases (o .sent) i);
     senders = λ g i. ⊎-elim (K .senders g) (λ j. rw (sent-by a g j) (a .member)) (List·Memᴰ·append-cases (o .sent) i);
-    fits = rw (length-append (o .sent) (outcome z o e .sent)) (room-for (outcome z o e .sent) (taken-own (a .member) .one) (a .stored));
+    fits = rw (length-append (o .sent) (event-outcome z o e .sent)) (room-for (event-outcome z o e .sent) (taken-own (a .member) .one) (a .stored));
   }
     where
       room-for : (gs : List Message) → length gs ≤ 1 → (sends-one gs ≡ true → length (o .sent) < z .store) → length (o .sent) + length gs ≤ z .store
@@ -170,8 +173,8 @@ module _ (z : Sizes) (o : Office) (K : KeptOffice z o) (e : Event) where
   pub next-kept : KeptOffice z (next z o e)
   unfolding next
   next-kept =
-      by-test (eqb (answer z o e) 0)
-      (λ t. rw t (taken-kept (accepted z o e (omega tests))))
+      by-test (eqb (event-answer z o e) 0)
+      (λ t. rw t (taken-kept (was-accepted z o e (omega tests))))
       (λ t. rw t K)
 
 -- at first
@@ -209,8 +212,8 @@ first-kept z h = record {
     }
 
 -- from there on, after any list of events
-pub all-kept : (z : Sizes) (o : Office) (es : List Event) → KeptOffice z o → KeptOffice z (after z o es)
-unfolding after
+pub all-kept : (z : Sizes) (o : Office) (es : List Event) → KeptOffice z o → KeptOffice z (office-after z o es)
+unfolding office-after
 all-kept z o [] K = K
 all-kept z o (e ∷ es) K = all-kept z (next z o e) es (next-kept z o K e)
 

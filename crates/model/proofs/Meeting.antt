@@ -21,7 +21,7 @@ use Rattle.member.specs.Table.{Named, proposal, decision}
 use Rattle.model.specs.Model.{Sizes, proposals}
 use Rattle.model.specs.Demand.{calls}
 use Rattle.model.proofs.Made.{calls-append, proposals-append, proposal-call, call-proposal, call-decision}
-use Rattle.model.proofs.Invariant.{join-quorum, vote-quorum, JoinOf, carried, Joined, Voted, Added, MadeSo}
+use Rattle.model.proofs.Invariant.{join-quorum, vote-quorum, JoinOf, carried, Joined, Voted, ProposalMade, MadeSo}
 use Rattle.model.proofs.Grows.{added-grows, joined-grows}
 
 -- joins and votes needed are more than N together, in every office of 2f+1
@@ -51,7 +51,7 @@ module _ (z : Sizes) (sent : List Message) (made : List Named) (offers : List �
 
   -- one more proposal
   module _ (r x b : ℕ) (ranged : out-of-range r ≡ false) (new : (y c : ℕ) → proposal r y c ∈ made → ⊥) (lower : b < r)
-      (parent : 0 < b → Added made b x) (J : Quorum (z .n) (join-quorum (z .n)) (Joined sent r b)) (from : x ∈ offers)
+      (parent : 0 < b → ProposalMade made b x) (J : Quorum (z .n) (join-quorum (z .n)) (Joined sent r b)) (from : x ∈ offers)
       (row : suc (proposals made) < z .table) (gs : List Message) (xs : List ℕ) where
     add-next : NextCall true (calls made) (add r x b)
     add-next = record {

@@ -24,12 +24,13 @@ use Rattle.member_rules.specs.Causes.{start-call-causes, START-causes, count-ca
 use Rattle.member_rules.specs.Changes.{counting, adopting}
 use Rattle.member.specs.Table.{Outcome, silent, complete, proposes, decides, step-causes, step-row, sound-step}
 use Rattle.member.specs.Table.{MemberEvent, starts, delivers}
-use Rattle.model.specs.Model.{Sizes, Event, start, deliver, Office, first-office, member-at, message-at, at-member, unsent, event-of, outcome, absent, no-store-row, no-table-row, sends-one, proposes-one, proposals, answer, offered}
+use Rattle.model.specs.Model.{Sizes, Event, start, deliver, Office, first-office, member-at, message-at, at-member, unsent, event-of}
+use Rattle.model.specs.Model.{event-outcome, absent, no-store-row, no-table-row, sends-one, proposes-one, proposals, event-answer, offered}
 use Rattle.model.specs.Demand.{calls, ended}
-use Rattle.model.specs.Counts.{tree}
+use Rattle.model.specs.Counts.{made-tree}
 use Rattle.model.proofs.Made.{proposal-call}
 use Rattle.model.proofs.Kept.{KeptMember, KeptOffice, message-in, step-is-sound, ended-kept}
-use Rattle.model.proofs.Invariant.{Added, Stands, Invariant}
+use Rattle.model.proofs.Invariant.{ProposalMade, MemberHolds, Invariant}
 use Rattle.model.proofs.Events.{holds}
 use Rattle.model.proofs.Demanded.{all-ok}
 use Rattle.model.proofs.Tree.{nodes-counted}
@@ -86,16 +87,17 @@ module _ (z : Sizes) (o : Office) (offers : List ℕ) (K : KeptOffice z o) (I : 
   led t m M r s h e = let l : leads (m .who .n) s r ≡ true = rw (M .size) (eq-eqb (r .0 % z .n) (s .0) h) in clash e (rw l refl)
 
   -- a round is proposed with one value
-  one-value : (r x y : ℕ) → Added (o .made) r x → Added (o .made) r y → x ≡ y
+  one-value : (r x y : ℕ) → ProposalMade (o .made) r x → ProposalMade (o .made) r y → x ≡ y
   one-value r x y a b =
-      unique true (calls (o .made)) (I .made-so .properties) r x (a .parent) y (b .parent) (proposal-call (o .made) (a .is-made)) (proposal-call (o .made) (b .is-made)) .0
+      unique true (calls (o .made)) (I .made-so .properties) r x (a .parent) y (b .parent)
+      (proposal-call (o .made) (a .is-made)) (proposal-call (o .made) (b .is-made)) .0
 
-  same-vote : (t : ℕ) (m : MemberState) (S : Stands (z .n) (o .sent) (o .made) offers t m) (r : Round) (s : Member) (v : ℕ) → Propose r s v ∈ o .sent →
+  same-vote : (t : ℕ) (m : MemberState) (S : MemberHolds (z .n) (o .sent) (o .made) offers t m) (r : Round) (s : Member) (v : ℕ) → Propose r s v ∈ o .sent →
       out-of-range (r .0) ≡ false → other-vote m r v ≡ true → ⊥
   same-vote t m S r s v i f h =
       let e : m .durable .voted .0 ≡ r .0 = omega (tests, and-left (eqb (m .durable .voted .0) (r .0)) (not (eqb (m .durable .vote) v)) h) in
       let pos : 0 < m .durable .voted .0 = omega (tests, or-left (eqb (r .0) 0) (above-range (r .0)) f) in
-      let a : Added (o .made) (r .0) (m .durable .vote) = rw e at (S .vote-added pos) in
+      let a : ProposalMade (o .made) (r .0) (m .durable .vote) = rw e at (S .vote-added pos) in
       omega (
         tests,
         one-value (r .0) (m .durable .vote) v a (I .backed (Propose r s v) i),
@@ -103,12 +105,13 @@ module _ (z : Sizes) (o : Office) (offers : List ℕ) (K : KeptOffice z o) (I : 
       )
 
   -- a JOIN or VOTE from a member
-  count-numbers : (t : ℕ) (m : MemberState) → KeptMember z t m → (phase : ℕ) (r : Round) (s : Member) → s .0 < z .n → first (count-causes phase m r s) ∈ step-numbers
+  count-numbers : (t : ℕ) (m : MemberState) → KeptMember z t m → (phase : ℕ) (r : Round) (s : Member) → s .0 < z .n →
+      first (count-causes phase m r s) ∈ step-numbers
   count-numbers t m M phase r s l =
       first-has (λ k. k ∈ step-numbers) (count-causes phase m r s) (among 0 step-numbers refl)
       (λ e. absurd (omega (tests, M .size)), (λ e. among 24 step-numbers refl, (λ e. among 25 step-numbers refl, tt)))
 
-  message-numbers : (t : ℕ) (m : MemberState) → KeptMember z t m → Stands (z .n) (o .sent) (o .made) offers t m →
+  message-numbers : (t : ℕ) (m : MemberState) → KeptMember z t m → MemberHolds (z .n) (o .sent) (o .made) offers t m →
       (g : Message) → g ∈ o .sent → first (step-causes m (delivers g)) ∈ step-numbers
   unfolding step-causes
   message-numbers t m M S (Start r s) i =
@@ -130,68 +133,70 @@ module _ (z : Sizes) (o : Office) (offers : List ℕ) (K : KeptOffice z o) (I : 
   own-number : (e : Event) → at-member e < z .n → unsent o e ≡ false → first (step-causes (member-at z o (at-member e)) (event-of o e)) ∈ step-numbers
   unfolding step-causes
   own-number (start k r x) l h =
-      first-has (λ k. k ∈ step-numbers) (start-call-causes (member-at z o k) (round-number r)) (among 0 step-numbers refl) (λ e. among 3 step-numbers refl, (λ e. among 19 step-numbers refl, (λ e. among 20 step-numbers refl, tt)))
+      first-has (λ k. k ∈ step-numbers) (start-call-causes (member-at z o k) (round-number r)) (among 0 step-numbers refl)
+      (λ e. among 3 step-numbers refl, (λ e. among 19 step-numbers refl, (λ e. among 20 step-numbers refl, tt)))
   own-number (deliver j k) l h =
       message-numbers k (member-at z o k) (K .each k l) (I .members k l) (message-at o j) (message-in o j k h)
 
   -- the number of its member's step, where 29 isn't given
-  step-numbered : (e : Event) → absent z o e ≡ false → outcome z o e .number ∈ step-numbers
+  step-numbered : (e : Event) → absent z o e ≡ false → event-outcome z o e .number ∈ step-numbers
   step-numbered e h =
       let low : at-member e < z .n = omega (tests, or-left (leb (z .n) (at-member e)) (unsent o e) h) in
       let sent : unsent o e ≡ false = or-right (leb (z .n) (at-member e)) (unsent o e) h in
-      rw (step-is-sound z o (K .ranged) e (K .each (at-member e) low .is-sound) sent, step-number (member-at z o (at-member e)) (event-of o e)) (own-number e low sent)
+      let same = step-is-sound z o (K .ranged) e (K .each (at-member e) low .is-sound) sent in
+      rw (same, step-number (member-at z o (at-member e)) (event-of o e)) (own-number e low sent)
 
-  pub answer-numbers : (e : Event) → answer z o e ∈ event-numbers
-  unfolding answer
+  pub answer-numbers : (e : Event) → event-answer z o e ∈ event-numbers
+  unfolding event-answer
   answer-numbers e =
       by-test (absent z o e)
       (λ a. rw a (among 29 event-numbers refl))
-      (λ a. rw a (by-test (eqb (outcome z o e .number) 0)
+      (λ a. rw a (by-test (eqb (event-outcome z o e .number) 0)
       (λ b. rw b (first-has (λ k. k ∈ event-numbers) (last-causes z o e) (among 0 event-numbers refl)
       (λ c. among 30 event-numbers refl, (λ c. among 9 event-numbers refl, tt))))
       (λ b. rw b (within step-numbers event-numbers refl (step-numbered e a)))))
 
   -- a number of the row last is given only by its cause
-  last-number : (e : Event) (k : ℕ) → any (eqb k) (0 ∷ 29 ∷ step-numbers) ≡ false → answer z o e ≡ k → first (last-causes z o e) ≡ k
-  unfolding answer
+  last-number : (e : Event) (k : ℕ) → any (eqb k) (0 ∷ 29 ∷ step-numbers) ≡ false → event-answer z o e ≡ k → first (last-causes z o e) ≡ k
+  unfolding event-answer
   last-number e k apart h =
       by-test (absent z o e)
       (λ a. let q : 29 ≡ k = rw a at h in clash (any-intro (eqb k) (0 ∷ 29 ∷ step-numbers) (there (here refl)) (eq-eqb k 29 (sym q))) apart)
-      (λ a. by-test (eqb (outcome z o e .number) 0)
+      (λ a. by-test (eqb (event-outcome z o e .number) 0)
       (λ b. rw (a, b) at h)
-      (λ b. let q : outcome z o e .number ≡ k = rw (a, b) at h in
-      clash (any-intro (eqb k) (0 ∷ 29 ∷ step-numbers) (there (there (step-numbered e a))) (eq-eqb k (outcome z o e .number) (sym q))) apart))
+      (λ b. let q : event-outcome z o e .number ≡ k = rw (a, b) at h in
+      clash (any-intro (eqb k) (0 ∷ 29 ∷ step-numbers) (there (there (step-numbered e a))) (eq-eqb k (event-outcome z o e .number) (sym q))) apart))
 
   -- 30 is given only where the store is full
-  pub thirty-full : (e : Event) → answer z o e ≡ 30 → length (o .sent) ≡ z .store
+  pub thirty-full : (e : Event) → event-answer z o e ≡ 30 → length (o .sent) ≡ z .store
   thirty-full e h =
       let q : first (last-causes z o e) ≡ 30 = last-number e 30 refl h in
       by-test (no-store-row z o e)
-      (λ c. omega (tests, K .fits, and-right (sends-one (outcome z o e .sent)) (leb (z .store) (length (o .sent))) c))
+      (λ c. omega (tests, K .fits, and-right (sends-one (event-outcome z o e .sent)) (leb (z .store) (length (o .sent))) c))
       (λ c. by-test (no-table-row z o e)
       (λ d. absurd (omega (arith, rw (c, d) at q)))
       (λ d. absurd (omega (arith, rw (c, d) at q))))
 
   -- and 9 only where the proposals fill the table
-  pub nine-full : (e : Event) → answer z o e ≡ 9 → z .table ≤ suc (proposals (o .made))
+  pub nine-full : (e : Event) → event-answer z o e ≡ 9 → z .table ≤ suc (proposals (o .made))
   nine-full e h =
       let q : first (last-causes z o e) ≡ 9 = last-number e 9 refl h in
       by-test (no-store-row z o e)
       (λ c. absurd (omega (arith, rw c at q)))
       (λ c. by-test (no-table-row z o e)
-      (λ d. omega (tests, and-right (proposes-one (outcome z o e .named)) (leb (z .table) (suc (proposals (o .made)))) d))
+      (λ d. omega (tests, and-right (proposes-one (event-outcome z o e .named)) (leb (z .table) (suc (proposals (o .made)))) d))
       (λ d. absurd (omega (arith, rw (c, d) at q))))
 
 module _ (z : Sizes) (es : List Event) (e : Event) (ok : allowed (z .n) ≡ true) where
   -- an event after any list gets one of these numbers
-  pub numbers : answer z (ended z es) e ∈ event-numbers
+  pub numbers : event-answer z (ended z es) e ∈ event-numbers
   numbers = answer-numbers z (ended z es) (offered z (first-office (z .n)) es) (ended-kept z es ok) (holds z ok es) e
 
   -- 30 only where no store row is free, and 9 only where no table row is
-  pub store-full : answer z (ended z es) e ≡ 30 → length (ended z es .sent) ≡ z .store
+  pub store-full : event-answer z (ended z es) e ≡ 30 → length (ended z es .sent) ≡ z .store
   store-full = thirty-full z (ended z es) (offered z (first-office (z .n)) es) (ended-kept z es ok) (holds z ok es) e
 
-  pub table-full : 0 < z .table → answer z (ended z es) e ≡ 9 → length (tree z (ended z es)) ≡ z .table
+  pub table-full : 0 < z .table → event-answer z (ended z es) e ≡ 9 → length (made-tree z (ended z es)) ≡ z .table
   table-full rows h =
       omega (
         arith,

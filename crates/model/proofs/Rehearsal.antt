@@ -6,15 +6,15 @@ use Prim.Native.Nat.{ℕ}
 use Rattle.quorum.specs.Count.{some}
 use Rattle.tree_theory.specs.Machine.{ADDED, COMMITTED, node-of, add, commit, struck, new-node, find, path-in, commit-node}
 use Rattle.tree_theory.specs.Machine.{after as after-calls}
-use Rattle.model.specs.Model.{Sizes, Event, start, deliver, first-office, after, answers, offered}
+use Rattle.model.specs.Model.{Sizes, Event, start, deliver, first-office, office-after, event-answers, offered}
 use Rattle.model.specs.Demand.{calls, ended}
-use Rattle.model.specs.Counts.{tree}
+use Rattle.model.specs.Counts.{made-tree}
 
 abbrev sizes : ℕ → ℕ → Sizes
 sizes store table = record { n = 3; store = store; table = table }
 
 abbrev answered : Sizes → List Event → List ℕ
-answered z es = answers z (first-office (z .n)) es
+answered z es = event-answers z (first-office (z .n)) es
 
 abbrev rehearsal : List Event
 rehearsal =
@@ -26,11 +26,11 @@ record Rehearsed : Type 0 where
   -- round 2 proposes the value voted for in round 1, behind that round
   calls-are : calls (ended (sizes 1000 64) rehearsal .made) ≡ add 1 70 0 ∷ add 2 70 1 ∷ commit 1 ∷ []
   -- the three nodes that 01 prints
-  nodes-are : tree (sizes 1000 64) (ended (sizes 1000 64) rehearsal) ≡ node-of 0 0 0 COMMITTED ∷ node-of 1 0 70 COMMITTED ∷ node-of 2 1 70 ADDED ∷ []
+  nodes-are : made-tree (sizes 1000 64) (ended (sizes 1000 64) rehearsal) ≡ node-of 0 0 0 COMMITTED ∷ node-of 1 0 70 COMMITTED ∷ node-of 2 1 70 ADDED ∷ []
   offers-are : offered (sizes 1000 64) (first-office 3) rehearsal ≡ 70 ∷ 80 ∷ []
 
 rehearsed : Rehearsed
-unfolding answers offered after first-office calls after-calls some struck new-node find path-in commit-node
+unfolding event-answers offered office-after first-office calls after-calls some struck new-node find path-in commit-node
 rehearsed = record { answers-are = refl; calls-are = refl; nodes-are = refl; offers-are = refl }
 
 record Numbers : Type 0 where
@@ -53,5 +53,5 @@ record Numbers : Type 0 where
   offers : offered (sizes 9 9) (first-office 3) (start 1 2 5 ∷ start 1 1 6 ∷ start 1 1 7 ∷ []) ≡ 6 ∷ []
 
 numbers : Numbers
-unfolding answers offered first-office some
+unfolding event-answers offered first-office some
 numbers = record { starts = refl; absent = refl; late = refl; full = refl; rowless = refl; last-row = refl; both = refl; offers = refl }

@@ -27,13 +27,14 @@ use Rattle.model.specs.Demand.{calls}
 use Rattle.model.proofs.Made.{decision-call, call-proposal}
 use Rattle.model.proofs.Senders.{only}
 use Rattle.model.proofs.Kept.{KeptMember, vote-lower}
-use Rattle.model.proofs.Invariant.{join-quorum, vote-quorum, JoinOf, carried, Joined, Voted, Reached, Leading, Stands, FromLeader, Backed, Invariant}
+use Rattle.model.proofs.Invariant.{join-quorum, vote-quorum, JoinOf, carried, Joined, Voted, Reached, Leading, MemberHolds, FromLeader, Backed}
+use Rattle.model.proofs.Invariant.{Invariant}
 use Rattle.model.proofs.Grows.{join-sender, join-reached, added-grows, joined-grows, leading-grows, made-calm, New}
 use Rattle.model.proofs.Meeting.{Pasts, proposes-so, decides-so}
 use Rattle.model.proofs.Counts.{Counts, counts-of, flag-set, no-flag, flagged-quorum, spoken-new, spoken-quiet}
 
 module _ (z : Sizes) (o : Office) (offers : List ℕ) (I : Invariant z o offers) (t : ℕ) (m : MemberState) (M : KeptMember z t m)
-    (S : Stands (z .n) (o .sent) (o .made) offers t m) where
+    (S : MemberHolds (z .n) (o .sent) (o .made) offers t m) where
   -- the member leads a round that passed 19
   own-lead : (r : Round) → not (leads (m .who .n) (m .who .me) r) ≡ false → r .0 % z .n ≡ t
   own-lead r h =
@@ -138,7 +139,7 @@ module _ (z : Sizes) (o : Office) (offers : List ℕ) (I : Invariant z o offers)
 
 -- JOINs and VOTEs counted; k is the member's record once the JOIN's vote is taken over
 module _ (z : Sizes) (o : Office) (offers : List ℕ) (I : Invariant z o offers) (meets : z .n < join-quorum (z .n) + vote-quorum (z .n))
-    (t : ℕ) (k : MemberState) (C : Counts z t k) (S : Stands (z .n) (o .sent) (o .made) offers t k) (s : Member) (low : s .0 < z .n) where
+    (t : ℕ) (k : MemberState) (C : Counts z t k) (S : MemberHolds (z .n) (o .sent) (o .made) offers t k) (s : Member) (low : s .0 < z .n) where
   pasts : Pasts (z .n) (o .sent)
   pasts i l = I .members i l .spoken .past
 

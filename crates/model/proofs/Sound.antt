@@ -11,11 +11,11 @@ use Rattle.message.specs.declared.Message.{Message}
 use Rattle.message.specs.declared.Message.the-variants.{Start, Join, JoinVoted, Propose, Vote}
 use Rattle.message.specs.Layout.{ValueFits}
 use Rattle.member_record.specs.Record.{allowed}
-use Rattle.model.specs.Model.{Sizes, Event, start, deliver, Office, first-office, answer, next, offers-at, offered}
+use Rattle.model.specs.Model.{Sizes, Event, start, deliver, Office, first-office, event-answer, next, offers-at, offered}
 use Rattle.model.specs.Demand.{ended}
 use Rattle.model.specs.Sound.{SmallOffer, SmallOffers, SoundOffice}
 use Rattle.model.proofs.Kept.{KeptOffice, ended-kept}
-use Rattle.model.proofs.Invariant.{Added, Backed, Invariant}
+use Rattle.model.proofs.Invariant.{ProposalMade, Backed, Invariant}
 use Rattle.model.proofs.Events.{holds}
 use Rattle.model.proofs.Demanded.{all-ok}
 
@@ -29,11 +29,11 @@ offered-small z o (e ∷ es) f x m =
   where
     at : (d : Event) → SmallOffer d → x ∈ offers-at z o d → x < 18446744073709551616
     at (start m r y) small n =
-        by-test (eqb (answer z o (start m r y)) 0)
+        by-test (eqb (event-answer z o (start m r y)) 0)
         (λ t. let e : x ≡ y = List·Memᴰ·eq-of-singleton (rw t at n) in rw e small)
         (λ t. absurd (List·Memᴰ·not-nil (rw t at n)))
     at (deliver k m) small n =
-        by-test (eqb (answer z o (deliver k m)) 0)
+        by-test (eqb (event-answer z o (deliver k m)) 0)
         (λ t. absurd (List·Memᴰ·not-nil (rw t at n)))
         (λ t. absurd (List·Memᴰ·not-nil (rw t at n)))
 
@@ -42,7 +42,7 @@ module _ (z : Sizes) (es : List Event) (ok : allowed (z .n) ≡ true) (small : S
   invariant = holds z ok es
 
   -- a value that was proposed is a 64-bit number
-  added-small : (r x : ℕ) → Added (ended z es .made) r x → x < 18446744073709551616
+  added-small : (r x : ℕ) → ProposalMade (ended z es .made) r x → x < 18446744073709551616
   added-small r x A = offered-small z (first-office (z .n)) es small x (invariant .made-so .offered-so r x (A .parent) (A .is-made))
 
   backed-small : (g : Message) → Backed (ended z es .made) g → ValueFits g

@@ -15,9 +15,9 @@ use Rattle.tree_theory.proofs.FourProperties.{next-ok, told-ok}
 use Rattle.tree_theory.proofs.Steps.{after-append}
 use Rattle.member_record.specs.Record.{allowed}
 use Rattle.member.specs.Table.{Named, nothing, proposal, decision}
-use Rattle.model.specs.Model.{Sizes, Event, Office, first-office, outcome, answer, made-by, taken, proposals}
+use Rattle.model.specs.Model.{Sizes, Event, Office, first-office, event-outcome, event-answer, made-by, taken, proposals}
 use Rattle.model.specs.Demand.{calls, ended}
-use Rattle.model.specs.Counts.{tree, decisions, committed-nodes}
+use Rattle.model.specs.Counts.{made-tree, decisions, committed-nodes}
 use Rattle.model.proofs.Made.{calls-append, adds-in-calls}
 use Rattle.model.proofs.Demanded.{four, rounds-in-range, adds-fit}
 use Rattle.model.proofs.Committed.{commits-in, committed-count}
@@ -32,56 +32,60 @@ commits-in-calls (decision r x ∷ l) = ap suc (commits-in-calls l)
 
 -- what an event names makes the tree of the office after it
 module _ (z : Sizes) (o : Office) (e : Event) where
-  calls-taken : (n : Named) → outcome z o e .named ≡ n → calls (taken z o e .made) ≡ calls (o .made) ++ calls (made-by n)
+  calls-taken : (n : Named) → event-outcome z o e .named ≡ n → calls (taken z o e .made) ≡ calls (o .made) ++ calls (made-by n)
   unfolding taken
   calls-taken n h = rw h (calls-append (o .made) (made-by n))
 
-  tree-taken : (n : Named) → outcome z o e .named ≡ n → tree z (taken z o e) ≡ after-calls true (z .table) (tree z o) (calls (made-by n))
+  tree-taken : (n : Named) → event-outcome z o e .named ≡ n → made-tree z (taken z o e) ≡ after-calls true (z .table) (made-tree z o) (calls (made-by n))
   tree-taken n h = rw (calls-taken n h) (after-append true (z .table) fresh (calls (o .made)) (calls (made-by n)))
 
-  pub tree-nothing : outcome z o e .named ≡ nothing → tree z (taken z o e) ≡ tree z o
+  pub tree-nothing : event-outcome z o e .named ≡ nothing → made-tree z (taken z o e) ≡ made-tree z o
   unfolding calls after-calls
   tree-nothing h = tree-taken nothing h
 
-  pub tree-proposal : (r x b : ℕ) → outcome z o e .named ≡ proposal r x b → tree z (taken z o e) ≡ step true (z .table) (tree z o) (add r x b)
+  pub tree-proposal : (r x b : ℕ) → event-outcome z o e .named ≡ proposal r x b → made-tree z (taken z o e) ≡ step true (z .table) (made-tree z o) (add r x b)
   unfolding calls after-calls
   tree-proposal r x b h = tree-taken (proposal r x b) h
 
-  pub tree-decision : (r x : ℕ) → outcome z o e .named ≡ decision r x → tree z (taken z o e) ≡ step true (z .table) (tree z o) (commit r)
+  pub tree-decision : (r x : ℕ) → event-outcome z o e .named ≡ decision r x → made-tree z (taken z o e) ≡ step true (z .table) (made-tree z o) (commit r)
   unfolding calls after-calls
   tree-decision r x h = tree-taken (decision r x) h
 
 module _ (z : Sizes) (es : List Event) (ok : allowed (z .n) ≡ true) (rows : 0 < z .table) where
   -- the tree says OK to the call of an accepted event
-  module _ (e : Event) (a : answer z (ended z es) e ≡ 0) where
+  module _ (e : Event) (a : event-answer z (ended z es) e ≡ 0) where
     -- the calls after the event
-    last-calls : (n : Named) (c : Call) → outcome z (ended z es) e .named ≡ n → calls (made-by n) ≡ c ∷ [] →
+    last-calls : (n : Named) (c : Call) → event-outcome z (ended z es) e .named ≡ n → calls (made-by n) ≡ c ∷ [] →
         calls (ended z (es ++ e ∷ []) .made) ≡ calls (ended z es .made) ++ c ∷ []
     last-calls n c h s =
         rw (after-last z (first-office (z .n)) es e, next-taken z (ended z es) e a, calls-taken z (ended z es) e n h, s) refl
 
-    takes : (n : Named) (c : Call) → outcome z (ended z es) e .named ≡ n → calls (made-by n) ≡ c ∷ [] → answer-call true (z .table) (tree z (ended z es)) c ≡ 0
+    takes : (n : Named) (c : Call) → event-outcome z (ended z es) e .named ≡ n → calls (made-by n) ≡ c ∷ [] →
+        answer-call true (z .table) (made-tree z (ended z es)) c ≡ 0
     takes n c h s =
         let q : calls (ended z (es ++ e ∷ []) .made) ≡ calls (ended z es .made) ++ c ∷ [] = last-calls n c h s in
-        next-ok true (z .table) (calls (ended z es .made)) c (subst (Properties true) q (four z (es ++ e ∷ []) ok)) (subst InRange q (rounds-in-range z (es ++ e ∷ []) ok))
+        next-ok true (z .table) (calls (ended z es .made)) c (subst (Properties true) q (four z (es ++ e ∷ []) ok))
+        (subst InRange q (rounds-in-range z (es ++ e ∷ []) ok))
         (subst (λ l. adds-in l < z .table) q (adds-fit z (es ++ e ∷ []) ok rows))
 
-    pub takes-proposal : (r x b : ℕ) → outcome z (ended z es) e .named ≡ proposal r x b → answer-call true (z .table) (tree z (ended z es)) (add r x b) ≡ 0
+    pub takes-proposal : (r x b : ℕ) → event-outcome z (ended z es) e .named ≡ proposal r x b →
+        answer-call true (z .table) (made-tree z (ended z es)) (add r x b) ≡ 0
     unfolding calls
     takes-proposal r x b h = takes (proposal r x b) (add r x b) h refl
 
-    pub takes-decision : (r x : ℕ) → outcome z (ended z es) e .named ≡ decision r x → answer-call true (z .table) (tree z (ended z es)) (commit r) ≡ 0
+    pub takes-decision : (r x : ℕ) → event-outcome z (ended z es) e .named ≡ decision r x →
+        answer-call true (z .table) (made-tree z (ended z es)) (commit r) ≡ 0
     unfolding calls
     takes-decision r x h = takes (decision r x) (commit r) h refl
 
 -- where the tree says OK to each call, the nodes count what was made
 module _ (z : Sizes) (o : Office) (ok : AllOk true (z .table) (calls (o .made))) where
   -- proposals are the nodes less the root
-  pub nodes-counted : length (tree z o) ≡ suc (proposals (o .made))
+  pub nodes-counted : length (made-tree z o) ≡ suc (proposals (o .made))
   nodes-counted = rw (told-ok true (z .table) (calls (o .made)) ok .nodes, length-added (calls (o .made)) (calls (o .made)), adds-in-calls (o .made)) refl
 
   -- decisions are the COMMITTED nodes less the root
-  pub committed-counted : 0 < z .table → committed-nodes (tree z o) ≡ suc (decisions (o .made))
+  pub committed-counted : 0 < z .table → committed-nodes (made-tree z o) ≡ suc (decisions (o .made))
   unfolding committed-nodes
   committed-counted rows =
       rw (

@@ -7,12 +7,12 @@ use lib.Dec.{eqb}
 use Rattle.tree_theory.specs.Machine.{Node, COMMITTED, fresh}
 use Rattle.tree_theory.specs.Machine.{after as after-calls}
 use Rattle.member.specs.Table.{Named, nothing, proposal, decision}
-use Rattle.model.specs.Model.{Sizes, Office, Event, answer, next}
+use Rattle.model.specs.Model.{Sizes, Office, Event, event-answer, next}
 use Rattle.model.specs.Demand.{calls}
 
 -- the tree of an office: its proposals and decisions, in the order made, from a fresh table of the rows lent
-abbrev pub tree : Sizes → Office → List Node
-tree z o = after-calls true (z .table) fresh (calls (o .made))
+abbrev pub made-tree : Sizes → Office → List Node
+made-tree z o = after-calls true (z .table) fresh (calls (o .made))
 
 -- how many decisions a sequence has
 unfoldable pub decisions : List Named → ℕ
@@ -33,6 +33,6 @@ zeros (a ∷ answers) = cond (eqb a 0) (suc (zeros answers)) (zeros answers)
 
 -- how many events are accepted
 unfoldable pub accepted-events : Sizes → Office → List Event → ℕ
-unfolding answer next
+unfolding event-answer next
 accepted-events z o [] = 0
-accepted-events z o (e ∷ es) = cond (eqb (answer z o e) 0) (suc (accepted-events z (next z o e) es)) (accepted-events z (next z o e) es)
+accepted-events z o (e ∷ es) = cond (eqb (event-answer z o e) 0) (suc (accepted-events z (next z o e) es)) (accepted-events z (next z o e) es)

@@ -10,7 +10,7 @@ use Rattle.tree_theory.specs.Machine.{after as after-calls}
 use Rattle.tree_theory.specs.Table.{table}
 use Rattle.tree_theory.specs.Properties.{AllOk}
 use Rattle.member.specs.Table.{Named, nothing, proposal, decision}
-use Rattle.model.specs.Model.{Sizes, Event, Office, first-office, after, offered}
+use Rattle.model.specs.Model.{Sizes, Event, Office, first-office, office-after, offered}
 
 -- proposals and decisions, in the order made, as add and commit
 unfoldable pub calls : List Named → List Call
@@ -21,7 +21,7 @@ calls (decision r x ∷ ns) = commit r ∷ calls ns
 
 -- the model at the end of a list
 abbrev pub ended : Sizes → List Event → Office
-ended z es = after z (first-office (z .n)) es
+ended z es = office-after z (first-office (z .n)) es
 
 -- `left` is the table that play leaves
 pub record Demand (z : Sizes) (es : List Event) (left : List ℕ) : Type 0 where

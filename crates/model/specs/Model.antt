@@ -67,9 +67,9 @@ event-of o (start m r x) = starts (round-number r) x
 event-of o (deliver k m) = delivers (message-at o k)
 
 -- its member's step
-unfoldable pub outcome : Sizes → Office → Event → Outcome
+unfoldable pub event-outcome : Sizes → Office → Event → Outcome
 unfolding member-step
-outcome z o e = member-step (member-at z o (at-member e)) (event-of o e)
+event-outcome z o e = member-step (member-at z o (at-member e)) (event-of o e)
 
 abbrev pub sends-one : List Message → Bool
 sends-one [] = false
@@ -93,24 +93,24 @@ absent z o e = leb (z .n) (at-member e) || unsent o e
 
 -- it would send, and the messages sent fill the store
 abbrev pub no-store-row : Sizes → Office → Event → Bool
-no-store-row z o e = sends-one (outcome z o e .sent) && no-row-left (z .store) (length (o .sent))
+no-store-row z o e = sends-one (event-outcome z o e .sent) && no-row-left (z .store) (length (o .sent))
 
 -- it would propose, and there are as many proposals as table rows beside the root
 abbrev pub no-table-row : Sizes → Office → Event → Bool
-no-table-row z o e = proposes-one (outcome z o e .named) && no-row-left (z .table) (suc (proposals (o .made)))
+no-table-row z o e = proposes-one (event-outcome z o e .named) && no-row-left (z .table) (suc (proposals (o .made)))
 
 -- the numbers of the place table without its add and commit rows: 29, the member's own, 30, 9
 unfoldable pub event-causes : Sizes → Office → Event → List Cause
-unfolding outcome proposals
+unfolding event-outcome proposals
 event-causes z o e =
     absent z o e gives NO-SUCH ∷
-    not (eqb (outcome z o e .number) 0) gives (outcome z o e .number) ∷
+    not (eqb (event-outcome z o e .number) 0) gives (event-outcome z o e .number) ∷
     no-store-row z o e gives STORE-FULL ∷
     no-table-row z o e gives TABLE-FULL ∷ []
 
-unfoldable pub answer : Sizes → Office → Event → ℕ
+unfoldable pub event-answer : Sizes → Office → Event → ℕ
 unfolding event-causes
-answer z o e = first (event-causes z o e)
+event-answer z o e = first (event-causes z o e)
 
 -- what a step names goes behind what was made
 abbrev pub made-by : Named → List Named
@@ -120,30 +120,30 @@ made-by (decision r x) = decision r x ∷ []
 
 -- an accepted event: its member takes the step, a message sent goes behind the others, and what the answer names is made
 unfoldable pub taken : Sizes → Office → Event → Office
-unfolding outcome
+unfolding event-outcome
 taken z o e =
     record {
-      members = set (o .members) (at-member e) (outcome z o e .state);
-      sent = o .sent ++ outcome z o e .sent;
-      made = o .made ++ made-by (outcome z o e .named);
+      members = set (o .members) (at-member e) (event-outcome z o e .state);
+      sent = o .sent ++ event-outcome z o e .sent;
+      made = o .made ++ made-by (event-outcome z o e .named);
     }
 
 -- a refused event changes nothing
 unfoldable pub next : Sizes → Office → Event → Office
-unfolding answer taken
-next z o e = cond (eqb (answer z o e) 0) (taken z o e) o
+unfolding event-answer taken
+next z o e = cond (eqb (event-answer z o e) 0) (taken z o e) o
 
 -- the office after a list of events
-unfoldable pub after : Sizes → Office → List Event → Office
+unfoldable pub office-after : Sizes → Office → List Event → Office
 unfolding next
-after z o [] = o
-after z o (e ∷ es) = after z (next z o e) es
+office-after z o [] = o
+office-after z o (e ∷ es) = office-after z (next z o e) es
 
 -- the answers to a list of events
-unfoldable pub answers : Sizes → Office → List Event → List ℕ
-unfolding answer next
-answers z o [] = []
-answers z o (e ∷ es) = answer z o e ∷ answers z (next z o e) es
+unfoldable pub event-answers : Sizes → Office → List Event → List ℕ
+unfolding event-answer next
+event-answers z o [] = []
+event-answers z o (e ∷ es) = event-answer z o e ∷ event-answers z (next z o e) es
 
 abbrev pub offer-of : Event → List ℕ
 offer-of (start m r x) = x ∷ []
@@ -151,10 +151,10 @@ offer-of (deliver k m) = []
 
 -- what an event offers: its offer, if it is an accepted start
 abbrev pub offers-at : Sizes → Office → Event → List ℕ
-offers-at z o e = cond (eqb (answer z o e) 0) (offer-of e) []
+offers-at z o e = cond (eqb (event-answer z o e) 0) (offer-of e) []
 
 -- the offers of the accepted starts of a list
 unfoldable pub offered : Sizes → Office → List Event → List ℕ
-unfolding answer next
+unfolding event-answer next
 offered z o [] = []
 offered z o (e ∷ es) = offers-at z o e ++ offered z (next z o e) es

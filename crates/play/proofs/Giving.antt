@@ -19,9 +19,9 @@ use Rattle.tree_theory.proofs.History.{all-grown}
 use Rattle.tree_theory.proofs.Trees.{sized-rows, grown-fit, grown-stated}
 use Rattle.tree_theory.proofs.Steps.{fresh-written}
 use Rattle.member_record.specs.Record.{allowed}
-use Rattle.model.specs.Model.{Sizes, first-office, answers, proposals}
+use Rattle.model.specs.Model.{Sizes, first-office, event-answers, proposals}
 use Rattle.model.specs.Demand.{calls, ended}
-use Rattle.model.specs.Counts.{tree, zeros, decisions, committed-nodes}
+use Rattle.model.specs.Counts.{made-tree, zeros, decisions, committed-nodes}
 use Rattle.model.proofs.Demanded.{all-ok, demand}
 use Rattle.model.proofs.Tree.{nodes-counted, committed-counted}
 use Rattle.play_events.specs.List.{members-of, count-of, list-fits, events-of}
@@ -145,14 +145,14 @@ module _ {list : List ℕ} {L : Lent} (P : PassedList list L) where
         let e : cleared-sizes ≡ sizes-of list (L .memory) = λ i. record { n = members-of list; store = store-rows-same i; table = rows-same i } in
         record {
           number-ok = W .number-ok;
-          answers-are = subst (λ y. L′ .answers ≡ answers y (first-office (y .n)) es ++ drop (length es) (L .answers)) e (W .answers-are);
+          answers-are = subst (λ y. L′ .answers ≡ event-answers y (first-office (y .n)) es ++ drop (length es) (L .answers)) e (W .answers-are);
           store-is =
               subst (λ y. L′ .memory .store ≡ stored (length (L .memory .store)) (ended y es .sent)) e
               (W .store-is ∙ ap (λ m. stored m (ended cleared-sizes es .sent)) length-clear);
           table-is =
-              subst (λ y. L′ .memory .table ≡ table (length (L .memory .table)) (tree y (ended y es))) e
-              (W .table-is ∙ ap (λ m. table m (tree cleared-sizes (ended cleared-sizes es))) length-fresh);
-          accepted-is = subst (λ y. r .accepted ≡ zeros (answers y (first-office (y .n)) es)) e (W .accepted-is);
+              subst (λ y. L′ .memory .table ≡ table (length (L .memory .table)) (made-tree y (ended y es))) e
+              (W .table-is ∙ ap (λ m. table m (made-tree cleared-sizes (ended cleared-sizes es))) length-fresh);
+          accepted-is = subst (λ y. r .accepted ≡ zeros (event-answers y (first-office (y .n)) es)) e (W .accepted-is);
           messages-are = subst (λ y. r .messages ≡ length (ended y es .sent)) e (W .messages-are);
           proposals-made = subst (λ y. r .proposals ≡ proposals (ended y es .made)) e (W .proposals-made);
           decisions-made = subst (λ y. r .decisions ≡ decisions (ended y es .made)) e (W .decisions-made);
@@ -164,7 +164,7 @@ module _ {list : List ℕ} {L : Lent} (P : PassedList list L) where
         let ws = L .memory .table in
         let es = events-of list in
         let z : Sizes = sizes-of list (L .memory) in
-        let ns = tree z (ended z es) in
+        let ns = made-tree z (ended z es) in
         let U = on-lent in
         let grown : Grown true (rows ws) ns = all-grown true (rows ws) (calls (ended z es .made)) in
         let fit = grown-fit true ws ns (P .table-length) grown in

@@ -17,10 +17,10 @@ use Rattle.tree_theory.specs.Table.{rows, sized, table}
 use Rattle.tree_theory.proofs.Trees.{sized-rows}
 use Rattle.member_record.specs.declared.MemberState.{MemberState}
 use Rattle.member_record.specs.Record.{fresh-record as fresh-member}
-use Rattle.model.specs.Model.{Event, Office, at-member, member-number, fresh-members, first-office, answers, proposals}
-use Rattle.model.specs.Model.{after as ended-from}
+use Rattle.model.specs.Model.{Event, Office, at-member, member-number, fresh-members, first-office, event-answers, proposals}
+use Rattle.model.specs.Model.{office-after}
 use Rattle.model.specs.Demand.{calls, ended}
-use Rattle.model.specs.Counts.{tree, zeros, decisions}
+use Rattle.model.specs.Counts.{made-tree, zeros, decisions}
 use Rattle.model.proofs.Fold.{after-last, answers-last, length-answers, zeros-append}
 use Rattle.model.proofs.Sound.{ended-sound}
 use Rattle.play_events.specs.declared.EventRead.{EventRead}
@@ -76,7 +76,7 @@ played-to list M k = ended (sizes-of list M) (events-in k (body list))
 
 -- and its answers to them
 abbrev pub answers-to : List ℕ → Memory → ℕ → List ℕ
-answers-to list M k = answers (sizes-of list M) (first-office (members-of list)) (events-in k (body list))
+answers-to list M k = event-answers (sizes-of list M) (first-office (members-of list)) (events-in k (body list))
 
 -- after k events: L₀ is what was lent, L what it is now
 pub record Running (list : List ℕ) (L₀ : Lent) (count : ℕ) (L : Lent) (members : List MemberState) (t : Tally) (accepted at k : ℕ) : Type 0 where
@@ -117,7 +117,7 @@ list-parts {list} h =
 module _ {list : List ℕ} {L₀ : Lent} (D : Ready list L₀) where
   represents-first : Represents (sizes-of list (L₀ .memory)) (played-to list (L₀ .memory) 0)
       (fresh-office (members-of list) .tally) (fresh-office (members-of list) .members) (L₀ .memory)
-  unfolding events-in first-office ended-from fresh-office proposals decisions calls after
+  unfolding events-in first-office office-after fresh-office proposals decisions calls after
   represents-first =
       record {
         shared = record { sent-count = refl; messages = D .cleared };
@@ -133,7 +133,7 @@ module _ {list : List ℕ} {L₀ : Lent} (D : Ready list L₀) where
 
   pub running-first : Bytes list → {h : ListHead} {k : PlayedOffice} → h ≡ head-of list → k ≡ fresh-office (h .members) →
       Running list L₀ (h .count) L₀ (k .members) (k .tally) 0 (h .begin) 0
-  unfolding events-in behind answers zeros
+  unfolding events-in behind event-answers zeros
   running-first b {h} {k} eh ek =
       subst (λ (h : ListHead). Running list L₀ (h .count) L₀ (k .members) (k .tally) 0 (h .begin) 0) (sym eh)
       (subst (λ (k : PlayedOffice). Running list L₀ (count-of list) L₀ (k .members) (k .tally) 0 HEAD-BYTES 0)
@@ -227,14 +227,14 @@ module _ {list : List ℕ} {L₀ : Lent} {count : ℕ} {L : Lent} {members : Lis
         let z = sizes-of list (L₀ .memory) in
         let o = first-office (members-of list) in
         let es = events-in k (body list) in
-        let A = answers z o es in
+        let A = event-answers z o es in
         let n = w .number in
         let answered₀ = L₀ .answers in
         let more : events-in (k + 1) (body list) ≡ es ++ e ∷ [] =
         ap (λ n. events-in n (body list)) (add-one k) ∙ events-suc k (body list) ∙ ap (λ s. es ++ event-at s ∷ []) (sym (G .place)) ∙
         ap (λ x. es ++ x ∷ []) (sym ee) in
-        let along : answers z o (events-in (k + 1) (body list)) ≡ A ++ n ∷ [] =
-        ap (answers z o) more ∙ answers-last z o es e ∙ ap (λ n. A ++ n ∷ []) (sym (worked .number-is)) in
+        let along : event-answers z o (events-in (k + 1) (body list)) ≡ A ++ n ∷ [] =
+        ap (event-answers z o) more ∙ answers-last z o es e ∙ ap (λ n. A ++ n ∷ []) (sym (worked .number-is)) in
         let reached : played-to list (L₀ .memory) (k + 1) ≡ _ = ap (ended z) more ∙ after-last z o es e in
         let long : length A ≡ k = length-answers z o es ∙ length-events k (body list) in
         record {
@@ -292,7 +292,7 @@ module _ {list : List ℕ} {L₀ : Lent} {count : ℕ} {L : Lent} {members : Lis
             G .said ∙ ap (λ n. answers-to list (L₀ .memory) n ++ drop n (L₀ .answers)) e ∙
             ap (λ n. answers-to list (L₀ .memory) last ++ drop n (L₀ .answers)) (sym long);
         store-is = R .shared .messages ∙ ap (λ n. stored n (end .sent)) (G .store-long);
-        table-is = R .slot .nodes-are ∙ ap (λ n. table n (tree z end)) (G .table-long);
+        table-is = R .slot .nodes-are ∙ ap (λ n. table n (made-tree z end)) (G .table-long);
         accepted-is = G .counted ∙ ap (λ n. zeros (answers-to list (L₀ .memory) n)) e;
         messages-are = R .shared .sent-count;
         proposals-made = R .slot .proposed;

@@ -10,9 +10,9 @@ use Rattle.numbers.specs.Numbers.{OK, TABLE-LENGTH, LIST-FORM, OFFICE-SIZE, STO
 use Rattle.tree_theory.specs.Machine.{fresh}
 use Rattle.tree_theory.specs.Table.{rows, sized, nodes, table}
 use Rattle.member_record.specs.Record.{allowed}
-use Rattle.model.specs.Model.{Sizes, Event, first-office, answers, proposals}
+use Rattle.model.specs.Model.{Sizes, Event, first-office, event-answers, proposals}
 use Rattle.model.specs.Demand.{Demand, ended}
-use Rattle.model.specs.Counts.{tree, zeros, decisions, committed-nodes}
+use Rattle.model.specs.Counts.{made-tree, zeros, decisions, committed-nodes}
 use Rattle.play_events.specs.List.{members-of, count-of, list-fits, events-of}
 use Rattle.play_store.specs.Rows.{store-rows, store-sized, stored}
 use Rattle.play_effects.specs.Memory.{Memory}
@@ -47,13 +47,13 @@ one number = cond (eqb number OK) 1 0
 pub record PlayedEvents (z : Sizes) (es : List Event) (L : Lent) (r : PlayAnswer) (L′ : Lent) : Type 0 where
   pub number-ok : r .number ≡ OK
   -- one answer byte per event, as the model answers; bytes past the count stay
-  pub answers-are : L′ .answers ≡ answers z (first-office (z .n)) es ++ drop (length es) (L .answers)
+  pub answers-are : L′ .answers ≡ event-answers z (first-office (z .n)) es ++ drop (length es) (L .answers)
   -- message k at the front of row k, zeros after
   pub store-is : L′ .memory .store ≡ stored (length (L .memory .store)) (ended z es .sent)
   -- the tree that the model's proposals and decisions make, in every row
-  pub table-is : L′ .memory .table ≡ table (length (L .memory .table)) (tree z (ended z es))
+  pub table-is : L′ .memory .table ≡ table (length (L .memory .table)) (made-tree z (ended z es))
   -- accepted is the zeros among the answers, messages the rows used
-  pub accepted-is : r .accepted ≡ zeros (answers z (first-office (z .n)) es)
+  pub accepted-is : r .accepted ≡ zeros (event-answers z (first-office (z .n)) es)
   pub messages-are : r .messages ≡ length (ended z es .sent)
   pub proposals-made : r .proposals ≡ proposals (ended z es .made)
   pub decisions-made : r .decisions ≡ decisions (ended z es .made)

@@ -22,8 +22,8 @@ use Rattle.member.specs.Answers.{answer-outcome, step-outcome}
 use Rattle.member.specs.Kept.{Kept}
 use Rattle.member.specs.Table.{Outcome, refused, sends, silent, nothing, proposal, decision}
 use Rattle.member.proofs.Keeping.{step-kept}
-use Rattle.model.specs.Model.{Sizes, Event, Office, at-member, event-of, member-at, sends-one, outcome, proposals, taken}
-use Rattle.model.specs.Counts.{tree, decisions}
+use Rattle.model.specs.Model.{Sizes, Event, Office, at-member, event-of, member-at, sends-one, event-outcome, proposals, taken}
+use Rattle.model.specs.Counts.{made-tree, decisions}
 use Rattle.model.proofs.Kept.{step-is-sound, event-fits}
 use Rattle.model.proofs.Tree.{tree-nothing, tree-proposal, tree-decision}
 use Rattle.play_store.specs.Rows.{store-rows, stored, put-row}
@@ -70,7 +70,7 @@ pub answers-proposed : (m : MemberState) {a : StepAnswer} {g : Message} {r : Rou
 answers-proposed m {a} {g} q = subst (λ d. g ∈ answer-outcome m d .sent) (sym q) (here refl)
 
 -- what the model's step names
-named-by : {z : Sizes} {o : Office} {e : Event} {i : ℕ} {u : Outcome} → ModelStep z o e i u → outcome z o e .named ≡ u .named
+named-by : {z : Sizes} {o : Office} {e : Event} {i : ℕ} {u : Outcome} → ModelStep z o e i u → event-outcome z o e .named ≡ u .named
 named-by T = ap (λ (u : Outcome). u .named) (sym (T .equals))
 
 nothing-more : (t : Tally) → counted t 0 0 0 ≡ t
@@ -82,7 +82,7 @@ module _ {t : Tally} {M : Memory} (B : StepBefore t M) where
   same-messages = B .represents .shared .messages ∙ ap (stored (length (M .store))) (sym (append-nil (B .o .sent)))
 
   -- the table as it was holds the tree, if nothing is named
-  same-nodes : (e : Event) → outcome (B .z) (B .o) e .named ≡ nothing → M .table ≡ table (length (M .table)) (tree (B .z) (taken (B .z) (B .o) e))
+  same-nodes : (e : Event) → event-outcome (B .z) (B .o) e .named ≡ nothing → M .table ≡ table (length (M .table)) (made-tree (B .z) (taken (B .z) (B .o) e))
   same-nodes e q = B .represents .slot .nodes-are ∙ ap (table (length (M .table))) (sym (tree-nothing (B .z) (B .o) e q))
 
   -- a row of the store is free
@@ -98,9 +98,9 @@ module _ {t : Tally} {M : Memory} (B : StepBefore t M) where
 
   -- the tree's step on the table is the machine's on the model's tree
   stepped : (c : Call) (ws′ : List ℕ) → ws′ ≡ stepped-table true (M .table) c → length ws′ ≡ length (M .table) →
-      ws′ ≡ table (length ws′) (step true (B .z .table) (tree (B .z) (B .o)) c)
+      ws′ ≡ table (length ws′) (step true (B .z .table) (made-tree (B .z) (B .o)) c)
   stepped c ws′ q l =
-      let ns = tree (B .z) (B .o) in
+      let ns = made-tree (B .z) (B .o) in
       q ∙ ap (λ ks. table (length (M .table)) (step true (rows (M .table)) ks c)) (nodes-held B) ∙
       ap (λ n. table (length (M .table)) (step true n ns c)) (sym (B .sizes .table-is)) ∙ ap (λ n. table n (step true (B .z .table) ns c)) (sym l)
 

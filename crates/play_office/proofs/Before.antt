@@ -21,7 +21,7 @@ use Rattle.member_record.specs.Record.{allowed}
 use Rattle.member_record.specs.Record.{fresh-record as fresh-member}
 use Rattle.model.specs.Model.{member-at, member-number}
 use Rattle.model.specs.Demand.{calls}
-use Rattle.model.specs.Counts.{tree, committed-nodes}
+use Rattle.model.specs.Counts.{made-tree, committed-nodes}
 use Rattle.model.proofs.Tree.{nodes-counted, committed-counted}
 use Rattle.play_store.specs.Rows.{row-length, most-rows, store-rows, store-sized}
 use Rattle.play_effects.specs.declared.Tally.{Tally}
@@ -68,12 +68,12 @@ module _ {t : Tally} {M : Memory} (B : StepBefore t M) where
   rows-lent = rw (B .sizes .table-is) (sized-rows (M .table) (B .sizes .table-length))
 
   -- the table holds the model's tree
-  grown : Grown true (rows (M .table)) (tree (B .z) (B .o))
+  grown : Grown true (rows (M .table)) (made-tree (B .z) (B .o))
   grown = rw (← (B .sizes .table-is)) (all-grown true (B .z .table) (calls (B .o .made)))
 
-  pub nodes-held : nodes (M .table) ≡ tree (B .z) (B .o)
+  pub nodes-held : nodes (M .table) ≡ made-tree (B .z) (B .o)
   nodes-held =
-      let ns = tree (B .z) (B .o) in
+      let ns = made-tree (B .z) (B .o) in
       ap nodes (B .represents .slot .nodes-are) ∙
       nodes-table (length (M .table)) ns (grown-fit true (M .table) ns (B .sizes .table-length) grown) (grown-stated true (rows (M .table)) ns grown)
 
@@ -85,7 +85,7 @@ module _ {t : Tally} {M : Memory} (B : StepBefore t M) where
       subst (Tree true) (sym is) (written-tree true (M .table) made (B .sizes .table-length))
 
   -- the counts fit
-  length-tree : length (tree (B .z) (B .o)) ≤ 256
+  length-tree : length (made-tree (B .z) (B .o)) ≤ 256
   length-tree = omega (arith, grown .fit (sized-rows (M .table) (B .sizes .table-length)), rows-most (M .table) (B .sizes .table-length))
 
   pub sent-few : t .sent ≤ most-rows
@@ -100,7 +100,7 @@ module _ {t : Tally} {M : Memory} (B : StepBefore t M) where
         arith,
         B .represents .slot .decided,
         committed-counted (B .z) (B .o) (B .sound .all-ok) rows-lent,
-        committed-few (tree (B .z) (B .o)),
+        committed-few (made-tree (B .z) (B .o)),
         length-tree,
       )
 

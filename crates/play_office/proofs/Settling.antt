@@ -13,8 +13,8 @@ use Rattle.numbers.specs.Numbers.{TABLE-FULL, STORE-FULL, no-row-left}
 use Rattle.tree_theory.specs.Table.{table}
 use Rattle.member_record.specs.declared.MemberState.{MemberState}
 use Rattle.member.specs.Table.{Outcome}
-use Rattle.model.specs.Model.{Sizes, Event, Office, at-member, sends-one, proposes-one, proposals, event-causes, answer, made-by, taken, next}
-use Rattle.model.specs.Counts.{tree, decisions}
+use Rattle.model.specs.Model.{Sizes, Event, Office, at-member, sends-one, proposes-one, proposals, event-causes, event-answer, made-by, taken, next}
+use Rattle.model.specs.Counts.{made-tree, decisions}
 use Rattle.model.proofs.Made.{proposals-append, decisions-append}
 use Rattle.play_store.specs.Rows.{stored}
 use Rattle.play_effects.specs.declared.AfterEvent.{AfterEvent}
@@ -31,32 +31,32 @@ set-same (x ∷ ms) (suc i) m h = ap (λ l. x ∷ l) (set-same ms i m (record { 
 
 module _ {z : Sizes} {o : Office} {e : Event} {i : ℕ} {u : Outcome} (T : ModelStep z o e i u) where
   -- the event's number is the step's, or 30, or 9
-  number : answer z o e ≡
+  number : event-answer z o e ≡
       first
       (not (eqb (u .number) 0) gives (u .number) ∷
       (sends-one (u .sent) && no-row-left (z .store) (length (o .sent))) gives STORE-FULL ∷
       (proposes-one (u .named) && no-row-left (z .table) (suc (proposals (o .made)))) gives TABLE-FULL ∷ [])
-  unfolding answer event-causes
+  unfolding event-answer event-causes
   number = rw (lt-leb (z .n) (at-member e) (T .member), T .there, T .equals) refl
 
-  pub refused-step : (u .number ≡ 0 → ⊥) → answer z o e ≡ u .number
+  pub refused-step : (u .number ≡ 0 → ⊥) → event-answer z o e ≡ u .number
   refused-step n = number ∙ rw (ne-eqb (u .number) 0 n) refl
 
   module _ (ok : u .number ≡ 0) where
-    pub no-store-row : sends-one (u .sent) ≡ true → z .store ≤ length (o .sent) → answer z o e ≡ STORE-FULL
+    pub no-store-row : sends-one (u .sent) ≡ true → z .store ≤ length (o .sent) → event-answer z o e ≡ STORE-FULL
     no-store-row s f = number ∙ rw (ok, s, le-leb (z .store) (length (o .sent)) f) refl
 
-    pub silent-one : sends-one (u .sent) ≡ false → proposes-one (u .named) ≡ false → answer z o e ≡ 0
+    pub silent-one : sends-one (u .sent) ≡ false → proposes-one (u .named) ≡ false → event-answer z o e ≡ 0
     silent-one s p = number ∙ rw (ok, s, p) refl
 
     module _ (s : sends-one (u .sent) ≡ true) (f : length (o .sent) < z .store) where
-      pub no-table-row : proposes-one (u .named) ≡ true → z .table ≤ suc (proposals (o .made)) → answer z o e ≡ TABLE-FULL
+      pub no-table-row : proposes-one (u .named) ≡ true → z .table ≤ suc (proposals (o .made)) → event-answer z o e ≡ TABLE-FULL
       no-table-row p r = number ∙ rw (ok, s, lt-leb (z .store) (length (o .sent)) f, p, le-leb (z .table) (suc (proposals (o .made))) r) refl
 
-      pub sent-one : proposes-one (u .named) ≡ false → answer z o e ≡ 0
+      pub sent-one : proposes-one (u .named) ≡ false → event-answer z o e ≡ 0
       sent-one p = number ∙ rw (ok, s, lt-leb (z .store) (length (o .sent)) f, p) refl
 
-      pub proposed-one : proposes-one (u .named) ≡ true → suc (proposals (o .made)) < z .table → answer z o e ≡ 0
+      pub proposed-one : proposes-one (u .named) ≡ true → suc (proposals (o .made)) < z .table → event-answer z o e ≡ 0
       proposed-one p r = number ∙ rw (ok, s, lt-leb (z .store) (length (o .sent)) f, p, lt-leb (z .table) (suc (proposals (o .made))) r) refl
 
 module _ {t : Tally} {M : Memory} (B : StepBefore t M) {e : Event} {i : ℕ} where
@@ -65,25 +65,25 @@ module _ {t : Tally} {M : Memory} (B : StepBefore t M) {e : Event} {i : ℕ} whe
   as-result {M′} w q A = subst (λ (v : AfterEvent). StepAfter B e i v M′) (sym q) A
 
   -- a refused event changes nothing, and its record is put back
-  pub refused-after : {m : MemberState} {number : ℕ} → RecordAt (B .members) i m → answer (B .z) (B .o) e ≡ number → (number ≡ 0 → ⊥) → number < 256 →
+  pub refused-after : {m : MemberState} {number : ℕ} → RecordAt (B .members) i m → event-answer (B .z) (B .o) e ≡ number → (number ≡ 0 → ⊥) → number < 256 →
       StepAfter B e i (refused-event m t number) M
   unfolding next
   refused-after {m} H a n small =
-      let r : eqb (answer (B .z) (B .o) e) 0 ≡ false = ne-eqb (answer (B .z) (B .o) e) 0 (λ q. n (sym a ∙ q)) in
+      let r : eqb (event-answer (B .z) (B .o) e) 0 ≡ false = ne-eqb (event-answer (B .z) (B .o) e) 0 (λ q. n (sym a ∙ q)) in
       record { number-is = sym a; small = small; represents = rw (r, set-same (B .members) i m H) (B .represents) }
 
   -- an accepted one takes its step
-  pub accepted-after : {u : Outcome} (M′ : Memory) (a b c : ℕ) → ModelStep (B .z) (B .o) e i u → answer (B .z) (B .o) e ≡ 0 →
+  pub accepted-after : {u : Outcome} (M′ : Memory) (a b c : ℕ) → ModelStep (B .z) (B .o) e i u → event-answer (B .z) (B .o) e ≡ 0 →
       length (u .sent) ≡ a → proposals (made-by (u .named)) ≡ b → decisions (made-by (u .named)) ≡ c →
       M′ .store ≡ stored (length (M′ .store)) (B .o .sent ++ u .sent) →
-      M′ .table ≡ table (length (M′ .table)) (tree (B .z) (taken (B .z) (B .o) e)) →
+      M′ .table ≡ table (length (M′ .table)) (made-tree (B .z) (taken (B .z) (B .o) e)) →
       StepAfter B e i (accepted-event (u .state) (counted t a b c)) M′
   unfolding next taken
   accepted-after {u} M′ a b c T zero-answer ea eb ec es en =
       let z = B .z in
       let o = B .o in
       let R = B .represents in
-      let yes : eqb (answer z o e) 0 ≡ true = eq-eqb (answer z o e) 0 zero-answer in
+      let yes : eqb (event-answer z o e) 0 ≡ true = eq-eqb (event-answer z o e) 0 zero-answer in
       let R′ : Represents z (taken z o e) (counted t a b c) (set (B .members) i (u .state)) M′ =
       record {
         shared = record {

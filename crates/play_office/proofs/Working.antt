@@ -15,7 +15,7 @@ use Rattle.member.specs.Answers.{step-outcome}
 use Rattle.member.specs.Kept.{StepOf}
 use Rattle.member.specs.Table.{Outcome, sound-step}
 use Rattle.member.specs.Table.{MemberEvent, starts, delivers}
-use Rattle.model.specs.Model.{Event, start, deliver, at-member, unsent, absent, event-of, message-at, member-at, event-causes, answer}
+use Rattle.model.specs.Model.{Event, start, deliver, at-member, unsent, absent, event-of, message-at, member-at, event-causes, event-answer}
 use Rattle.model.proofs.Kept.{step-is-sound, message-in}
 use Rattle.play_store.specs.Rows.{HasRow, fetched}
 use Rattle.play_store.proofs.Stored.{fetch-stored}
@@ -29,7 +29,7 @@ use Rattle.play_office.proofs.Settling.{refused-after}
 module _ {t : Tally} {m : MemberState} {e : Event} {M : Memory} (E : EventBefore t m e M) where
   -- 29: no such member, or no such message
   pub no-such : absent (E .before .z) (E .before .o) e ≡ true → StepAfter (E .before) e (place-of (at-member e)) (refused-event m t NO-SUCH) M
-  unfolding answer event-causes
+  unfolding event-answer event-causes
   no-such h = refused-after (E .before) (E .record-at) (rw h refl) (λ q. omega arith) (omega arith)
 
   pub no-member : t .n ≤ at-member e → StepAfter (E .before) e (place-of (at-member e)) (refused-event m t NO-SUCH) M

@@ -10,8 +10,8 @@ use Rattle.message.specs.declared.Message.{Message}
 use Rattle.member_record.specs.declared.MemberState.{MemberState}
 use Rattle.member_record.specs.Record.{allowed}
 use Rattle.member.specs.Table.{Outcome}
-use Rattle.model.specs.Model.{Sizes, Event, Office, fresh-members, answer, next, outcome, at-member, unsent, proposals}
-use Rattle.model.specs.Counts.{tree, decisions}
+use Rattle.model.specs.Model.{Sizes, Event, Office, fresh-members, event-answer, next, event-outcome, at-member, unsent, proposals}
+use Rattle.model.specs.Counts.{made-tree, decisions}
 use Rattle.model.specs.Sound.{SoundOffice}
 use Rattle.play_store.specs.Rows.{store-rows, store-sized, stored}
 use Rattle.play_effects.specs.declared.AfterEvent.{AfterEvent}
@@ -53,7 +53,7 @@ pub record RepresentsSlot (z : Sizes) (o : Office) (t : Tally) (ms : List Member
   pub members : take (z .n) ms ≡ o .members
   pub proposed : t .proposals ≡ proposals (o .made)
   pub decided : t .decisions ≡ decisions (o .made)
-  pub nodes-are : ws ≡ table (length ws) (tree z o)
+  pub nodes-are : ws ≡ table (length ws) (made-tree z o)
 
 -- the memory represents the state o
 pub record Represents (z : Sizes) (o : Office) (t : Tally) (ms : List MemberState) (M : Memory) : Type 0 where
@@ -71,7 +71,7 @@ pub record StepBefore (t : Tally) (M : Memory) : Type 0 where
 
 -- after the step of the event e at the record of place i: the model's number, and the memory represents the model's next state
 pub record StepAfter {t : Tally} {M : Memory} (B : StepBefore t M) (e : Event) (i : ℕ) (w : AfterEvent) (M′ : Memory) : Type 0 where
-  pub number-is : w .number ≡ answer (B .z) (B .o) e
+  pub number-is : w .number ≡ event-answer (B .z) (B .o) e
   -- an answer byte holds it
   pub small : w .number < 256
   pub represents : Represents (B .z) (next (B .z) (B .o) e) (w .tally) (set (B .members) i (w .state)) M′
@@ -90,7 +90,7 @@ pub record ModelStep (z : Sizes) (o : Office) (e : Event) (i : ℕ) (u : Outcome
   pub at : i ≡ at-member e
   pub member : at-member e < z .n
   pub there : unsent o e ≡ false
-  pub equals : u ≡ outcome z o e
+  pub equals : u ≡ event-outcome z o e
 
 -- before a step is settled: it was taken by the member with record m, at some event, and comes to u
 pub record OutcomeBefore (t : Tally) (m : MemberState) (u : Outcome) (M : Memory) : Type 0 where
