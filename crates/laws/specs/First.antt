@@ -27,18 +27,18 @@ numbered [] = true
 numbered (c ∷ cs) = not (eqb (c .number) 0) && numbered cs
 
 -- no cause holds
-abbrev pub Passed : List Cause → Type 0
-Passed [] = Unit {0}
-Passed (c ∷ cs) = (c .holds ≡ false) × Passed cs
+abbrev pub AllPassed : List Cause → Type 0
+AllPassed [] = Unit {0}
+AllPassed (c ∷ cs) = (c .holds ≡ false) × AllPassed cs
 
 -- the answer is 0 exactly if no cause holds
-pub passed : (cs : List Cause) → numbered cs ≡ true → first cs ≡ 0 → Passed cs
+pub passed : (cs : List Cause) → numbered cs ≡ true → first cs ≡ 0 → AllPassed cs
 passed [] n h = tt
 passed (c ∷ cs) n h =
     by-test (c .holds)
     (λ t. let z : c .number ≡ 0 = rw t at h in clash (rw (eq-eqb (c .number) 0 z) at (and-left (not (eqb (c .number) 0)) (numbered cs) n)) refl)
     (λ t. (t, passed cs (and-right (not (eqb (c .number) 0)) (numbered cs) n) (rw t at h)))
 
-pub zero-of : (cs : List Cause) → Passed cs → first cs ≡ 0
+pub zero-of : (cs : List Cause) → AllPassed cs → first cs ≡ 0
 zero-of [] p = refl
 zero-of (c ∷ cs) p = rw (p .0) (zero-of cs (p .1))

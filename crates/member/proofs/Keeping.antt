@@ -10,7 +10,7 @@ use lib.ListN.{length, set, length-set}
 use lib.Dec.{ltb, leb, eqb}
 use Rattle.laws.specs.Tests.{tests, by-test, and-left, and-right, or-left, or-right}
 use Rattle.laws.specs.Lists.{_∈_}
-use Rattle.laws.specs.First.{first, Passed, passed}
+use Rattle.laws.specs.First.{first, AllPassed, passed}
 use Rattle.ids.specs.declared.Round.{Round}
 use Rattle.ids.specs.declared.Member.{Member}
 use Rattle.ids.specs.Ranges.{above-range, out-of-range, no-member}
@@ -44,7 +44,7 @@ own-head m r s range =
     let e : no-member (m .who .me .0) ≡ false = omega tests in
     rw (range, e)
 
-start-kept : (m : MemberState) (r : Round) (offer : ℕ) → SoundParts m → Passed (start-call-causes m r) → Kept (start-call-row m r offer)
+start-kept : (m : MemberState) (r : Round) (offer : ℕ) → SoundParts m → AllPassed (start-call-causes m r) → Kept (start-call-row m r offer)
 start-kept m r offer s (range, (leader, (higher, end))) =
     record {
       number-byte = omega arith;
@@ -65,7 +65,7 @@ start-kept m r offer s (range, (leader, (higher, end))) =
       sent-in-range = one-sent (Start r (m .who .me)) (own-head m r s range);
     }
 
-START-kept : (m : MemberState) (r : Round) (t : Member) → length (m .lead .flags) ≡ 7 → SoundParts m → out-of-range (r .0) ≡ false → Passed (START-causes m r t)
+START-kept : (m : MemberState) (r : Round) (t : Member) → length (m .lead .flags) ≡ 7 → SoundParts m → out-of-range (r .0) ≡ false → AllPassed (START-causes m r t)
     → Kept (START-row m r)
 START-kept m r t seven s range (leader, (higher, end)) =
     let v : SoundVotes (m .durable) = vote-parts (m .durable) (s .lasting) in
@@ -125,7 +125,7 @@ record Awaited (phase : ℕ) (m : MemberState) (r : Round) (t : Member) : Type 0
   range : out-of-range (r .0) ≡ false
   early : phase < DECIDED
   active : IDLE < phase
-  passes : Passed (count-causes phase m r t)
+  passes : AllPassed (count-causes phase m r t)
 
 module _ {phase : ℕ} {m : MemberState} {r : Round} {t : Member} (a : Awaited phase m r t) where
   awaited : awaits m phase r ≡ true

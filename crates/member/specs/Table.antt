@@ -6,7 +6,7 @@ use lib.Dec.{eqb}
 use Rattle.laws.specs.First.{Cause, _gives_, first}
 use Rattle.ids.specs.declared.Round.{Round}
 use Rattle.ids.specs.declared.Member.{Member}
-use Rattle.numbers.specs.Numbers.{NOT-SOUND, MESSAGE-FIELD}
+use Rattle.numbers.specs.Numbers.{RECORD-UNSOUND, MESSAGE-FIELD}
 use Rattle.message.specs.declared.Message.{Message}
 use Rattle.message.specs.declared.Message.the-variants.{Start, Join, JoinVoted, Propose, Vote}
 use Rattle.message.specs.Fields.{in-range}
@@ -123,8 +123,8 @@ fitting (delivers g) = in-range g
 
 -- the rows "record" and "message": 17 not sound; 16 a field of the message out of range
 abbrev pub unfit : MemberState → MemberEvent → List Cause
-unfit m (starts r offer) = not (sound m) gives NOT-SOUND ∷ []
-unfit m (delivers g) = not (sound m) gives NOT-SOUND ∷ not (in-range g) gives MESSAGE-FIELD ∷ []
+unfit m (starts r offer) = not (sound m) gives RECORD-UNSOUND ∷ []
+unfit m (delivers g) = not (sound m) gives RECORD-UNSOUND ∷ not (in-range g) gives MESSAGE-FIELD ∷ []
 
 -- the step of any record at any event
 unfoldable pub member-step : MemberState → MemberEvent → Outcome

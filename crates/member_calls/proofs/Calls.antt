@@ -9,7 +9,7 @@ use borrow.Author.Tests.{le-ltb, not-false}
 use Rattle.laws.specs.Tests.{tests, by-test}
 use Rattle.laws.specs.First.{Cause, first, passed}
 use Rattle.message.specs.declared.Message.{Message}
-use Rattle.message.specs.Layout.{longest}
+use Rattle.message.specs.Layout.{longest-message}
 use Rattle.message.specs.declared.Read.the-variants.{Got, Refused}
 use Rattle.message.specs.Reading.{message-row, decoded, reading}
 use Rattle.message.proofs.RoundTrip.{refused-read, got}
@@ -20,7 +20,7 @@ use Rattle.member_calls.specs.Calls.{record-row, call-outcome, deliver-c
 
 -- the row's number, as the code has it
 module _ (m : MemberState) (old : List ℕ) (k : ℕ) (row : k ≡ first (record-row m (length old))) where
-  pub passing : k ≡ 0 → (sound m ≡ true) × (longest ≤ length old)
+  pub passing : k ≡ 0 → (sound m ≡ true) × (longest-message ≤ length old)
   passing z =
       let (is-sound, (room, end)) = passed (record-row m (length old)) refl (sym row ∙ z) in
       (not-false (sound m) is-sound, omega tests)
@@ -28,7 +28,7 @@ module _ (m : MemberState) (old : List ℕ) (k : ℕ) (row : k ≡ first (record
   pub refusing : (cs : List Cause) (o : Outcome) → (k ≡ 0 → ⊥) → call-outcome m old cs o ≡ refused k m
   refusing cs o nz =
       by-test (sound m)
-      (λ t. by-test (ltb (length old) longest)
+      (λ t. by-test (ltb (length old) longest-message)
       (λ s. rw (row, t, s))
       (λ s. absurd (nz (row ∙ rw (t, s)))))
       (λ t. rw (row, t))
@@ -36,7 +36,7 @@ module _ (m : MemberState) (old : List ℕ) (k : ℕ) (row : k ≡ first (record
   pub further : (cs : List Cause) (o : Outcome) → k ≡ 0 → call-outcome m old cs o ≡ unless cs m o
   further cs o z =
       let (is-sound, room) = passing z in
-      rw (is-sound, le-ltb (length old) longest room)
+      rw (is-sound, le-ltb (length old) longest-message room)
 
 module _ (m : MemberState) (s old : List ℕ) (k : ℕ) (row : k ≡ first (record-row m (length old))) (z : k ≡ 0) where
   -- bytes that are no message

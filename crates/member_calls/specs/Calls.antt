@@ -6,7 +6,7 @@ use lib.ListN.{length}
 use Rattle.laws.specs.First.{Cause, _gives_}
 use Rattle.ids.specs.declared.Round.{Round}
 use Rattle.ids.specs.declared.Member.{Member}
-use Rattle.numbers.specs.Numbers.{NOT-SOUND, REPLY-SHORT}
+use Rattle.numbers.specs.Numbers.{RECORD-UNSOUND, REPLY-TOO-SHORT}
 use Rattle.message.specs.Reading.{decoded, message-row}
 use Rattle.message.specs.Writing.{short-buffer}
 use Rattle.member_record.specs.declared.MemberState.{MemberState}
@@ -15,7 +15,7 @@ use Rattle.member.specs.Table.{Outcome, unless, silent, starts, delivers, sound
 
 -- 17 not sound; 18 a reply buffer of n bytes has no room for the longest message
 abbrev pub record-row : MemberState → ℕ → List Cause
-record-row m n = not (sound m) gives NOT-SOUND ∷ short-buffer n gives REPLY-SHORT ∷ []
+record-row m n = not (sound m) gives RECORD-UNSOUND ∷ short-buffer n gives REPLY-TOO-SHORT ∷ []
 
 -- a call with this reply buffer: that row, then further causes; else the step
 abbrev pub call-outcome : MemberState → List ℕ → List Cause → Outcome → Outcome
@@ -31,4 +31,4 @@ deliver-call m s old = call-outcome m old (message-row s) (sound-step m (deliver
 
 -- fresh: 17 number or N, and the record stays
 unfoldable pub fresh-call : MemberState → Member → ℕ → Outcome
-fresh-call m me n = unless (not (sound-number me n) gives NOT-SOUND ∷ []) m (silent (fresh-record me n))
+fresh-call m me n = unless (not (sound-number me n) gives RECORD-UNSOUND ∷ []) m (silent (fresh-record me n))

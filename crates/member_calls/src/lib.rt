@@ -24,7 +24,7 @@ pub fn fresh_into(m: MemberState, me: Member, n: u32) -> AfterCall
 {
     let fresh = fresh_record(me, n);
     if !number_sound(me, n) {
-        return refuse(m, numbers::NOT_SOUND);
+        return refuse(m, numbers::RECORD_UNSOUND);
     }
     give(fresh, numbers::OK, 0, Round(0), 0, Round(0))
 }
@@ -36,10 +36,10 @@ fn record_number(m: MemberState, room: usize) -> u32
     let unsound = !is_sound(m);
     let short = room < LONGEST;
     if unsound {
-        return numbers::NOT_SOUND;
+        return numbers::RECORD_UNSOUND;
     }
     if short {
-        return numbers::REPLY_SHORT;
+        return numbers::REPLY_TOO_SHORT;
     }
     numbers::OK
 }

@@ -10,7 +10,7 @@ ghost use mathlib.Core.List.{[], _∷_};
 ghost use Prim.Native.Nat.{_≤_};
 ghost use lib.ListN.{length};
 ghost use Rattle.message.specs.Fields.{in-range};
-ghost use Rattle.message.specs.Layout.{longest};
+ghost use Rattle.message.specs.Layout.{longest-message};
 ghost use Rattle.member.specs.Table.{refused};
 ghost use Rattle.member.specs.Answers.{step-outcome};
 ghost use Rattle.member.specs.Kept.{Kept};
@@ -66,7 +66,7 @@ pub fn give(
 
 // Puts a message at the front of the reply, and answers its length.
 fn send(g: Message, reply: &mut [u8]) -> usize
-    requires { ⌜ (longest ≤ length (now reply)) × (in-range g ≡ true) ⌝ }
+    requires { ⌜ (longest-message ≤ length (now reply)) × (in-range g ≡ true) ⌝ }
     ensures { λ n. ⌜ (n ≡ reply-length (g ∷ [])) × (now (reply .exit) ≡ reply-after (g ∷ []) (now (reply .entry))) ⌝ }
 {
     let w = message_writer::write_message(g, reply);
@@ -75,7 +75,7 @@ fn send(g: Message, reply: &mut [u8]) -> usize
 
 // The result of a step, and what it sends.
 pub fn tell(s: MemberStep, reply: &mut [u8]) -> AfterCall
-    requires { ⌜ (longest ≤ length (now reply)) × Kept (step-outcome s) ⌝ }
+    requires { ⌜ (longest-message ≤ length (now reply)) × Kept (step-outcome s) ⌝ }
     ensures { λ c. ⌜ LeavesReply (step-outcome s) (now (reply .entry)) (c .state) (c .report) (now (reply .exit)) ⌝ }
 {
     let m = s.state;

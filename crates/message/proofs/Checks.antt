@@ -14,9 +14,9 @@ use Rattle.numbers.specs.Numbers.{MESSAGE-LENGTH, MESSAGE-FIELD}
 use Rattle.message.specs.declared.Read.the-variants.{Refused}
 use Rattle.message.specs.Fields.{in-range}
 use Rattle.message.specs.Reading.{is-join, untold, no-kind, wrong-length, wrong-presence, inexact, size, decoded, ranged, reading}
-use Rattle.message.specs.Layout.{START-KIND, JOIN-KIND, PROPOSE-KIND, VOTE-KIND, kind-at, presence-at, kind-end, head-length, join-length}
+use Rattle.message.specs.Layout.{START-KIND, JOIN-KIND, PROPOSE-KIND, VOTE-KIND, kind-place, presence-place, kind-end, head-length, join-length}
 use Rattle.message.specs.Layout.{join-voted-length}
-use Rattle.message.specs.Layout.{propose-length, longest, byte-count, kind-in, round-of, sender-of, presence-in, voted-of, voted-value-in, proposed-in}
+use Rattle.message.specs.Layout.{propose-length, longest-message, byte-count, kind-in, message-round, message-sender, presence-in, message-voted, voted-value-in, proposed-in}
 use Rattle.message.specs.declared.Message.{Message}
 use Rattle.message.specs.declared.Message.the-variants.{Start, Join, JoinVoted, Propose, Vote}
 
@@ -27,7 +27,7 @@ count-least (JoinVoted r s q w) = lit≤ tt
 count-least (Propose r s v) = lit≤ tt
 count-least (Vote r s) = lit≤ tt
 
-pub count-most : (m : Message) → byte-count m ≤ longest
+pub count-most : (m : Message) → byte-count m ≤ longest-message
 count-most (Start r s) = lit≤ tt
 count-most (Join r s) = lit≤ tt
 count-most (JoinVoted r s q w) = lit≤ tt
@@ -35,23 +35,23 @@ count-most (Propose r s v) = lit≤ tt
 count-most (Vote r s) = lit≤ tt
 
 module _ (s : List ℕ) where
-  pub decoded-start : kind-in s ≡ START-KIND → decoded s ≡ Start (round-of s) (sender-of s)
+  pub decoded-start : kind-in s ≡ START-KIND → decoded s ≡ Start (message-round s) (message-sender s)
   unfolding decoded
   decoded-start k = rw k
 
-  pub decoded-join : kind-in s ≡ JOIN-KIND → presence-in s ≡ 0 → decoded s ≡ Join (round-of s) (sender-of s)
+  pub decoded-join : kind-in s ≡ JOIN-KIND → presence-in s ≡ 0 → decoded s ≡ Join (message-round s) (message-sender s)
   unfolding decoded
   decoded-join k p = rw (k, p)
 
-  pub decoded-join-voted : kind-in s ≡ JOIN-KIND → presence-in s ≡ 1 → decoded s ≡ JoinVoted (round-of s) (sender-of s) (voted-of s) (voted-value-in s)
+  pub decoded-join-voted : kind-in s ≡ JOIN-KIND → presence-in s ≡ 1 → decoded s ≡ JoinVoted (message-round s) (message-sender s) (message-voted s) (voted-value-in s)
   unfolding decoded
   decoded-join-voted k p = rw (k, p)
 
-  pub decoded-propose : kind-in s ≡ PROPOSE-KIND → decoded s ≡ Propose (round-of s) (sender-of s) (proposed-in s)
+  pub decoded-propose : kind-in s ≡ PROPOSE-KIND → decoded s ≡ Propose (message-round s) (message-sender s) (proposed-in s)
   unfolding decoded
   decoded-propose k = rw k
 
-  pub decoded-vote : kind-in s ≡ VOTE-KIND → decoded s ≡ Vote (round-of s) (sender-of s)
+  pub decoded-vote : kind-in s ≡ VOTE-KIND → decoded s ≡ Vote (message-round s) (message-sender s)
   unfolding decoded
   decoded-vote k = rw k
 
@@ -77,7 +77,7 @@ module _ (s : List ℕ) where
   unfolding size
   size-least = count-least (decoded s)
 
-  pub size-most : size s ≤ longest
+  pub size-most : size s ≤ longest-message
   unfolding size
   size-most = count-most (decoded s)
 
@@ -89,13 +89,13 @@ module _ (s : List ℕ) where
   pub size-front : (behind : List ℕ) → kind-end ≤ length s → (kind-in s ≡ JOIN-KIND → join-length ≤ length s) → size (s ++ behind) ≡ size s
   unfolding size decoded
   size-front behind l room =
-      let first = word-at-front s behind kind-at l in
+      let first = word-at-front s behind kind-place l in
       by-test (eqb (kind-in s) START-KIND)
       (λ k. rw (first, k) refl)
       (λ k.
       by-test (eqb (kind-in s) JOIN-KIND)
       (λ j.
-      let second = word-at-front s behind presence-at (room (eqb-true (kind-in s) JOIN-KIND j)) in
+      let second = word-at-front s behind presence-place (room (eqb-true (kind-in s) JOIN-KIND j)) in
       by-test (eqb (presence-in s) 1)
       (λ p. rw (first, second, k, j, p) refl)
       (λ p. rw (first, second, k, j, p) refl))
@@ -151,5 +151,5 @@ own-length s h =
     let both : front ++ behind ≡ s = take-append-drop (size s) s in
     let long : length front ≡ size s = length-take-le (size s) s h in
     let least : head-length ≤ length front = omega (arith, size-least s) in
-    let same : kind-in s ≡ kind-in front = sym (ap kind-in both) ∙ word-at-front front behind kind-at (omega arith) in
+    let same : kind-in s ≡ kind-in front = sym (ap kind-in both) ∙ word-at-front front behind kind-place (omega arith) in
     long ∙ sym (ap size both) ∙ size-front front behind (omega arith) (λ k. omega (arith, size-join-least s (same ∙ k)))

@@ -17,7 +17,7 @@ use Rattle.laws.specs.Answers.{number-kept}
 use Rattle.ids.specs.declared.Round.{Round}
 use Rattle.ids.specs.declared.Member.{Member}
 use Rattle.ids.specs.Ranges.{out-of-range, above-range, no-member}
-use Rattle.xdr.specs.Words.{Bytes, word-at, hyper-at}
+use Rattle.xdr.specs.Words.{AllBytes, word-at, hyper-at}
 use Rattle.xdr.specs.Items.{Item, integer, long, encoded, Stand}
 use Rattle.xdr.proofs.Laws.{hyper-at-small}
 use Rattle.xdr.proofs.Items.{length-encoded, integer-found, long-found, stands}
@@ -26,9 +26,9 @@ use Rattle.message.specs.declared.Message.the-variants.{Start, Join, Joi
 use Rattle.message.specs.declared.Read.{Read}
 use Rattle.message.specs.declared.Read.the-variants.{Got, Refused}
 use Rattle.message.specs.Fields.{head-in-range, vote-in-range, in-range}
-use Rattle.message.specs.Layout.{START-KIND, JOIN-KIND, PROPOSE-KIND, VOTE-KIND, head, layout, bytes, kind-at, round-at, sender-at, presence-at, voted-at}
-use Rattle.message.specs.Layout.{voted-value-at, proposed-at, join-voted-length, propose-length, longest, byte-count, kind-in, round-of, sender-of}
-use Rattle.message.specs.Layout.{presence-in, voted-of, voted-value-in, proposed-in, ValueFits}
+use Rattle.message.specs.Layout.{START-KIND, JOIN-KIND, PROPOSE-KIND, VOTE-KIND, head, layout, bytes, kind-place, round-place, sender-place, presence-place, voted-place}
+use Rattle.message.specs.Layout.{voted-value-place, proposed-place, join-voted-length, propose-length, longest-message, byte-count, kind-in, message-round, message-sender}
+use Rattle.message.specs.Layout.{presence-in, message-voted, voted-value-in, proposed-in, ValueFits}
 use Rattle.message.specs.Reading.{is-join, size, decoded, message-row, read-answer, read-number, reading, ReaderGives}
 use Rattle.message.specs.Writing.{writer-row, writing, buffer-after, in-front}
 use Rattle.message.proofs.Checks.{Known, right-size, size-least, size-front, size-join-least, size-join, size-join-voted, size-propose, size-other}
@@ -65,14 +65,14 @@ length-bytes (Vote r s) = length-encoded (layout (Vote r s))
 -- what every message starts with is found, whatever comes after
 module _ (k : ℕ) (r : Round) (s : Member) (small : k ≤ VOTE-KIND) (h : head-in-range r s ≡ true) (js : List Item) where
   kind-found : kind-in (encoded (head k r s ++ js)) ≡ k
-  kind-found = integer-found [] (integer (r .0) ∷ integer (s .0) ∷ js) k kind-at (length-encoded []) (omega arith)
+  kind-found = integer-found [] (integer (r .0) ∷ integer (s .0) ∷ js) k kind-place (length-encoded []) (omega arith)
 
-  round-found : round-of (encoded (head k r s ++ js)) ≡ r
-  round-found = ap (λ (x : ℕ). record { 0 = x }) (integer-found (integer k ∷ []) (integer (s .0) ∷ js) (r .0) round-at (length-encoded (integer k ∷ []))
+  round-found : message-round (encoded (head k r s ++ js)) ≡ r
+  round-found = ap (λ (x : ℕ). record { 0 = x }) (integer-found (integer k ∷ []) (integer (s .0) ∷ js) (r .0) round-place (length-encoded (integer k ∷ []))
       (round-small r s h))
 
-  sender-found : sender-of (encoded (head k r s ++ js)) ≡ s
-  sender-found = ap (λ (x : ℕ). record { 0 = x }) (integer-found (integer k ∷ integer (r .0) ∷ []) js (s .0) sender-at
+  sender-found : message-sender (encoded (head k r s ++ js)) ≡ s
+  sender-found = ap (λ (x : ℕ). record { 0 = x }) (integer-found (integer k ∷ integer (r .0) ∷ []) js (s .0) sender-place
       (length-encoded (integer k ∷ integer (r .0) ∷ [])) (sender-small r s h))
 
 -- bytes of the length of their kind and presence
@@ -138,7 +138,7 @@ by-kind s w start join join-voted propose vote =
     (λ p. join-voted (eqb-true (kind-in s) JOIN-KIND j) (omega tests)))
     (λ j. by-test (eqb (kind-in s) PROPOSE-KIND) (λ p. propose (eqb-true (kind-in s) PROPOSE-KIND p)) (λ p. vote (omega tests))))
 
-module _ (s : List ℕ) (b : Bytes s) where
+module _ (s : List ℕ) (b : AllBytes s) where
   -- bytes in which the words of a message stand, and no more, are its bytes
   stood : (m : Message) → Stand s 0 (layout m) → length s ≡ byte-count m → s ≡ bytes m
   unfolding bytes
@@ -149,19 +149,19 @@ module _ (s : List ℕ) (b : Bytes s) where
   stood-read m w e =
       by-kind s w
       (λ k. rw (← e, decoded-start s k)
-      (stood (Start (round-of s) (sender-of s)) (k, (refl, (refl, tt))) (w .exact ∙ size-other s (λ z. omega arith) (λ z. omega arith)), tt))
+      (stood (Start (message-round s) (message-sender s)) (k, (refl, (refl, tt))) (w .exact ∙ size-other s (λ z. omega arith) (λ z. omega arith)), tt))
       (λ k p. rw (← e, decoded-join s k p)
-      (stood (Join (round-of s) (sender-of s)) (k, (refl, (refl, (p, tt)))) (w .exact ∙ size-join s k p), tt))
+      (stood (Join (message-round s) (message-sender s)) (k, (refl, (refl, (p, tt)))) (w .exact ∙ size-join s k p), tt))
       (λ k p. let l : length s ≡ join-voted-length = w .exact ∙ size-join-voted s k p in
       rw (← e, decoded-join-voted s k p) (
-        stood (JoinVoted (round-of s) (sender-of s) (voted-of s) (voted-value-in s)) (k, (refl, (refl, (p, (refl, (refl, tt)))))) l,
-        hyper-at-small voted-value-at s b,
+        stood (JoinVoted (message-round s) (message-sender s) (message-voted s) (voted-value-in s)) (k, (refl, (refl, (p, (refl, (refl, tt)))))) l,
+        hyper-at-small voted-value-place s b,
       ))
       (λ k. let l : length s ≡ propose-length = w .exact ∙ size-propose s k in
       rw (← e, decoded-propose s k)
-      (stood (Propose (round-of s) (sender-of s) (proposed-in s)) (k, (refl, (refl, (refl, tt)))) l, hyper-at-small proposed-at s b))
+      (stood (Propose (message-round s) (message-sender s) (proposed-in s)) (k, (refl, (refl, (refl, tt)))) l, hyper-at-small proposed-place s b))
       (λ k. rw (← e, decoded-vote s k)
-      (stood (Vote (round-of s) (sender-of s)) (k, (refl, (refl, tt))) (w .exact ∙ size-other s (λ z. omega arith) (λ z. omega arith)), tt))
+      (stood (Vote (message-round s) (message-sender s)) (k, (refl, (refl, tt))) (w .exact ∙ size-other s (λ z. omega arith) (λ z. omega arith)), tt))
 
   -- what is read is, byte for byte, what is written for that message, and in range
   pub only-written : (m : Message) → reading s ≡ Got m → (s ≡ bytes m) × ValueFits m × (in-range m ≡ true)
@@ -171,7 +171,7 @@ module _ (s : List ℕ) (b : Bytes s) where
       (same, held, r)
 
 -- no two byte strings read as one message
-pub one-reading : (s t : List ℕ) (m : Message) → Bytes s → Bytes t → reading s ≡ Got m → reading t ≡ Got m → s ≡ t
+pub one-reading : (s t : List ℕ) (m : Message) → AllBytes s → AllBytes t → reading s ≡ Got m → reading t ≡ Got m → s ≡ t
 one-reading s t m b c h k = only-written s b m h .0 ∙ sym (only-written t c m k .0)
 
 -- a message of a kind is whole
@@ -195,7 +195,7 @@ spelt (Join r s) v h =
     let l = bytes (Join r s) in
     let js = integer 0 ∷ [] in
     let k = kind-found JOIN-KIND r s (omega arith) h js in
-    let p : presence-in l ≡ 0 = integer-found (head JOIN-KIND r s) [] 0 presence-at (length-encoded (head JOIN-KIND r s)) (omega arith) in (
+    let p : presence-in l ≡ 0 = integer-found (head JOIN-KIND r s) [] 0 presence-place (length-encoded (head JOIN-KIND r s)) (omega arith) in (
       whole-join l (Join r s) (length-bytes (Join r s)) k (rw p (omega arith)) (size-join l k p),
       decoded-join l k p ∙ (λ i. Join (round-found JOIN-KIND r s (omega arith) h js i) (sender-found JOIN-KIND r s (omega arith) h js i)),
     )
@@ -206,12 +206,12 @@ spelt (JoinVoted r s q w) v h =
     let f : vote-in-range r q ≡ true = and-right (head-in-range r s) (vote-in-range r q) h in
     let below : ltb (q .0) (r .0) ≡ true = and-right (leb 1 (q .0)) (ltb (q .0) (r .0)) f in
     let k = kind-found JOIN-KIND r s (omega arith) g js in
-    let p : presence-in l ≡ 1 = integer-found (head JOIN-KIND r s) (integer (q .0) ∷ long w ∷ []) 1 presence-at (length-encoded (head JOIN-KIND r s))
+    let p : presence-in l ≡ 1 = integer-found (head JOIN-KIND r s) (integer (q .0) ∷ long w ∷ []) 1 presence-place (length-encoded (head JOIN-KIND r s))
     (omega arith) in
-    let y : word-at l voted-at ≡ q .0 =
-    integer-found (head JOIN-KIND r s ++ integer 1 ∷ []) (long w ∷ []) (q .0) voted-at (length-encoded (head JOIN-KIND r s ++ integer 1 ∷ []))
+    let y : word-at l voted-place ≡ q .0 =
+    integer-found (head JOIN-KIND r s ++ integer 1 ∷ []) (long w ∷ []) (q .0) voted-place (length-encoded (head JOIN-KIND r s ++ integer 1 ∷ []))
     (omega (tests, round-small r s g)) in
-    let z : hyper-at l voted-value-at ≡ w = long-found (head JOIN-KIND r s ++ integer 1 ∷ integer (q .0) ∷ []) [] w voted-value-at
+    let z : hyper-at l voted-value-place ≡ w = long-found (head JOIN-KIND r s ++ integer 1 ∷ integer (q .0) ∷ []) [] w voted-value-place
     (length-encoded (head JOIN-KIND r s ++ integer 1 ∷ integer (q .0) ∷ [])) v in (
       whole-join l (JoinVoted r s q w) (length-bytes (JoinVoted r s q w)) k (rw p (omega arith)) (size-join-voted l k p),
       decoded-join-voted l k p ∙ (λ i. JoinVoted (round-found JOIN-KIND r s (omega arith) g js i) (sender-found JOIN-KIND r s (omega arith) g js i)
@@ -221,7 +221,7 @@ spelt (Propose r s w) v h =
     let l = bytes (Propose r s w) in
     let js = long w ∷ [] in
     let k = kind-found PROPOSE-KIND r s (omega arith) h js in
-    let z : hyper-at l proposed-at ≡ w = long-found (head PROPOSE-KIND r s) [] w proposed-at (length-encoded (head PROPOSE-KIND r s)) v in (
+    let z : hyper-at l proposed-place ≡ w = long-found (head PROPOSE-KIND r s) [] w proposed-place (length-encoded (head PROPOSE-KIND r s)) v in (
       whole-other l (Propose r s w) (length-bytes (Propose r s w)) PROPOSE-KIND k (omega arith) (omega arith) refl (size-propose l k),
       decoded-propose l k ∙ (λ i. Propose (round-found PROPOSE-KIND r s (omega arith) h js i) (sender-found PROPOSE-KIND r s (omega arith) h js i) (z i)),
     )
@@ -246,17 +246,17 @@ spelt-front m behind v h =
     rw (own, take-at l behind (size l) exact) e
 
 -- a message in range passes the writer's row where the buffer has room for any
-fitting : (m : Message) (old : List ℕ) → longest ≤ length old → in-range m ≡ true → first (writer-row m old) ≡ 0
-fitting m old l h = rw (le-ltb (length old) longest l, h)
+fitting : (m : Message) (old : List ℕ) → longest-message ≤ length old → in-range m ≡ true → first (writer-row m old) ≡ 0
+fitting m old l h = rw (le-ltb (length old) longest-message l, h)
 
 -- it is written, with its own length
-pub in-range-written : (m : Message) (old : List ℕ) → longest ≤ length old → in-range m ≡ true →
+pub in-range-written : (m : Message) (old : List ℕ) → longest-message ≤ length old → in-range m ≡ true →
     writing m old ≡ record { number = 0; length = length (bytes m) }
 unfolding writing
 in-range-written m old l h = rw (fitting m old l h)
 
 -- and leaves itself at the front
-pub left-in-front : (m : Message) (old : List ℕ) → longest ≤ length old → in-range m ≡ true → buffer-after m old ≡ in-front m old
+pub left-in-front : (m : Message) (old : List ℕ) → longest-message ≤ length old → in-range m ≡ true → buffer-after m old ≡ in-front m old
 unfolding buffer-after
 left-in-front m old l h = rw (fitting m old l h)
 

@@ -38,50 +38,50 @@ unfolding layout
 bytes m = encoded (layout m)
 
 -- the place of each number
-abbrev pub kind-at : ℕ
-kind-at = 0
+abbrev pub kind-place : ℕ
+kind-place = 0
 
-abbrev pub round-at : ℕ
-round-at = kind-at + 4
+abbrev pub round-place : ℕ
+round-place = kind-place + 4
 
-abbrev pub sender-at : ℕ
-sender-at = round-at + 4
+abbrev pub sender-place : ℕ
+sender-place = round-place + 4
 
-abbrev pub presence-at : ℕ
-presence-at = sender-at + 4
+abbrev pub presence-place : ℕ
+presence-place = sender-place + 4
 
-abbrev pub voted-at : ℕ
-voted-at = presence-at + 4
+abbrev pub voted-place : ℕ
+voted-place = presence-place + 4
 
-abbrev pub voted-value-at : ℕ
-voted-value-at = voted-at + 4
+abbrev pub voted-value-place : ℕ
+voted-value-place = voted-place + 4
 
-abbrev pub proposed-at : ℕ
-proposed-at = sender-at + 4
+abbrev pub proposed-place : ℕ
+proposed-place = sender-place + 4
 
 -- where the kind ends: as many bytes tell it
 abbrev pub kind-end : ℕ
-kind-end = kind-at + 4
+kind-end = kind-place + 4
 
 -- the bytes of what every message starts with, which is all of a START and of a VOTE
 abbrev pub head-length : ℕ
-head-length = sender-at + 4
+head-length = sender-place + 4
 
 -- of a JOIN without a vote
 abbrev pub join-length : ℕ
-join-length = presence-at + 4
+join-length = presence-place + 4
 
 -- of a JOIN with a vote
 abbrev pub join-voted-length : ℕ
-join-voted-length = voted-value-at + 8
+join-voted-length = voted-value-place + 8
 
 -- of a PROPOSE
 abbrev pub propose-length : ℕ
-propose-length = proposed-at + 8
+propose-length = proposed-place + 8
 
 -- of the longest message
-abbrev pub longest : ℕ
-longest = join-voted-length
+abbrev pub longest-message : ℕ
+longest-message = join-voted-length
 
 -- how many bytes a message is
 abbrev pub byte-count : Message → ℕ
@@ -93,28 +93,28 @@ byte-count (Vote r s) = head-length
 
 -- the numbers that stand at these places
 abbrev pub kind-in : List ℕ → ℕ
-kind-in s = word-at s kind-at
+kind-in s = word-at s kind-place
 
 abbrev pub round-in : List ℕ → ℕ → Round
 round-in s at = record { 0 = word-at s at }
 
-abbrev pub round-of : List ℕ → Round
-round-of s = round-in s round-at
+abbrev pub message-round : List ℕ → Round
+message-round s = round-in s round-place
 
-abbrev pub sender-of : List ℕ → Member
-sender-of s = record { 0 = word-at s sender-at }
+abbrev pub message-sender : List ℕ → Member
+message-sender s = record { 0 = word-at s sender-place }
 
 abbrev pub presence-in : List ℕ → ℕ
-presence-in s = word-at s presence-at
+presence-in s = word-at s presence-place
 
-abbrev pub voted-of : List ℕ → Round
-voted-of s = round-in s voted-at
+abbrev pub message-voted : List ℕ → Round
+message-voted s = round-in s voted-place
 
 abbrev pub voted-value-in : List ℕ → ℕ
-voted-value-in s = hyper-at s voted-value-at
+voted-value-in s = hyper-at s voted-value-place
 
 abbrev pub proposed-in : List ℕ → ℕ
-proposed-in s = hyper-at s proposed-at
+proposed-in s = hyper-at s proposed-place
 
 -- a value is a 64-bit number, as its type in the code says
 abbrev pub ValueFits : Message → Type 0

@@ -13,7 +13,7 @@ use Rattle.message.specs.declared.Read.{Read}
 use Rattle.message.specs.declared.Read.the-variants.{Got, Refused}
 use Rattle.message.specs.Fields.{in-range}
 use Rattle.message.specs.Layout.{START-KIND, JOIN-KIND, PROPOSE-KIND, VOTE-KIND, kind-end, join-length, byte-count}
-use Rattle.message.specs.Layout.{kind-in, round-of, sender-of, presence-in, voted-of, voted-value-in, proposed-in}
+use Rattle.message.specs.Layout.{kind-in, message-round, message-sender, presence-in, message-voted, voted-value-in, proposed-in}
 
 -- 01's number of an answer: 0 is OK
 abbrev pub read-number : Read → ℕ
@@ -26,11 +26,11 @@ is-join s = eqb (kind-in s) JOIN-KIND
 -- the message that bytes of the length of their kind spell
 unfoldable pub decoded : List ℕ → Message
 decoded s =
-    cond (eqb (kind-in s) START-KIND) (Start (round-of s) (sender-of s))
+    cond (eqb (kind-in s) START-KIND) (Start (message-round s) (message-sender s))
     (cond (is-join s)
-    (cond (eqb (presence-in s) 1) (JoinVoted (round-of s) (sender-of s) (voted-of s) (voted-value-in s)) (Join (round-of s) (sender-of s)))
-    (cond (eqb (kind-in s) PROPOSE-KIND) (Propose (round-of s) (sender-of s) (proposed-in s))
-    (Vote (round-of s) (sender-of s))))
+    (cond (eqb (presence-in s) 1) (JoinVoted (message-round s) (message-sender s) (message-voted s) (voted-value-in s)) (Join (message-round s) (message-sender s)))
+    (cond (eqb (kind-in s) PROPOSE-KIND) (Propose (message-round s) (message-sender s) (proposed-in s))
+    (Vote (message-round s) (message-sender s))))
 
 -- the length of a message of this kind and presence
 unfoldable pub size : List ℕ → ℕ

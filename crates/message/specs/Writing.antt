@@ -6,19 +6,19 @@ use Prim.Native.Nat.{ℕ}
 use lib.ListN.{length, drop}
 use lib.Dec.{ltb, eqb}
 use Rattle.laws.specs.First.{Cause, _gives_, first}
-use Rattle.numbers.specs.Numbers.{REPLY-SHORT, MESSAGE-FIELD}
+use Rattle.numbers.specs.Numbers.{REPLY-TOO-SHORT, MESSAGE-FIELD}
 use Rattle.message.specs.declared.Message.{Message}
 use Rattle.message.specs.declared.Written.{Written}
 use Rattle.message.specs.Fields.{in-range}
-use Rattle.message.specs.Layout.{bytes, longest}
+use Rattle.message.specs.Layout.{bytes, longest-message}
 
 -- a buffer of n bytes has no room for the longest message
 abbrev pub short-buffer : ℕ → Bool
-short-buffer n = ltb n longest
+short-buffer n = ltb n longest-message
 
 -- the buffer's cause and then that of the fields
 abbrev pub writer-row : Message → List ℕ → List Cause
-writer-row m old = short-buffer (length old) gives REPLY-SHORT ∷ not (in-range m) gives MESSAGE-FIELD ∷ []
+writer-row m old = short-buffer (length old) gives REPLY-TOO-SHORT ∷ not (in-range m) gives MESSAGE-FIELD ∷ []
 
 -- the number; the length is that of the message, and 0 with a refusal
 unfoldable pub writing : Message → List ℕ → Written

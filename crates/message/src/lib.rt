@@ -53,32 +53,32 @@ pub const PROPOSE_KIND: u32 = 3;
 pub const VOTE_KIND: u32 = 4;
 
 // The places of a message's words.
-pub const KIND_AT: usize = 0;
+pub const KIND_PLACE: usize = 0;
 
-pub const ROUND_AT: usize = KIND_AT + 4;
+pub const ROUND_PLACE: usize = KIND_PLACE + 4;
 
-pub const SENDER_AT: usize = ROUND_AT + 4;
+pub const SENDER_PLACE: usize = ROUND_PLACE + 4;
 
-pub const PRESENCE_AT: usize = SENDER_AT + 4;
+pub const PRESENCE_PLACE: usize = SENDER_PLACE + 4;
 
-pub const VOTED_AT: usize = PRESENCE_AT + 4;
+pub const VOTED_PLACE: usize = PRESENCE_PLACE + 4;
 
-pub const VOTED_VALUE_AT: usize = VOTED_AT + 4;
+pub const VOTED_VALUE_PLACE: usize = VOTED_PLACE + 4;
 
-pub const PROPOSED_AT: usize = SENDER_AT + 4;
+pub const PROPOSED_PLACE: usize = SENDER_PLACE + 4;
 
 // Where the kind ends: as many bytes tell it.
-pub const KIND_END: usize = KIND_AT + 4;
+pub const KIND_END: usize = KIND_PLACE + 4;
 
 // The length of what every message starts with, which is all of a START and of a VOTE.
-pub const HEAD_LENGTH: usize = SENDER_AT + 4;
+pub const HEAD_LENGTH: usize = SENDER_PLACE + 4;
 
 // The length of a JOIN without a vote, with a vote, and of a PROPOSE.
-pub const JOIN_LENGTH: usize = PRESENCE_AT + 4;
+pub const JOIN_LENGTH: usize = PRESENCE_PLACE + 4;
 
-pub const JOIN_VOTED_LENGTH: usize = VOTED_VALUE_AT + 8;
+pub const JOIN_VOTED_LENGTH: usize = VOTED_VALUE_PLACE + 8;
 
-pub const PROPOSE_LENGTH: usize = PROPOSED_AT + 8;
+pub const PROPOSE_LENGTH: usize = PROPOSED_PLACE + 8;
 
 // The length of the longest message: what a reply buffer has room for.
 pub const LONGEST: usize = JOIN_VOTED_LENGTH;

@@ -5,20 +5,20 @@ use message::HEAD_LENGTH;
 use message::JOIN_KIND;
 use message::JOIN_LENGTH;
 use message::JOIN_VOTED_LENGTH;
-use message::KIND_AT;
+use message::KIND_PLACE;
 use message::KIND_END;
 use message::Message;
-use message::PRESENCE_AT;
+use message::PRESENCE_PLACE;
 use message::PROPOSE_KIND;
 use message::PROPOSE_LENGTH;
-use message::PROPOSED_AT;
-use message::ROUND_AT;
+use message::PROPOSED_PLACE;
+use message::ROUND_PLACE;
 use message::Read;
-use message::SENDER_AT;
+use message::SENDER_PLACE;
 use message::START_KIND;
 use message::VOTE_KIND;
-use message::VOTED_AT;
-use message::VOTED_VALUE_AT;
+use message::VOTED_PLACE;
+use message::VOTED_VALUE_PLACE;
 use numbers::MESSAGE_FIELD;
 use numbers::MESSAGE_KIND;
 use numbers::MESSAGE_LENGTH;
@@ -26,8 +26,8 @@ ghost use mathlib.Core.Path.{_≡_};
 ghost use Prim.Native.Nat.{_+_, _≤_};
 ghost use lib.ListN.{length, take};
 ghost use Rattle.message.specs.declared.Message.the-variants.{Start, Join, JoinVoted, Propose, Vote};
-ghost use Rattle.message.specs.Layout.{JOIN-KIND, VOTE-KIND, kind-end, head-length, join-voted-length, propose-length, longest};
-ghost use Rattle.message.specs.Layout.{kind-in, round-in, round-of, sender-of, voted-of, voted-value-in, proposed-in};
+ghost use Rattle.message.specs.Layout.{JOIN-KIND, VOTE-KIND, kind-end, head-length, join-voted-length, propose-length, longest-message};
+ghost use Rattle.message.specs.Layout.{kind-in, round-in, message-round, message-sender, message-voted, voted-value-in, proposed-in};
 ghost use Rattle.message.specs.Reading.{size, decoded, ranged, reading, ReaderGives};
 
 // The round at a place.
@@ -41,18 +41,18 @@ fn round_at(s: &[u8], at: usize) -> Round
 // The sender at its place.
 fn sender_of(s: &[u8]) -> Member
     requires { ⌜ head-length ≤ length (now s) ⌝ }
-    ensures { λ r. ⌜ r ≡ sender-of (now (s .entry)) ⌝ }
+    ensures { λ r. ⌜ r ≡ message-sender (now (s .entry)) ⌝ }
 {
-    Member(xdr::word_at(s, SENDER_AT))
+    Member(xdr::word_at(s, SENDER_PLACE))
 }
 
 // Bytes as a START.
 fn as_start(s: &[u8]) -> Message
     requires { ⌜ head-length ≤ length (now s) ⌝ }
-    ensures { λ m. ⌜ m ≡ Start (round-of (now (s .entry))) (sender-of (now (s .entry))) ⌝ }
+    ensures { λ m. ⌜ m ≡ Start (message-round (now (s .entry))) (message-sender (now (s .entry))) ⌝ }
 {
     Message::Start {
-        round: round_at(s, ROUND_AT),
+        round: round_at(s, ROUND_PLACE),
         sender: sender_of(s),
     }
 }
@@ -60,10 +60,10 @@ fn as_start(s: &[u8]) -> Message
 // Bytes as a JOIN without a vote.
 fn as_join(s: &[u8]) -> Message
     requires { ⌜ head-length ≤ length (now s) ⌝ }
-    ensures { λ m. ⌜ m ≡ Join (round-of (now (s .entry))) (sender-of (now (s .entry))) ⌝ }
+    ensures { λ m. ⌜ m ≡ Join (message-round (now (s .entry))) (message-sender (now (s .entry))) ⌝ }
 {
     Message::Join {
-        round: round_at(s, ROUND_AT),
+        round: round_at(s, ROUND_PLACE),
         sender: sender_of(s),
     }
 }
@@ -71,35 +71,35 @@ fn as_join(s: &[u8]) -> Message
 // Bytes as a JOIN with a vote.
 fn as_join_voted(s: &[u8]) -> Message
     requires { ⌜ join-voted-length ≤ length (now s) ⌝ }
-    ensures { λ m. ⌜ m ≡ JoinVoted (round-of (now (s .entry))) (sender-of (now (s .entry))) (voted-of (now (s .entry))) (voted-value-in (now (s .entry))) ⌝ }
+    ensures { λ m. ⌜ m ≡ JoinVoted (message-round (now (s .entry))) (message-sender (now (s .entry))) (message-voted (now (s .entry))) (voted-value-in (now (s .entry))) ⌝ }
 {
     Message::JoinVoted {
-        round: round_at(s, ROUND_AT),
+        round: round_at(s, ROUND_PLACE),
         sender: sender_of(s),
-        voted: round_at(s, VOTED_AT),
-        value: xdr::hyper_at(s, VOTED_VALUE_AT),
+        voted: round_at(s, VOTED_PLACE),
+        value: xdr::hyper_at(s, VOTED_VALUE_PLACE),
     }
 }
 
 // Bytes as a PROPOSE.
 fn as_propose(s: &[u8]) -> Message
     requires { ⌜ propose-length ≤ length (now s) ⌝ }
-    ensures { λ m. ⌜ m ≡ Propose (round-of (now (s .entry))) (sender-of (now (s .entry))) (proposed-in (now (s .entry))) ⌝ }
+    ensures { λ m. ⌜ m ≡ Propose (message-round (now (s .entry))) (message-sender (now (s .entry))) (proposed-in (now (s .entry))) ⌝ }
 {
     Message::Propose {
-        round: round_at(s, ROUND_AT),
+        round: round_at(s, ROUND_PLACE),
         sender: sender_of(s),
-        value: xdr::hyper_at(s, PROPOSED_AT),
+        value: xdr::hyper_at(s, PROPOSED_PLACE),
     }
 }
 
 // Bytes as a VOTE.
 fn as_vote(s: &[u8]) -> Message
     requires { ⌜ head-length ≤ length (now s) ⌝ }
-    ensures { λ m. ⌜ m ≡ Vote (round-of (now (s .entry))) (sender-of (now (s .entry))) ⌝ }
+    ensures { λ m. ⌜ m ≡ Vote (message-round (now (s .entry))) (message-sender (now (s .entry))) ⌝ }
 {
     Message::Vote {
-        round: round_at(s, ROUND_AT),
+        round: round_at(s, ROUND_PLACE),
         sender: sender_of(s),
     }
 }
@@ -109,12 +109,12 @@ fn decode(s: &[u8]) -> Message
     requires { ⌜ length (now s) ≡ size (now s) ⌝ }
     ensures { λ m. ⌜ m ≡ decoded (now (s .entry)) ⌝ }
 {
-    let kind = xdr::word_at(s, KIND_AT);
+    let kind = xdr::word_at(s, KIND_PLACE);
     if kind == START_KIND {
         return as_start(s);
     }
     if kind == JOIN_KIND {
-        if xdr::word_at(s, PRESENCE_AT) == 1 {
+        if xdr::word_at(s, PRESENCE_PLACE) == 1 {
             return as_join_voted(s);
         }
         return as_join(s);
@@ -127,12 +127,12 @@ fn decode(s: &[u8]) -> Message
 
 // The length of the message at the front of bytes that have room for any, by its kind and presence.
 fn message_size(s: &[u8]) -> usize
-    requires { ⌜ longest ≤ length (now s) ⌝ }
+    requires { ⌜ longest-message ≤ length (now s) ⌝ }
     ensures { λ n. ⌜ n ≡ size (now (s .entry)) ⌝ }
 {
-    let kind = xdr::word_at(s, KIND_AT);
+    let kind = xdr::word_at(s, KIND_PLACE);
     if kind == JOIN_KIND {
-        if xdr::word_at(s, PRESENCE_AT) == 1 {
+        if xdr::word_at(s, PRESENCE_PLACE) == 1 {
             return JOIN_VOTED_LENGTH;
         }
         return JOIN_LENGTH;
@@ -145,7 +145,7 @@ fn message_size(s: &[u8]) -> usize
 
 // The message at the front of bytes that have room for any: its own length, and not all of them.
 pub fn decode_front(s: &[u8]) -> Message
-    requires { ⌜ longest ≤ length (now s) ⌝ }
+    requires { ⌜ longest-message ≤ length (now s) ⌝ }
     ensures { λ m. ⌜ m ≡ decoded (take (size (now (s .entry))) (now (s .entry))) ⌝ }
 {
     let n = message_size(s);
@@ -171,7 +171,7 @@ fn read_join(s: &[u8]) -> Read
     if s.len() < JOIN_LENGTH {
         return Read::Refused(MESSAGE_LENGTH);
     }
-    let presence = xdr::word_at(s, PRESENCE_AT);
+    let presence = xdr::word_at(s, PRESENCE_PLACE);
     if presence == 0 {
         if s.len() != JOIN_LENGTH {
             return Read::Refused(MESSAGE_LENGTH);
@@ -192,7 +192,7 @@ fn read_kind(s: &[u8]) -> Read
     requires { ⌜ (kind-end ≤ length (now s)) × (1 ≤ kind-in (now s)) × (kind-in (now s) ≤ VOTE-KIND) ⌝ }
     ensures { λ r. ⌜ r ≡ reading (now (s .entry)) ⌝ }
 {
-    let kind = xdr::word_at(s, KIND_AT);
+    let kind = xdr::word_at(s, KIND_PLACE);
     if kind == JOIN_KIND {
         return read_join(s);
     }
@@ -218,7 +218,7 @@ pub fn read_message(s: &[u8]) -> Read
     if s.len() < KIND_END {
         return Read::Refused(MESSAGE_LENGTH);
     }
-    let kind = xdr::word_at(s, KIND_AT);
+    let kind = xdr::word_at(s, KIND_PLACE);
     if kind == 0 {
         return Read::Refused(MESSAGE_KIND);
     }

@@ -10,12 +10,12 @@ use message::VOTE_KIND;
 use message::Written;
 use numbers::MESSAGE_FIELD;
 use numbers::OK;
-use numbers::REPLY_SHORT;
+use numbers::REPLY_TOO_SHORT;
 ghost use mathlib.Core.Path.{_≡_};
 ghost use Prim.Native.Nat.{_≤_};
 ghost use lib.ListN.{length};
 ghost use Rattle.xdr_writer.specs.Put.{Fronts};
-ghost use Rattle.message.specs.Layout.{head, layout, head-length, longest};
+ghost use Rattle.message.specs.Layout.{head, layout, head-length, longest-message};
 ghost use Rattle.message.specs.Writing.{WriterLeaves};
 
 // Writes what every message starts with, and answers the place behind it.
@@ -30,7 +30,7 @@ fn put_head(buf: &mut [u8], kind: u32, round: Round, sender: Member) -> usize
 
 // Writes a message at the front of a buffer that has room for any, word by word, and answers its length.
 fn put_message(m: Message, buf: &mut [u8]) -> usize
-    requires { ⌜ longest ≤ length (now buf) ⌝ }
+    requires { ⌜ longest-message ≤ length (now buf) ⌝ }
     ensures { λ n. ⌜ Fronts (layout m) (now (buf .entry)) n (now (buf .exit)) ⌝ }
 {
     match m {
@@ -74,7 +74,7 @@ pub fn write_message(m: Message, buf: &mut [u8]) -> Written
     ensures { λ r. ⌜ WriterLeaves m (now (buf .entry)) r (now (buf .exit)) ⌝ }
 {
     if buf.len() < LONGEST {
-        return refused(REPLY_SHORT);
+        return refused(REPLY_TOO_SHORT);
     }
     if !message::in_range(m) {
         return refused(MESSAGE_FIELD);

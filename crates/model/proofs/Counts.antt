@@ -15,7 +15,7 @@ use Rattle.ids.specs.declared.Round.{Round}
 use Rattle.ids.specs.declared.Member.{Member}
 use Rattle.ids.specs.Ranges.{out-of-range}
 use Rattle.quorum.specs.Count.{count, some}
-use Rattle.quorum.specs.Quorum.{Quorum}
+use Rattle.quorum.specs.Quorum.{HasQuorum}
 use Rattle.message.specs.declared.Message.{Message}
 use Rattle.message.specs.declared.Message.the-variants.{Start, Join, JoinVoted, Propose, Vote}
 use Rattle.member_record.specs.declared.MemberState.{MemberState}
@@ -82,7 +82,7 @@ no-flag s =
 
 -- a complete count is a quorum
 pub flagged-quorum : (z : Sizes) (t : ℕ) (m : MemberState) (s : Member) (P : ℕ → Type 0) → Counts z t m → s .0 < m .who .n → complete (counting m s) ≡ true →
-    ((i : ℕ) → flag (set (m .lead .flags) (s .0) true) i ≡ true → P i) → Quorum (z .n) (needed (office-who (z .n)) (m .lead .phase)) P
+    ((i : ℕ) → flag (set (m .lead .flags) (s .0) true) i ≡ true → P i) → HasQuorum (z .n) (needed (office-who (z .n)) (m .lead .phase)) P
 unfolding flagged
 flagged-quorum z t m s P c low full f =
     let all : eqb (count (flag (set (m .lead .flags) (s .0) true)) (m .who .n)) (count (flag (set (m .lead .flags) (s .0) true)) 7) ≡ true =

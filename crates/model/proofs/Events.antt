@@ -25,7 +25,7 @@ use Rattle.model.specs.Model.{Sizes, Event, start, deliver, Office, memb
 use Rattle.model.specs.Model.{event-outcome, proposes-one}
 use Rattle.model.specs.Model.{proposals, event-answer, next, office-after, offer-of, offers-at, offered}
 use Rattle.model.specs.Demand.{calls, ended}
-use Rattle.model.proofs.Kept.{KeptMember, KeptOffice, Accepted, was-accepted, message-in, accepted-row, sent-by, next-kept, first-member, first-kept}
+use Rattle.model.proofs.Kept.{KeptMember, KeptOffice, EventAccepted, was-accepted, message-in, accepted-row, sent-by, next-kept, first-member, first-kept}
 use Rattle.model.proofs.Invariant.{join-quorum, vote-quorum, JoinOf, carried, Joined, MemberHolds, Invariant}
 use Rattle.model.proofs.Grows.{New, keep}
 use Rattle.model.proofs.Meeting.{allowed-meets}
@@ -109,7 +109,7 @@ module _ (z : Sizes) (o : Office) (offers : List ℕ) (I : Invariant z o offers)
 
 module _ (z : Sizes) (ok : allowed (z .n) ≡ true) where
   module _ (o : Office) (offers : List ℕ) (K : KeptOffice z o) (I : Invariant z o offers) where
-    event-new : (e : Event) → Accepted z o e → New z o offers (at-member e) (event-outcome z o e) (offer-of e)
+    event-new : (e : Event) → EventAccepted z o e → New z o offers (at-member e) (event-outcome z o e) (offer-of e)
     unfolding step-causes step-row
     event-new (start k r x) a =
         let (c, same) = accepted-row z o K (start k r x) a in
@@ -127,7 +127,7 @@ module _ (z : Sizes) (ok : allowed (z .n) ≡ true) where
     unfolding next
     next-holds e =
         by-test (eqb (event-answer z o e) 0)
-        (λ t. let a : Accepted z o e = was-accepted z o e (omega tests) in
+        (λ t. let a : EventAccepted z o e = was-accepted z o e (omega tests) in
         rw t (keep z o offers (at-member e) (event-outcome z o e) (offer-of e) K I (a .member) (sent-by z o K e a) (event-new e a)))
         (λ t. rw t (subst (Invariant z o) (sym (append-nil offers)) I))
 

@@ -5,7 +5,7 @@ use mathlib.Core.Bool.{Bool, true}
 use mathlib.Core.List.{List}
 use Prim.Native.Nat.{ℕ, _<_, _≤_, _%_}
 use Rattle.laws.specs.Lists.{_∈_}
-use Rattle.quorum.specs.Quorum.{Quorum}
+use Rattle.quorum.specs.Quorum.{HasQuorum}
 use Rattle.tree_theory.specs.Properties.{Properties, InRange}
 use Rattle.message.specs.declared.Message.{Message}
 use Rattle.message.specs.declared.Message.the-variants.{Start, Join, JoinVoted, Propose, Vote}
@@ -121,9 +121,9 @@ pub record MadeSo (z : Sizes) (sent : List Message) (made : List Named) (offers 
   pub properties : Properties true (calls made)
   pub ranged : InRange (calls made)
   -- a join quorum sent JOINs of the proposal's round whose votes are at most its parent
-  pub join-met : (r x b : ℕ) → proposal r x b ∈ made → Quorum (z .n) (join-quorum (z .n)) (Joined sent r b)
+  pub join-met : (r x b : ℕ) → proposal r x b ∈ made → HasQuorum (z .n) (join-quorum (z .n)) (Joined sent r b)
   -- a vote quorum sent VOTEs of the round decided, and the value decided is the one proposed
-  pub vote-met : (r x : ℕ) → decision r x ∈ made → Quorum (z .n) (vote-quorum (z .n)) (Voted sent r)
+  pub vote-met : (r x : ℕ) → decision r x ∈ made → HasQuorum (z .n) (vote-quorum (z .n)) (Voted sent r)
   pub decided-added : (r x : ℕ) → decision r x ∈ made → ProposalMade made r x
   -- each value proposed was offered
   pub offered-so : (r x b : ℕ) → proposal r x b ∈ made → x ∈ offers

@@ -72,14 +72,14 @@ pub vote-lower : (z : Sizes) (t : ℕ) (m : MemberState) → KeptMember z t m �
 vote-lower z t m M = omega (tests, vote-parts (m .durable) (parts m (M .is-sound) .lasting) .ordered)
 
 -- what an event that gets 0 has passed
-pub record Accepted (z : Sizes) (o : Office) (e : Event) : Type 0 where
+pub record EventAccepted (z : Sizes) (o : Office) (e : Event) : Type 0 where
   pub member : at-member e < z .n
   pub there : unsent o e ≡ false
   pub ok : event-outcome z o e .number ≡ 0
   pub stored : sends-one (event-outcome z o e .sent) ≡ true → length (o .sent) < z .store
   pub room : proposes-one (event-outcome z o e .named) ≡ true → suc (proposals (o .made)) < z .table
 
-pub was-accepted : (z : Sizes) (o : Office) (e : Event) → event-answer z o e ≡ 0 → Accepted z o e
+pub was-accepted : (z : Sizes) (o : Office) (e : Event) → event-answer z o e ≡ 0 → EventAccepted z o e
 unfolding event-answer
 was-accepted z o e h =
     by-test (absent z o e)
@@ -117,11 +117,11 @@ module _ (z : Sizes) (o : Office) (ranged : (g : Message) → g ∈ o .sent → 
   step-is-sound s h = step-of-sound (member-at z o (at-member e)) (event-of o e) s (event-fits h)
 
 module _ (z : Sizes) (o : Office) (K : KeptOffice z o) (e : Event) where
-  accepted-sound : Accepted z o e → event-outcome z o e ≡ sound-step (member-at z o (at-member e)) (event-of o e)
+  accepted-sound : EventAccepted z o e → event-outcome z o e ≡ sound-step (member-at z o (at-member e)) (event-of o e)
   accepted-sound a = step-is-sound z o (K .ranged) e (K .each (at-member e) (a .member) .is-sound) (a .there)
 
   -- an accepted event is its row of the member table, none of whose causes holds
-  pub accepted-row : Accepted z o e →
+  pub accepted-row : EventAccepted z o e →
       (first (step-causes (member-at z o (at-member e)) (event-of o e)) ≡ 0) × (event-outcome z o e ≡ step-row (member-at z o (at-member e)) (event-of o e))
   unfolding sound-step
   accepted-row a =
@@ -135,13 +135,13 @@ module _ (z : Sizes) (o : Office) (K : KeptOffice z o) (e : Event) where
   unfolding event-outcome
   taken-own l = own-step (member-at z o (at-member e)) (event-of o e)
 
-  outcome-kept : Accepted z o e → Kept (event-outcome z o e)
+  outcome-kept : EventAccepted z o e → Kept (event-outcome z o e)
   outcome-kept a =
       let M : KeptMember z (at-member e) (member-at z o (at-member e)) = K .each (at-member e) (a .member) in
       subst Kept (sym (accepted-sound a))
       (step-kept (member-at z o (at-member e)) (event-of o e) (M .seven) (M .is-sound) (event-fits z o (K .ranged) e (a .there)))
 
-  pub taken-member : Accepted z o e → KeptMember z (at-member e) (event-outcome z o e .state)
+  pub taken-member : EventAccepted z o e → KeptMember z (at-member e) (event-outcome z o e .state)
   taken-member a =
       let M : KeptMember z (at-member e) (member-at z o (at-member e)) = K .each (at-member e) (a .member) in
       record {
@@ -152,10 +152,10 @@ module _ (z : Sizes) (o : Office) (K : KeptOffice z o) (e : Event) where
       }
 
   -- what it sends is its member's
-  pub sent-by : Accepted z o e → (g : Message) → g ∈ event-outcome z o e .sent → sender g ≡ at-member e
+  pub sent-by : EventAccepted z o e → (g : Message) → g ∈ event-outcome z o e .sent → sender g ≡ at-member e
   sent-by a g i = taken-own (a .member) .from g i ∙ ap (λ s. s .0) (K .each (at-member e) (a .member) .number)
 
-  pub taken-kept : Accepted z o e → KeptOffice z (taken z o e)
+  pub taken-kept : EventAccepted z o e → KeptOffice z (taken z o e)
   unfolding taken
   taken-kept a = record {
     count = simp length-set (K .count);

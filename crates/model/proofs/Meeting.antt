@@ -9,7 +9,7 @@ use lib.Dec.{ltb, eqb}
 use Rattle.laws.specs.Tests.{tests, by-test, impossible, or-cases, and-left, and-right}
 use Rattle.laws.specs.Lists.{_∈_, by-last, every-snoc, none-any}
 use Rattle.ids.specs.Ranges.{out-of-range}
-use Rattle.quorum.specs.Quorum.{Quorum}
+use Rattle.quorum.specs.Quorum.{HasQuorum}
 use Rattle.quorum.proofs.Meet.{wider, both, of-odd}
 use Rattle.member_record.specs.Phases.{needed}
 use Rattle.tree_theory.specs.Machine.{Call, add, commit, crosses}
@@ -41,7 +41,7 @@ Pasts n sent = (s : ℕ) → s < n → (g : Message) (r c : ℕ) → g ∈ sent 
 
 module _ (z : Sizes) (sent : List Message) (made : List Named) (offers : List ℕ) (M : MadeSo z sent made offers) (past : Pasts (z .n) sent)
     (meets : z .n < join-quorum (z .n) + vote-quorum (z .n)) where
-  uncrossed-by : (r b c : ℕ) → Quorum (z .n) (join-quorum (z .n)) (Joined sent r b) → Quorum (z .n) (vote-quorum (z .n)) (Voted sent c) → crosses r b c ≡ false
+  uncrossed-by : (r b c : ℕ) → HasQuorum (z .n) (join-quorum (z .n)) (Joined sent r b) → HasQuorum (z .n) (vote-quorum (z .n)) (Voted sent c) → crosses r b c ≡ false
   uncrossed-by r b c J W =
       by-test (crosses r b c)
       (λ t. both meets J W (λ s l j w.
@@ -51,7 +51,7 @@ module _ (z : Sizes) (sent : List Message) (made : List Named) (offers : List �
 
   -- one more proposal
   module _ (r x b : ℕ) (ranged : out-of-range r ≡ false) (new : (y c : ℕ) → proposal r y c ∈ made → ⊥) (lower : b < r)
-      (parent : 0 < b → ProposalMade made b x) (J : Quorum (z .n) (join-quorum (z .n)) (Joined sent r b)) (from : x ∈ offers)
+      (parent : 0 < b → ProposalMade made b x) (J : HasQuorum (z .n) (join-quorum (z .n)) (Joined sent r b)) (from : x ∈ offers)
       (row : suc (proposals made) < z .table) (gs : List Message) (xs : List ℕ) where
     add-next : NextCall true (calls made) (add r x b)
     add-next = record {
@@ -84,7 +84,7 @@ module _ (z : Sizes) (sent : List Message) (made : List Named) (offers : List �
 
   -- one more decision
   module _ (r x b : ℕ) (ranged : out-of-range r ≡ false) (new : (y : ℕ) → decision r y ∈ made → ⊥) (follows : proposal r x b ∈ made)
-      (W : Quorum (z .n) (vote-quorum (z .n)) (Voted sent r)) (gs : List Message) (xs : List ℕ) where
+      (W : HasQuorum (z .n) (vote-quorum (z .n)) (Voted sent r)) (gs : List Message) (xs : List ℕ) where
     commit-next : NextCall true (calls made) (commit r)
     commit-next = record {
       follows = adds-intro (calls made) (proposal-call made follows);

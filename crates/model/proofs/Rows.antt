@@ -9,10 +9,10 @@ use lib.Dec.{ltb, eqb}
 use borrow.Author.Tests.{not-false}
 use Rattle.laws.specs.Tests.{tests, by-test, clash, impossible}
 use Rattle.laws.specs.Lists.{_∈_, by-last, in-last}
-use Rattle.laws.specs.First.{Passed}
+use Rattle.laws.specs.First.{AllPassed}
 use Rattle.ids.specs.declared.Round.{Round}
 use Rattle.ids.specs.declared.Member.{Member}
-use Rattle.quorum.specs.Quorum.{Quorum}
+use Rattle.quorum.specs.Quorum.{HasQuorum}
 use Rattle.tree_theory.proofs.Calls.{adds-elim, committed-added}
 use Rattle.message.specs.declared.Message.{Message}
 use Rattle.message.specs.declared.Message.the-variants.{Start, Join, JoinVoted, Propose, Vote}
@@ -50,7 +50,7 @@ module _ (z : Sizes) (o : Office) (offers : List ℕ) (I : Invariant z o offers)
       (m .lead .flags)
   leading-calm gs xs = leading-grows gs [] xs (λ a i. elim i [ ]) (λ h. counts-of z t m M h .own) (S .leading)
 
-  pub start-new : (r : Round) (x : ℕ) → Passed (start-call-causes m r) → New z o offers t (start-call-row m r x) (x ∷ [])
+  pub start-new : (r : Round) (x : ℕ) → AllPassed (start-call-causes m r) → New z o offers t (start-call-row m r x) (x ∷ [])
   start-new r x (range, (leader, (above, end))) = record {
     stands = record {
       spoken = spoken-quiet (o .sent) (Start r (m .who .me) ∷ []) t (m .durable .joined .0) (m .durable .voted .0) (m .durable .led .0) (m .durable .joined .0)
@@ -85,7 +85,7 @@ module _ (z : Sizes) (o : Office) (offers : List ℕ) (I : Invariant z o offers)
   no-vote r k i =
       of-join r (λ g. Vote (round-number k) (member-number t) ≡ g → ⊥) (λ v e. impossible (cc)) (λ v e. impossible (cc)) (List·Memᴰ·eq-of-singleton i)
 
-  pub START-new : (r : Round) (s : Member) → Passed (START-causes m r s) → New z o offers t (START-row m r) []
+  pub START-new : (r : Round) (s : Member) → AllPassed (START-causes m r s) → New z o offers t (START-row m r) []
   START-new r s (leader, (above, end)) = record {
     stands = record {
       spoken = spoken-new (o .sent) (join-of m r ∷ []) t (m .durable .joined .0) (m .durable .voted .0) (m .durable .led .0) (r .0) (m .durable .voted .0)
@@ -109,7 +109,7 @@ module _ (z : Sizes) (o : Office) (offers : List ℕ) (I : Invariant z o offers)
       lower k w =
           ⊎-elim (λ i. S .spoken .reached (Vote (round-number k) (member-number t)) i refl) (λ i. absurd (no-vote r k i)) (List·Memᴰ·append-cases (o .sent) w)
 
-  pub PROPOSE-new : (r : Round) (s : Member) (v : ℕ) → Propose r s v ∈ o .sent → Passed (PROPOSE-causes m r s v) → New z o offers t (PROPOSE-row m r v) []
+  pub PROPOSE-new : (r : Round) (s : Member) (v : ℕ) → Propose r s v ∈ o .sent → AllPassed (PROPOSE-causes m r s v) → New z o offers t (PROPOSE-row m r v) []
   PROPOSE-new r s v sent (leader, (past, (same, end))) =
       let up : m .durable .voted .0 ≤ m .durable .joined .0 = vote-lower z t m M in
       record {
@@ -211,7 +211,7 @@ module _ (z : Sizes) (o : Office) (offers : List ℕ) (I : Invariant z o offers)
             (Propose (k .durable .led) (k .who .me) (k .lead .value) ∷ []) [];
       }
     where
-      quorum-joined : Quorum (z .n) (join-quorum (z .n)) (Joined (o .sent) (k .durable .led .0) (k .lead .source .0))
+      quorum-joined : HasQuorum (z .n) (join-quorum (z .n)) (Joined (o .sent) (k .durable .led .0) (k .lead .source .0))
       quorum-joined = rw (← now) (flagged-quorum z t k s (Joined (o .sent) (k .durable .led .0) (k .lead .source .0)) C (omega (arith, C .size)) full
           (λ i h. flag-set (k .lead .flags) (s .0) i h (λ e. rw e join) (S .leading .joins now i)))
 
@@ -252,7 +252,7 @@ module _ (z : Sizes) (o : Office) (offers : List ℕ) (I : Invariant z o offers)
       follows : proposal (k .durable .led .0) (k .lead .value) (k .lead .source .0) ∈ o .made
       follows = S .leading .proposed (omega arith) (omega arith)
 
-      quorum-voted : Quorum (z .n) (vote-quorum (z .n)) (Voted (o .sent) (k .durable .led .0))
+      quorum-voted : HasQuorum (z .n) (vote-quorum (z .n)) (Voted (o .sent) (k .durable .led .0))
       quorum-voted = rw (← now) (flagged-quorum z t k s (Voted (o .sent) (k .durable .led .0)) C (omega (arith, C .size)) full
           (λ i h. flag-set (k .lead .flags) (s .0) i h (λ e. rw e vote) (S .leading .votes now i)))
 

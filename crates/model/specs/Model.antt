@@ -6,7 +6,7 @@ use lib.ListN.{length, getD, set}
 use lib.Dec.{leb, eqb}
 use Rattle.laws.specs.First.{Cause, _gives_, first}
 use Rattle.ids.specs.declared.Member.{Member}
-use Rattle.numbers.specs.Numbers.{TABLE-FULL, NO-SUCH, STORE-FULL, no-row-left}
+use Rattle.numbers.specs.Numbers.{NO-FREE-ROW, NO-MEMBER-OR-MESSAGE, STORE-FULL, no-row-left}
 use Rattle.message.specs.declared.Message.{Message}
 use Rattle.message.specs.declared.Message.the-variants.{Start}
 use Rattle.member_record.specs.declared.MemberState.{MemberState}
@@ -103,10 +103,10 @@ no-table-row z o e = proposes-one (event-outcome z o e .named) && no-row-left (z
 unfoldable pub event-causes : Sizes → Office → Event → List Cause
 unfolding event-outcome proposals
 event-causes z o e =
-    absent z o e gives NO-SUCH ∷
+    absent z o e gives NO-MEMBER-OR-MESSAGE ∷
     not (eqb (event-outcome z o e .number) 0) gives (event-outcome z o e .number) ∷
     no-store-row z o e gives STORE-FULL ∷
-    no-table-row z o e gives TABLE-FULL ∷ []
+    no-table-row z o e gives NO-FREE-ROW ∷ []
 
 unfoldable pub event-answer : Sizes → Office → Event → ℕ
 unfolding event-causes

@@ -32,32 +32,32 @@ abbrev pub PARENT-NOT-BELOW : ℕ
 PARENT-NOT-BELOW = 6
 
 -- its value is not that of its parent
-abbrev pub PARENT-VALUE : ℕ
-PARENT-VALUE = 7
+abbrev pub VALUE-DIFFERS : ℕ
+VALUE-DIFFERS = 7
 
 -- its edge crosses a COMMITTED round
 abbrev pub CROSSES-COMMITTED : ℕ
 CROSSES-COMMITTED = 8
 
 -- no row of the table is free, when all else is OK
-abbrev pub TABLE-FULL : ℕ
-TABLE-FULL = 9
+abbrev pub NO-FREE-ROW : ℕ
+NO-FREE-ROW = 9
 
 -- the round is absent
 abbrev pub ROUND-ABSENT : ℕ
 ROUND-ABSENT = 10
 
 -- the round to commit is COMMITTED
-abbrev pub ROUND-COMMITTED : ℕ
-ROUND-COMMITTED = 11
+abbrev pub IS-COMMITTED : ℕ
+IS-COMMITTED = 11
 
 -- the round to commit is GHOST
-abbrev pub ROUND-GHOST : ℕ
-ROUND-GHOST = 12
+abbrev pub IS-GHOST : ℕ
+IS-GHOST = 12
 
 -- the slice lent for a path is too short
-abbrev pub SLICE-SHORT : ℕ
-SLICE-SHORT = 13
+abbrev pub PATH-TOO-LONG : ℕ
+PATH-TOO-LONG = 13
 
 -- a message is under 4 bytes, or not of the length of its kind
 abbrev pub MESSAGE-LENGTH : ℕ
@@ -72,12 +72,12 @@ abbrev pub MESSAGE-FIELD : ℕ
 MESSAGE-FIELD = 16
 
 -- a record is not sound; of fresh, the number or N is not allowed
-abbrev pub NOT-SOUND : ℕ
-NOT-SOUND = 17
+abbrev pub RECORD-UNSOUND : ℕ
+RECORD-UNSOUND = 17
 
 -- the reply buffer is shorter than the longest message
-abbrev pub REPLY-SHORT : ℕ
-REPLY-SHORT = 18
+abbrev pub REPLY-TOO-SHORT : ℕ
+REPLY-TOO-SHORT = 18
 
 -- the member does not lead the round
 abbrev pub NOT-LEADER : ℕ
@@ -108,8 +108,8 @@ abbrev pub COUNTED-ALREADY : ℕ
 COUNTED-ALREADY = 25
 
 -- the count is above 1,000, or bytes, count and kinds do not match exactly
-abbrev pub LIST-FORM : ℕ
-LIST-FORM = 26
+abbrev pub LIST-SHAPE : ℕ
+LIST-SHAPE = 26
 
 -- N is not 3, 5 or 7
 abbrev pub OFFICE-SIZE : ℕ
@@ -120,8 +120,8 @@ abbrev pub STORE-OR-ANSWERS : ℕ
 STORE-OR-ANSWERS = 28
 
 -- the member is N or above, or no such message was sent
-abbrev pub NO-SUCH : ℕ
-NO-SUCH = 29
+abbrev pub NO-MEMBER-OR-MESSAGE : ℕ
+NO-MEMBER-OR-MESSAGE = 29
 
 -- a message would be sent, and the messages sent fill the store
 abbrev pub STORE-FULL : ℕ

@@ -25,25 +25,25 @@ pub const PARENT_ABSENT: u32 = 5;
 pub const PARENT_NOT_BELOW: u32 = 6;
 
 // 7: its value is not that of its parent.
-pub const PARENT_VALUE: u32 = 7;
+pub const VALUE_DIFFERS: u32 = 7;
 
 // 8: its edge crosses a COMMITTED round.
 pub const CROSSES_COMMITTED: u32 = 8;
 
 // 9: no row of the table is free, when all else is OK.
-pub const TABLE_FULL: u32 = 9;
+pub const NO_FREE_ROW: u32 = 9;
 
 // 10: the round is absent.
 pub const ROUND_ABSENT: u32 = 10;
 
 // 11: the round to commit is COMMITTED.
-pub const ROUND_COMMITTED: u32 = 11;
+pub const IS_COMMITTED: u32 = 11;
 
 // 12: the round to commit is GHOST.
-pub const ROUND_GHOST: u32 = 12;
+pub const IS_GHOST: u32 = 12;
 
 // 13: the slice lent for a path is too short.
-pub const SLICE_SHORT: u32 = 13;
+pub const PATH_TOO_LONG: u32 = 13;
 
 // 14: a message is under 4 bytes, or not of the length of its kind.
 pub const MESSAGE_LENGTH: u32 = 14;
@@ -55,10 +55,10 @@ pub const MESSAGE_KIND: u32 = 15;
 pub const MESSAGE_FIELD: u32 = 16;
 
 // 17: a record is not sound; of fresh, the number or N is not allowed.
-pub const NOT_SOUND: u32 = 17;
+pub const RECORD_UNSOUND: u32 = 17;
 
 // 18: the reply buffer is shorter than the longest message.
-pub const REPLY_SHORT: u32 = 18;
+pub const REPLY_TOO_SHORT: u32 = 18;
 
 // 19: the member does not lead the round.
 pub const NOT_LEADER: u32 = 19;
@@ -82,7 +82,7 @@ pub const NOT_AWAITED: u32 = 24;
 pub const COUNTED_ALREADY: u32 = 25;
 
 // 26: the count is above 1,000, or bytes, count and kinds do not match exactly.
-pub const LIST_FORM: u32 = 26;
+pub const LIST_SHAPE: u32 = 26;
 
 // 27: N is not 3, 5 or 7.
 pub const OFFICE_SIZE: u32 = 27;
@@ -91,7 +91,7 @@ pub const OFFICE_SIZE: u32 = 27;
 pub const STORE_OR_ANSWERS: u32 = 28;
 
 // 29: the member is N or above, or no such message was sent.
-pub const NO_SUCH: u32 = 29;
+pub const NO_MEMBER_OR_MESSAGE: u32 = 29;
 
 // 30: a message would be sent, and the messages sent fill the store.
 pub const STORE_FULL: u32 = 30;

@@ -10,7 +10,7 @@ use lib.Dec.{ltb}
 use borrow.Author.Tests.{not-false, lt-ltb, le-ltb, ltb-false}
 use Rattle.laws.specs.Tests.{by-test, or-left, or-right}
 use Rattle.laws.specs.First.{passed}
-use Rattle.numbers.specs.Numbers.{OK, TABLE-LENGTH, LIST-FORM, OFFICE-SIZE, STORE-OR-ANSWERS}
+use Rattle.numbers.specs.Numbers.{OK, TABLE-LENGTH, LIST-SHAPE, OFFICE-SIZE, STORE-OR-ANSWERS}
 use Rattle.tree_theory.specs.Machine.{fresh}
 use Rattle.tree_theory.specs.Table.{nodes, rows, sized, table, fresh-number, fresh-table}
 use Rattle.tree_theory.proofs.Grown.{Grown}
@@ -58,9 +58,9 @@ module _ {list : List ℕ} {L : Lent} where
         refused = λ z. record { counts-none = refl; lent-stays = refl };
       }
 
-  pub not-exact : list-fits list ≡ false → Given list L (refused-list LIST-FORM) L
+  pub not-exact : list-fits list ≡ false → Given list L (refused-list LIST-SHAPE) L
   unfolding play-number
-  not-exact a = given-refused LIST-FORM (rw a refl) (λ z. omega arith)
+  not-exact a = given-refused LIST-SHAPE (rw a refl) (λ z. omega arith)
 
   module _ (a : list-fits list ≡ true) where
     pub not-allowed : allowed (members-of list) ≡ false → Given list L (refused-list OFFICE-SIZE) L

@@ -11,7 +11,7 @@ use lib.Dec.{leb, eqb}
 use borrow.Author.Tests.{leb-true}
 use Rattle.laws.specs.Tests.{by-test, and-left, and-right}
 use Rattle.numbers.specs.Numbers.{OK}
-use Rattle.xdr.specs.Words.{Bytes}
+use Rattle.xdr.specs.Words.{AllBytes}
 use Rattle.tree_theory.specs.Machine.{after}
 use Rattle.tree_theory.specs.Table.{rows, sized, table}
 use Rattle.tree_theory.proofs.Trees.{sized-rows}
@@ -39,7 +39,7 @@ use Rattle.play.specs.Lent.{Lent}
 use Rattle.play.specs.Promise.{sizes-of, one, Ready, Ran}
 
 -- elements below 256 are bytes
-pub bytes-of : (s : List ℕ) → ((i : ℕ) → getD s i 0 < 256) → Bytes s
+pub bytes-of : (s : List ℕ) → ((i : ℕ) → getD s i 0 < 256) → AllBytes s
 bytes-of [] f b m = elim m [ ]
 bytes-of (a ∷ s) f b (here e) = rw e (f 0)
 bytes-of (a ∷ s) f b (there m) = bytes-of s (λ i. f (suc i)) b m
@@ -81,7 +81,7 @@ answers-to list M k = event-answers (sizes-of list M) (first-office (members-of 
 -- after k events: L₀ is what was lent, L what it is now
 pub record Running (list : List ℕ) (L₀ : Lent) (count : ℕ) (L : Lent) (members : List MemberState) (t : Tally) (accepted at k : ℕ) : Type 0 where
   pub ready : Ready list L₀
-  pub bytes : Bytes list
+  pub bytes : AllBytes list
   pub count-is : count ≡ count-of list
   pub within : k ≤ count
   pub at-within : at ≤ length list
@@ -131,7 +131,7 @@ module _ {list : List ℕ} {L₀ : Lent} (D : Ready list L₀) where
         };
       }
 
-  pub running-first : Bytes list → {h : ListHead} {k : PlayedOffice} → h ≡ head-of list → k ≡ fresh-office (h .members) →
+  pub running-first : AllBytes list → {h : ListHead} {k : PlayedOffice} → h ≡ head-of list → k ≡ fresh-office (h .members) →
       Running list L₀ (h .count) L₀ (k .members) (k .tally) 0 (h .begin) 0
   unfolding events-in behind event-answers zeros
   running-first b {h} {k} eh ek =

@@ -6,7 +6,7 @@ use Prim.Native.Nat.{ℕ, suc, _≤_}
 use lib.ListN.{length, drop}
 use lib.Dec.{ltb, eqb}
 use Rattle.laws.specs.First.{Cause, _gives_, first}
-use Rattle.numbers.specs.Numbers.{OK, TABLE-LENGTH, LIST-FORM, OFFICE-SIZE, STORE-OR-ANSWERS}
+use Rattle.numbers.specs.Numbers.{OK, TABLE-LENGTH, LIST-SHAPE, OFFICE-SIZE, STORE-OR-ANSWERS}
 use Rattle.tree_theory.specs.Machine.{fresh}
 use Rattle.tree_theory.specs.Table.{rows, sized, nodes, table}
 use Rattle.member_record.specs.Record.{allowed}
@@ -23,7 +23,7 @@ use Rattle.play.specs.Lent.{Lent}
 -- too few answer bytes; then 1
 abbrev pub list-causes : List ℕ → Lent → List Cause
 list-causes list L =
-    not (list-fits list) gives LIST-FORM ∷
+    not (list-fits list) gives LIST-SHAPE ∷
     not (allowed (members-of list)) gives OFFICE-SIZE ∷
     (not (store-sized (L .memory .store)) || ltb (length (L .answers)) (count-of list)) gives STORE-OR-ANSWERS ∷
     not (sized (L .memory .table)) gives TABLE-LENGTH ∷ []

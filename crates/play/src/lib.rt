@@ -78,7 +78,7 @@ pub fn play(list: &[u8], messages: &mut [u8], nodes: &mut [u64], answered: &mut 
         (as-lent (now (messages .exit)) (now (nodes .exit)) (now (answered .exit))) ⌝ }
 {
     if !play_events::fits(list) {
-        return refused_list(numbers::LIST_FORM);
+        return refused_list(numbers::LIST_SHAPE);
     }
     let head = play_events::read_head(list);
     if !member_record::is_allowed(head.members) {

@@ -5,7 +5,7 @@ use mathlib.Core.List.{List, [], _∷_}
 use Prim.Native.Nat.{ℕ, _+_, _<_}
 use lib.Dec.{eqb}
 use Rattle.laws.specs.First.{Cause, first, _gives_}
-use Rattle.numbers.specs.Numbers.{OK, TABLE-FULL, STORE-FULL, no-row-left}
+use Rattle.numbers.specs.Numbers.{OK, NO-FREE-ROW, STORE-FULL, no-row-left}
 use Rattle.tree_theory.specs.Machine.{Call}
 use Rattle.tree_theory.specs.Table.{rows}
 use Rattle.message.specs.declared.Message.{Message}
@@ -51,7 +51,7 @@ pub record SendEffect (t : Tally) (m m′ : MemberState) (g : Message) (store : 
 abbrev pub proposal-causes : Tally → Memory → List Cause
 proposal-causes t M =
     no-room-to-send t (M .store) gives STORE-FULL ∷
-    no-room-to-propose t (M .table) gives TABLE-FULL ∷ []
+    no-room-to-propose t (M .table) gives NO-FREE-ROW ∷ []
 
 abbrev pub proposal-number : Tally → Memory → ℕ
 proposal-number t M = first (proposal-causes t M)

@@ -78,7 +78,7 @@ fn proposal_number(tally: Tally, messages: &[u8], nodes: &[u64]) -> u32
         return numbers::STORE_FULL;
     }
     if no_table_row {
-        return numbers::TABLE_FULL;
+        return numbers::NO_FREE_ROW;
     }
     numbers::OK
 }
@@ -97,7 +97,7 @@ pub fn send(
     if no_room_to_send(tally, messages) {
         return refused_event(m, tally, numbers::STORE_FULL);
     }
-    play_store::put(messages, tally.sent, g);
+    play_store::store_message(messages, tally.sent, g);
     AfterEvent {
         state: next,
         tally: counted(tally, 1, 0, 0),
@@ -125,7 +125,7 @@ pub fn propose(
     if number != numbers::OK {
         return refused_event(m, tally, number);
     }
-    play_store::put(messages, tally.sent, sent);
+    play_store::store_message(messages, tally.sent, sent);
     tree::add_in_tree(nodes, round, value, parent);
     AfterEvent {
         state: next,

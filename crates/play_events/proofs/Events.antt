@@ -8,7 +8,7 @@ use native.Mathlib.Omega.{arith}
 use lib.ListN.{length, take, drop, take-append-drop}
 use lib.Dec.{eqb}
 use Rattle.laws.specs.Tests.{by-test, clash, and-right}
-use Rattle.xdr.specs.Words.{Bytes, word-at}
+use Rattle.xdr.specs.Words.{AllBytes, word-at}
 use Rattle.xdr.proofs.Laws.{hyper-at-small}
 use Rattle.model.specs.Sound.{SmallOffer, SmallOffers}
 use Rattle.play_events.specs.List.{event-size, event-at, rest, behind, events-in, exact, EVENT-START}
@@ -44,14 +44,14 @@ due-stands k d s h p =
     (λ e. clash (exact-behind k d s h) (exact-stop d (behind k s) p e), size-within (behind k s))
 
 -- what is left of bytes is bytes
-pub bytes-left : (n : ℕ) (s : List ℕ) → Bytes s → Bytes (drop n s)
+pub bytes-left : (n : ℕ) (s : List ℕ) → AllBytes s → AllBytes (drop n s)
 bytes-left n s k b m = k b (rw (take-append-drop n s) at (Memᴰ·append-right (take n s) m))
 
-event-offer : (s : List ℕ) → Bytes s → SmallOffer (event-at s)
+event-offer : (s : List ℕ) → AllBytes s → SmallOffer (event-at s)
 unfolding event-at
 event-offer s k = by-test (eqb (word-at s 0) EVENT-START) (λ t. rw t (hyper-at-small 12 s k)) (λ t. rw t tt)
 
-pub offers-small : (k : ℕ) (s : List ℕ) → Bytes s → SmallOffers (events-in k s)
+pub offers-small : (k : ℕ) (s : List ℕ) → AllBytes s → SmallOffers (events-in k s)
 unfolding events-in
 offers-small zero s b e m = elim m [ ]
 offers-small (suc k) s b e (here p) = rw p (event-offer s b)

@@ -9,7 +9,7 @@ use borrow.Author.Tests.{leb-true, leb-false}
 use Rattle.laws.specs.Tests.{by-test}
 use Rattle.laws.specs.Lists.{_∈_}
 use lib.ListN.{length}
-use Rattle.numbers.specs.Numbers.{TABLE-FULL, STORE-FULL}
+use Rattle.numbers.specs.Numbers.{NO-FREE-ROW, STORE-FULL}
 use Rattle.ids.specs.declared.Round.{Round}
 use Rattle.tree_theory.specs.Machine.{Call, add, commit, step}
 use Rattle.tree_theory.specs.Table.{rows, table}
@@ -155,7 +155,7 @@ module _ {t : Tally} {M : Memory} (B : StepBefore t M) {e : Event} {i : ℕ} whe
 
     -- no row of the table is free
     has-no-row : {m : MemberState} {g : Message} {r x b : ℕ} → ModelStep (B .z) (B .o) e i (proposing m g r x b) → t .sent < store-rows (M .store) →
-        rows (M .table) ≤ t .proposals + 1 → StepAfter B e i (refused-event was t TABLE-FULL) M
+        rows (M .table) ≤ t .proposals + 1 → StepAfter B e i (refused-event was t NO-FREE-ROW) M
     has-no-row T h f =
         refused-after B H (no-table-row T refl refl (free B h) refl (omega (arith, B .sizes .table-is, B .represents .slot .proposed)))
         (λ q. omega arith) (omega arith)

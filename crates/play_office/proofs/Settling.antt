@@ -9,7 +9,7 @@ use lib.Seq.{take-set-lt}
 use lib.Dec.{eqb}
 use borrow.Author.Tests.{eq-eqb, ne-eqb, le-leb, lt-leb}
 use Rattle.laws.specs.First.{first, _gives_}
-use Rattle.numbers.specs.Numbers.{TABLE-FULL, STORE-FULL, no-row-left}
+use Rattle.numbers.specs.Numbers.{NO-FREE-ROW, STORE-FULL, no-row-left}
 use Rattle.tree_theory.specs.Table.{table}
 use Rattle.member_record.specs.declared.MemberState.{MemberState}
 use Rattle.member.specs.Table.{Outcome}
@@ -35,7 +35,7 @@ module _ {z : Sizes} {o : Office} {e : Event} {i : ℕ} {u : Outcome} (T : Model
       first
       (not (eqb (u .number) 0) gives (u .number) ∷
       (sends-one (u .sent) && no-row-left (z .store) (length (o .sent))) gives STORE-FULL ∷
-      (proposes-one (u .named) && no-row-left (z .table) (suc (proposals (o .made)))) gives TABLE-FULL ∷ [])
+      (proposes-one (u .named) && no-row-left (z .table) (suc (proposals (o .made)))) gives NO-FREE-ROW ∷ [])
   unfolding event-answer event-causes
   number = rw (lt-leb (z .n) (at-member e) (T .member), T .there, T .equals) refl
 
@@ -50,7 +50,7 @@ module _ {z : Sizes} {o : Office} {e : Event} {i : ℕ} {u : Outcome} (T : Model
     silent-one s p = number ∙ rw (ok, s, p) refl
 
     module _ (s : sends-one (u .sent) ≡ true) (f : length (o .sent) < z .store) where
-      pub no-table-row : proposes-one (u .named) ≡ true → z .table ≤ suc (proposals (o .made)) → event-answer z o e ≡ TABLE-FULL
+      pub no-table-row : proposes-one (u .named) ≡ true → z .table ≤ suc (proposals (o .made)) → event-answer z o e ≡ NO-FREE-ROW
       no-table-row p r = number ∙ rw (ok, s, lt-leb (z .store) (length (o .sent)) f, p, le-leb (z .table) (suc (proposals (o .made))) r) refl
 
       pub sent-one : proposes-one (u .named) ≡ false → event-answer z o e ≡ 0

@@ -5,7 +5,7 @@ use Prim.Native.Nat.{ℕ, _≤_, _<_}
 use native.Mathlib.Omega.{arith}
 use lib.ListN.{length, getD}
 use borrow.Author.Tests.{le-leb, lt-leb, lt-ltb}
-use Rattle.numbers.specs.Numbers.{NO-SUCH}
+use Rattle.numbers.specs.Numbers.{NO-MEMBER-OR-MESSAGE}
 use Rattle.message.specs.declared.Message.{Message}
 use Rattle.message.specs.Fields.{in-range}
 use Rattle.member_record.specs.declared.MemberState.{MemberState}
@@ -28,11 +28,11 @@ use Rattle.play_office.proofs.Settling.{refused-after}
 
 module _ {t : Tally} {m : MemberState} {e : Event} {M : Memory} (E : EventBefore t m e M) where
   -- 29: no such member, or no such message
-  pub no-such : absent (E .before .z) (E .before .o) e ≡ true → StepAfter (E .before) e (place-of (at-member e)) (refused-event m t NO-SUCH) M
+  pub no-such : absent (E .before .z) (E .before .o) e ≡ true → StepAfter (E .before) e (place-of (at-member e)) (refused-event m t NO-MEMBER-OR-MESSAGE) M
   unfolding event-answer event-causes
   no-such h = refused-after (E .before) (E .record-at) (rw h refl) (λ q. omega arith) (omega arith)
 
-  pub no-member : t .n ≤ at-member e → StepAfter (E .before) e (place-of (at-member e)) (refused-event m t NO-SUCH) M
+  pub no-member : t .n ≤ at-member e → StepAfter (E .before) e (place-of (at-member e)) (refused-event m t NO-MEMBER-OR-MESSAGE) M
   no-member h = no-such (rw (le-leb (E .before .z .n) (at-member e) (omega (arith, E .before .represents .slot .size))) refl)
 
   module _ (h : at-member e < t .n) where
@@ -78,7 +78,7 @@ pub step-start : {t : Tally} {m : MemberState} {k r x : ℕ} {M : Memory} {s : M
 step-start E h P = step-at E h refl refl P
 
 module _ {t : Tally} {m : MemberState} {row k : ℕ} {M : Memory} (E : EventBefore t m (deliver row k) M) where
-  pub no-message : k < t .n → t .sent ≤ row → StepAfter (E .before) (deliver row k) (place-of k) (refused-event m t NO-SUCH) M
+  pub no-message : k < t .n → t .sent ≤ row → StepAfter (E .before) (deliver row k) (place-of k) (refused-event m t NO-MEMBER-OR-MESSAGE) M
   no-message a h =
       let R = E .before .represents in
       let member = lt-leb (E .before .z .n) k (omega (arith, R .slot .size)) in

@@ -53,7 +53,7 @@ fn work_start(
         (in-memory (now (messages .exit)) (now (nodes .exit))) ⌝ }
 {
     if tally.n <= member.0 {
-        return refused_event(m, tally, numbers::NO_SUCH);
+        return refused_event(m, tally, numbers::NO_MEMBER_OR_MESSAGE);
     }
     let s = member::start_sound(m, round, offer);
     settle(tally, m, s, messages, nodes)
@@ -73,11 +73,11 @@ fn work_deliver(
         (in-memory (now (messages .exit)) (now (nodes .exit))) ⌝ }
 {
     if tally.n <= member.0 {
-        return refused_event(m, tally, numbers::NO_SUCH);
+        return refused_event(m, tally, numbers::NO_MEMBER_OR_MESSAGE);
     }
     let row = message as usize;
     if tally.sent <= row {
-        return refused_event(m, tally, numbers::NO_SUCH);
+        return refused_event(m, tally, numbers::NO_MEMBER_OR_MESSAGE);
     }
     let g = play_store::fetch(messages, row);
     let s = member::deliver_sound(m, g);

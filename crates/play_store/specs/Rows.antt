@@ -5,13 +5,13 @@ use Prim.Native.Nat.{ℕ, _+_, _-_, _*_, _/_, _%_, _≤_}
 use lib.ListN.{length, take, drop, replicate}
 use lib.Dec.{leb, eqb}
 use Rattle.message.specs.declared.Message.{Message}
-use Rattle.message.specs.Layout.{bytes, longest}
+use Rattle.message.specs.Layout.{bytes, longest-message}
 use Rattle.message.specs.Reading.{size, decoded}
 use Rattle.message.specs.Writing.{in-front}
 
 -- the bytes of a row: 28
 abbrev pub row-length : ℕ
-row-length = longest
+row-length = longest-message
 
 abbrev pub most-rows : ℕ
 most-rows = 2000

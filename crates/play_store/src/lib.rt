@@ -40,7 +40,7 @@ pub fn clear(s: &mut [u8])
 }
 
 // Puts a message at the front of row k.
-pub fn put(s: &mut [u8], k: usize, g: Message)
+pub fn store_message(s: &mut [u8], k: usize, g: Message)
     requires { ⌜ HasRow (now s) k × (in-range g ≡ true) ⌝ }
     ensures { λ _. ⌜ now (s .exit) ≡ put-row (now (s .entry)) k g ⌝ }
 {

@@ -9,7 +9,7 @@ unfoldable pub quorum : ℕ → ℕ
 quorum n = (n - 1) / 2 + 1
 
 -- at least k of the n members have the property P
-pub record Quorum (n k : ℕ) (P : ℕ → Type 0) : Type 0 where
+pub record HasQuorum (n k : ℕ) (P : ℕ → Type 0) : Type 0 where
   pub who : ℕ → Bool
   pub enough : k ≤ count who n
   pub each : (s : ℕ) → s < n → who s ≡ true → P s

@@ -10,7 +10,7 @@ use borrow.Author.Tests.{leb-true, ne-eqb}
 use Rattle.laws.specs.Tests.{by-test, and-right, tests}
 use Rattle.laws.specs.First.{first}
 use Rattle.ids.specs.Ranges.{above-range}
-use Rattle.numbers.specs.Numbers.{OK, ROUND-RANGE, ROUND-ABSENT, SLICE-SHORT}
+use Rattle.numbers.specs.Numbers.{OK, ROUND-RANGE, ROUND-ABSENT, PATH-TOO-LONG}
 use Rattle.tree_theory.specs.Machine.{present, path}
 use Rattle.tree_theory.specs.Table.{rows, used, nodes, sized, Tree, is-tree, table-causes, path-causes, path-number, path-count, path-slice}
 use Rattle.tree_theory.proofs.Words.{length-rows, used-rows}
@@ -68,7 +68,7 @@ module _ (valued : Bool) (ws : List ℕ) (r : ℕ) (out : List ℕ) where
           }
 
       module _ {k : ℕ} {out′ : List ℕ} (W : PathWritten ws r 0 out k out′) where
-        pub path-short : k ≡ 0 → PathGiven valued ws r out SLICE-SHORT 0 out′
+        pub path-short : k ≡ 0 → PathGiven valued ws r out PATH-TOO-LONG 0 out′
         unfolding path-number
         path-short z =
             let G = tree-held valued ws s (is-tree-exact valued ws s .0 t) .grown in
@@ -76,8 +76,8 @@ module _ (valued : Bool) (ws : List ℕ) (r : ℕ) (out : List ℕ) where
             (λ y. absurd (omega (arith, rw y at (W .count-is), some valued ws G r p)))
             (λ y.
             let short : ltb (length out) (length (path (nodes ws) r)) ≡ true = omega tests in
-            subst (PathGiven valued ws r out SLICE-SHORT 0) (sym (rw y at (W .slice-is)))
-            (path-refused SLICE-SHORT (rw (s, t, a, p, short) refl) (λ q. omega arith)))
+            subst (PathGiven valued ws r out PATH-TOO-LONG 0) (sym (rw y at (W .slice-is)))
+            (path-refused PATH-TOO-LONG (rw (s, t, a, p, short) refl) (λ q. omega arith)))
 
         pub path-done : (k ≡ 0 → ⊥) → PathGiven valued ws r out OK k out′
         unfolding path-number path-count path-slice

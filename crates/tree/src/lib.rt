@@ -121,7 +121,7 @@ fn path_on_table(valued: bool, t: &[u64], r: Round, out: &mut [u64]) -> PathAnsw
     let count = tree_steps::path::path_into(t, n, round, out, 0);
     if count == 0 {
         return PathAnswer {
-            number: numbers::SLICE_SHORT,
+            number: numbers::PATH_TOO_LONG,
             count: 0,
         };
     }

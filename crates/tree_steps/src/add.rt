@@ -29,13 +29,13 @@ fn add_number(valued: bool, t: &[u64], l: Look, r: Round, v: u64, p: Round) -> u
         return numbers::PARENT_NOT_BELOW;
     }
     if tree_table::other_value(valued, v, p.0 as u64, tree_table::value_at(t, l.parent)) {
-        return numbers::PARENT_VALUE;
+        return numbers::VALUE_DIFFERS;
     }
     if l.blocked {
         return numbers::CROSSES_COMMITTED;
     }
     if numbers::no_row_left(t.len() / 4, l.used) {
-        return numbers::TABLE_FULL;
+        return numbers::NO_FREE_ROW;
     }
     numbers::OK
 }

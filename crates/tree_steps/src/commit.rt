@@ -21,10 +21,10 @@ fn commit_number(t: &[u64], k: usize, r: Round) -> u32
     }
     let s = tree_table::status_at(t, k);
     if s == tree_table::COMMITTED {
-        return numbers::ROUND_COMMITTED;
+        return numbers::IS_COMMITTED;
     }
     if s == tree_table::GHOST {
-        return numbers::ROUND_GHOST;
+        return numbers::IS_GHOST;
     }
     numbers::OK
 }

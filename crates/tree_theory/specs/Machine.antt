@@ -8,8 +8,8 @@ use lib.Dec.{ltb, leb, eqb}
 use Rattle.laws.specs.Lists.{any}
 use Rattle.ids.specs.Ranges.{out-of-range}
 use Rattle.laws.specs.First.{Cause, _gives_, first}
-use Rattle.numbers.specs.Numbers.{OK, ROUND-RANGE, ROUND-PRESENT, PARENT-ABSENT, PARENT-NOT-BELOW, PARENT-VALUE, CROSSES-COMMITTED, TABLE-FULL}
-use Rattle.numbers.specs.Numbers.{ROUND-ABSENT, ROUND-COMMITTED, ROUND-GHOST, no-row-left}
+use Rattle.numbers.specs.Numbers.{OK, ROUND-RANGE, ROUND-PRESENT, PARENT-ABSENT, PARENT-NOT-BELOW, VALUE-DIFFERS, CROSSES-COMMITTED, NO-FREE-ROW}
+use Rattle.numbers.specs.Numbers.{ROUND-ABSENT, IS-COMMITTED, IS-GHOST, no-row-left}
 
 -- a used row of the node table
 pub record Node : Type 0 where
@@ -95,14 +95,14 @@ causes valued rows ns (add r v p) =
     present r ns gives ROUND-PRESENT ∷
     not (present p ns) gives PARENT-ABSENT ∷
     leb r p gives PARENT-NOT-BELOW ∷
-    (valued && other-value ns v p) gives PARENT-VALUE ∷
+    (valued && other-value ns v p) gives VALUE-DIFFERS ∷
     any (blocks r p) ns gives CROSSES-COMMITTED ∷
-    no-row-left rows (length ns) gives TABLE-FULL ∷ []
+    no-row-left rows (length ns) gives NO-FREE-ROW ∷ []
 causes valued rows ns (commit r) =
     out-of-range r gives ROUND-RANGE ∷
     not (present r ns) gives ROUND-ABSENT ∷
-    eqb (find r ns .status) COMMITTED gives ROUND-COMMITTED ∷
-    eqb (find r ns .status) GHOST gives ROUND-GHOST ∷ []
+    eqb (find r ns .status) COMMITTED gives IS-COMMITTED ∷
+    eqb (find r ns .status) GHOST gives IS-GHOST ∷ []
 
 -- 0 (OK) or the number of the first cause
 unfoldable pub answer : Bool → ℕ → List Node → Call → ℕ

@@ -8,7 +8,7 @@ use lib.ListN.{length, getD, replicate, drop}
 use lib.Dec.{ltb, leb, eqb}
 use Rattle.laws.specs.First.{Cause, _gives_, first}
 use Rattle.ids.specs.Ranges.{above-range}
-use Rattle.numbers.specs.Numbers.{OK, TABLE-LENGTH, NOT-A-TREE, ROUND-RANGE, ROUND-ABSENT, SLICE-SHORT}
+use Rattle.numbers.specs.Numbers.{OK, TABLE-LENGTH, NOT-A-TREE, ROUND-RANGE, ROUND-ABSENT, PATH-TOO-LONG}
 use Rattle.tree_theory.specs.Machine.{Node, node-of, Call, add, commit, FREE, COMMITTED, fresh, present, path, causes, change, after}
 
 -- a multiple of 4 from 4 to 1,024
@@ -119,7 +119,7 @@ abbrev pub path-causes : List ℕ → ℕ → List ℕ → List Cause
 path-causes ws r out =
     above-range r gives ROUND-RANGE ∷
     not (present r (nodes ws)) gives ROUND-ABSENT ∷
-    ltb (length out) (length (path (nodes ws) r)) gives SLICE-SHORT ∷ []
+    ltb (length out) (length (path (nodes ws) r)) gives PATH-TOO-LONG ∷ []
 
 -- path: the number, how many rounds, and the slice lent for them after
 unfoldable pub path-number : Bool → List ℕ → ℕ → List ℕ → ℕ

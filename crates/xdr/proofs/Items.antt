@@ -6,24 +6,24 @@ use Prim.Native.Nat.{ℕ, _+_, _≤_, _<_}
 use native.Mathlib.Omega.{arith}
 use lib.ListN.{length, take, drop, length-append, drop-of-length-le}
 use Rattle.laws.specs.Parts.{written-on}
-use Rattle.xdr.specs.Words.{Bytes, word, hyper, word-at, hyper-at}
-use Rattle.xdr.specs.Items.{Item, integer, long, width, span, item, encoded, Stand}
+use Rattle.xdr.specs.Words.{AllBytes, word, hyper, word-at, hyper-at}
+use Rattle.xdr.specs.Items.{Item, integer, long, width, span, item-bytes, encoded, Stand}
 use Rattle.xdr.proofs.Laws.{length-word, length-hyper, word-found, hyper-found, word-whole, hyper-whole}
 
 pub encoded-append : (is js : List Item) → encoded (is ++ js) ≡ encoded is ++ encoded js
 unfolding encoded
 encoded-append [] js = refl
-encoded-append (i ∷ is) js = rw (encoded-append is js, append-assoc (item i) (encoded is) (encoded js))
+encoded-append (i ∷ is) js = rw (encoded-append is js, append-assoc (item-bytes i) (encoded is) (encoded js))
 
-pub length-item : (i : Item) → length (item i) ≡ width i
-unfolding item
+pub length-item : (i : Item) → length (item-bytes i) ≡ width i
+unfolding item-bytes
 length-item (integer x) = length-word x
 length-item (long x) = length-hyper x
 
 pub length-encoded : (is : List Item) → length (encoded is) ≡ span is
 unfolding encoded
 length-encoded [] = refl
-length-encoded (i ∷ l) = rw (length-append (item i) (encoded l), length-item i, length-encoded l)
+length-encoded (i ∷ l) = rw (length-append (item-bytes i) (encoded l), length-item i, length-encoded l)
 
 -- an item is read where it was put
 pub integer-found : (is js : List Item) (x at : ℕ) → length (encoded is) ≡ at → x < 4294967296 → word-at (encoded (is ++ integer x ∷ js)) at ≡ x
@@ -42,7 +42,7 @@ step s w rest at n size e first further =
     sym (first (omega arith)) ∙ ap (λ (t : List ℕ). w ++ t) (further (omega arith))
 
 -- bytes in which items stand to the end are the bytes of the items
-pub stands : (s : List ℕ) (at : ℕ) (is : List Item) → Bytes s → Stand s at is → at + length (encoded is) ≡ length s → drop at s ≡ encoded is
+pub stands : (s : List ℕ) (at : ℕ) (is : List Item) → AllBytes s → Stand s at is → at + length (encoded is) ≡ length s → drop at s ≡ encoded is
 unfolding encoded
 stands s at [] k h e =
     let past : length s ≤ at = omega arith in
@@ -58,8 +58,8 @@ span-snoc (j ∷ is) i = rw (span-snoc is i) (omega arith)
 
 -- an item put behind others
 pub put-on : (l m r : List ℕ) (is : List Item) (i : Item) → span is + width i ≤ length l → m ≡ encoded is ++ drop (span is) l →
-    r ≡ take (span is) m ++ item i ++ drop (span is + width i) m → r ≡ encoded (is ++ i ∷ []) ++ drop (span is + width i) l
+    r ≡ take (span is) m ++ item-bytes i ++ drop (span is + width i) m → r ≡ encoded (is ++ i ∷ []) ++ drop (span is + width i) l
 unfolding encoded
 put-on l m r is i h e f =
-    rw (f, e, encoded-append is (i ∷ []), append-nil (item i))
-    (written-on l (encoded is) (item i) 0 (span is) (span is + width i) (rw (length-encoded is) (omega arith)) (rw (length-item i)) h)
+    rw (f, e, encoded-append is (i ∷ []), append-nil (item-bytes i))
+    (written-on l (encoded is) (item-bytes i) 0 (span is) (span is + width i) (rw (length-encoded is) (omega arith)) (rw (length-item i)) h)

@@ -10,7 +10,7 @@ use lib.ListN.{length, take, drop, getD, set, length-append, length-take, length
 use lib.Seq.{take-suc, take-all, take-at, drop-at, length-take-le, take-append-le, drop-append-le, drop-drop, drop-cons, take-add, sets-eq}
 use Rattle.laws.specs.Lists.{_∈_, in-last, every-snoc}
 use Rattle.laws.specs.Parts.{written-on}
-use Rattle.xdr.specs.Words.{Bytes, big-endian, value-after, value, word, hyper, word-at, hyper-at}
+use Rattle.xdr.specs.Words.{AllBytes, big-endian, value-after, value, word, hyper, word-at, hyper-at}
 
 value-snoc : (a b : ℕ) (l : List ℕ) → value-after a (l ++ b ∷ []) ≡ value-after a l * 256 + b
 unfolding value-after
@@ -22,7 +22,7 @@ unfolding big-endian
 length-big-endian zero x = refl
 length-big-endian (suc n) x = rw (length-append (big-endian n (x / 256)) (x % 256 ∷ []), length-big-endian n (x / 256)) (omega arith)
 
-pub bytes-big-endian : (n x : ℕ) → Bytes (big-endian n x)
+pub bytes-big-endian : (n x : ℕ) → AllBytes (big-endian n x)
 unfolding big-endian
 bytes-big-endian zero x b m = elim m [ ]
 bytes-big-endian (suc n) x b m = every-snoc (λ (c : ℕ). c < 256) (big-endian n (x / 256)) (x % 256) (bytes-big-endian n (x / 256)) (omega arith) b m
@@ -37,7 +37,7 @@ spelt (suc n) x h =
     rw (value-snoc 0 (x % 256) (big-endian n (x / 256)), e) (omega arith)
 
 -- what is read was written
-pub respelt : (n : ℕ) (l : List ℕ) → length l ≡ n → Bytes l → big-endian n (value l) ≡ l
+pub respelt : (n : ℕ) (l : List ℕ) → length l ≡ n → AllBytes l → big-endian n (value l) ≡ l
 unfolding big-endian value value-after
 respelt zero [] h k = refl
 respelt zero (b ∷ l) h k = absurd (omega arith)
@@ -73,7 +73,7 @@ value-append l k = further 0 l k ∙ value-shift (value-after 0 l) k
     further a (b ∷ l) k = further (a * 256 + b) l k
 
 -- bytes spell a number that fits their width
-value-small : (l : List ℕ) → Bytes l → value l < 256 ^ length l
+value-small : (l : List ℕ) → AllBytes l → value l < 256 ^ length l
 unfolding value value-after
 value-small [] k = omega arith
 value-small (b ∷ l) k =
@@ -89,7 +89,7 @@ found n x at front rest small h =
     rw (drop-at front (big-endian n x ++ rest) at h, take-at (big-endian n x) rest n (length-big-endian n x)) (spelt n x small)
 
 -- the n bytes at a place are bytes, n of them
-part-bytes : (n at : ℕ) (s : List ℕ) → Bytes s → Bytes (take n (drop at s))
+part-bytes : (n at : ℕ) (s : List ℕ) → AllBytes s → AllBytes (take n (drop at s))
 part-bytes n at s k b m =
     let inner : b ∈ drop at s = rw (take-append-drop n (drop at s)) at (Memᴰ·append-left (drop n (drop at s)) m) in
     k b (rw (take-append-drop at s) at (Memᴰ·append-right (take at s) inner))
@@ -98,7 +98,7 @@ part-length : (n at : ℕ) (s : List ℕ) → at + n ≤ length s → length (ta
 part-length n at s h = length-take-le n (drop at s) (rw (length-drop at s) (omega arith))
 
 -- they are those of the number that stands there
-whole : (n at : ℕ) (s : List ℕ) → Bytes s → at + n ≤ length s → big-endian n (value (take n (drop at s))) ++ drop (at + n) s ≡ drop at s
+whole : (n at : ℕ) (s : List ℕ) → AllBytes s → at + n ≤ length s → big-endian n (value (take n (drop at s))) ++ drop (at + n) s ≡ drop at s
 whole n at s k h =
     rw (respelt n (take n (drop at s)) (part-length n at s h) (part-bytes n at s k), ← drop-drop n at s) (take-append-drop n (drop at s))
 
@@ -118,15 +118,15 @@ pub hyper-found : (front rest : List ℕ) (x at : ℕ) → length front ≡ at �
 unfolding hyper hyper-at
 hyper-found front rest x at e h = found 8 x at front rest h e
 
-pub word-whole : (at : ℕ) (s : List ℕ) → Bytes s → at + 4 ≤ length s → word (word-at s at) ++ drop (at + 4) s ≡ drop at s
+pub word-whole : (at : ℕ) (s : List ℕ) → AllBytes s → at + 4 ≤ length s → word (word-at s at) ++ drop (at + 4) s ≡ drop at s
 unfolding word word-at
 word-whole at s k h = whole 4 at s k h
 
-pub hyper-whole : (at : ℕ) (s : List ℕ) → Bytes s → at + 8 ≤ length s → hyper (hyper-at s at) ++ drop (at + 8) s ≡ drop at s
+pub hyper-whole : (at : ℕ) (s : List ℕ) → AllBytes s → at + 8 ≤ length s → hyper (hyper-at s at) ++ drop (at + 8) s ≡ drop at s
 unfolding hyper hyper-at
 hyper-whole at s k h = whole 8 at s k h
 
-pub hyper-at-small : (at : ℕ) (s : List ℕ) → Bytes s → hyper-at s at < 18446744073709551616
+pub hyper-at-small : (at : ℕ) (s : List ℕ) → AllBytes s → hyper-at s at < 18446744073709551616
 unfolding hyper-at
 hyper-at-small at s k =
     let part = take 8 (drop at s) in
@@ -150,7 +150,7 @@ big-endian-parts m n high low h k =
     rw (value-append (big-endian m high) (big-endian n low), length-big-endian n low, spelt m high h, spelt n low k) in
     let size : length both ≡ m + n =
     rw (length-append (big-endian m high) (big-endian n low), length-big-endian m high, length-big-endian n low) in
-    let bytes : Bytes both =
+    let bytes : AllBytes both =
     λ b p. ⊎-elim (bytes-big-endian m high b) (bytes-big-endian n low b) (List·Memᴰ·append-cases (big-endian m high) p) in
     rw v at (respelt (m + n) both size bytes)
 

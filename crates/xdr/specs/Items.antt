@@ -19,15 +19,15 @@ span [] = 0
 span (i ∷ l) = width i + span l
 
 -- the bytes of one
-unfoldable pub item : Item → List ℕ
-item (integer x) = word x
-item (long x) = hyper x
+unfoldable pub item-bytes : Item → List ℕ
+item-bytes (integer x) = word x
+item-bytes (long x) = hyper x
 
 -- the bytes of all
 unfoldable pub encoded : List Item → List ℕ
-unfolding item
+unfolding item-bytes
 encoded [] = []
-encoded (i ∷ l) = item i ++ encoded l
+encoded (i ∷ l) = item-bytes i ++ encoded l
 
 -- they stand in s from a place on
 abbrev pub Stand : List ℕ → ℕ → List Item → Type 0

@@ -5,8 +5,8 @@ use lib.ListN.{take, drop}
 use Rattle.laws.specs.Lists.{_∈_}
 
 -- each element is a byte
-abbrev pub Bytes : List ℕ → Type 0
-Bytes l = (b : ℕ) → b ∈ l → b < 256
+abbrev pub AllBytes : List ℕ → Type 0
+AllBytes l = (b : ℕ) → b ∈ l → b < 256
 
 -- x as n bytes, high byte first: the low byte stands last
 unfoldable pub big-endian : ℕ → ℕ → List ℕ

@@ -4,12 +4,12 @@ use mathlib.Core.List.{List, [], _∷_, _++_}
 use Prim.Native.Nat.{ℕ, _+_, _≤_}
 use lib.ListN.{length}
 use Rattle.laws.specs.Parts.{written-length}
-use Rattle.xdr.specs.Items.{Item, width, span, item, encoded}
+use Rattle.xdr.specs.Items.{Item, width, span, item-bytes, encoded}
 use Rattle.xdr.proofs.Items.{length-item, span-snoc, put-on}
 use Rattle.xdr_writer.specs.Put.{with-item, Puts, Fronts}
 
 pub put-length : (i : Item) (at : ℕ) (l : List ℕ) → at + width i ≤ length l → length (with-item i at l) ≡ length l
-put-length i at l h = written-length l (item i) at (at + width i) (rw (length-item i)) h
+put-length i at l h = written-length l (item-bytes i) at (at + width i) (rw (length-item i)) h
 
 -- nothing is put yet
 pub at-front : (l : List ℕ) → Fronts [] l 0 l

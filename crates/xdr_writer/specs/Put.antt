@@ -4,12 +4,12 @@ use mathlib.Core.List.{List, _++_}
 use Prim.Native.Nat.{ℕ, _+_}
 use lib.ListN.{take, drop}
 use denote.Ref.{now, at-last}
-use Rattle.xdr.specs.Items.{Item, width, span, item, encoded}
+use Rattle.xdr.specs.Items.{Item, width, span, item-bytes, encoded}
 use Rattle.xdr_writer.specs.declared.Writer.{Writer}
 
 -- the bytes with an item at a place
 abbrev pub with-item : Item → ℕ → List ℕ → List ℕ
-with-item i at l = take at l ++ item i ++ drop (at + width i) l
+with-item i at l = take at l ++ item-bytes i ++ drop (at + width i) l
 
 -- an item put at a place: the place after it, and the bytes after
 pub record Puts (i : Item) (old : List ℕ) (at next : ℕ) (new : List ℕ) : Type 0 where

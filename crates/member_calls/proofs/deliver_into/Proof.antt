@@ -1,4 +1,4 @@
--- `crate::deliver_into` meets its contract: each return goes by the numbers that led there. Assumes nothing.
+-- `member_calls::deliver_into` meets its contract: each return goes by the numbers that led there. Assumes nothing.
 use mathlib.Core.Path.{refl, sym, _∙_}
 use denote.Ref.{now}
 use Rattle.message.specs.Reading.{message-row, decoded}

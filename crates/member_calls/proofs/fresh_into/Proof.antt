@@ -1,4 +1,4 @@
--- `crate::fresh_into` meets its contract: each return goes by the test that led there. Assumes nothing.
+-- `member_calls::fresh_into` meets its contract: each return goes by the test that led there. Assumes nothing.
 use mathlib.Core.Path.{refl}
 use borrow.Author.Tests.{not-true, not-false}
 use Rattle.member_calls.specs.Calls.{fresh-call}

@@ -1,4 +1,4 @@
--- `crate::record_number` meets its contract: each return goes by the tests that led there. Assumes nothing.
+-- `member_calls::record_number` meets its contract: each return goes by the tests that led there. Assumes nothing.
 use borrow.Author.Needs.{needs}
 use Rattle.member_calls.proofs.record_number.Statement.{statement}
 use Rattle.member_calls.proofs.record_number.Tie as tie

@@ -1,4 +1,4 @@
--- `crate::start_into` meets its contract: each return goes by the number that led there. Assumes nothing.
+-- `member_calls::start_into` meets its contract: each return goes by the number that led there. Assumes nothing.
 use mathlib.Core.Path.{refl}
 use mathlib.Core.List.{[]}
 use denote.Ref.{now}

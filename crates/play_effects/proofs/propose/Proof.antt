@@ -63,8 +63,8 @@ returns c =
       table-is = rw n refl;
     }
 
-put-requires : tie.Need-put-requires
-put-requires c κs =
+store-message-requires : tie.Need-put-requires
+store-message-requires c κs =
     let s = entry (c .before .before) in
     let (row, _) = passed (proposal-causes (s .args .tally) (lent s)) refl (free (c .before)) in
     (row-free (s .args .tally) (now (s .args .messages)) row, s .pre .1)
@@ -90,7 +90,7 @@ returns-2 c =
     let n : eqb (number-at (entry (test .before))) OK ≡ true = eq-eqb _ _ (free test) in
     record {
       result-is = rw n (ap (accepted-event _) (c .counted .ensures));
-      store-is = rw n (put .put .ensures);
+      store-is = rw n (put .store-message .ensures);
       table-is = rw n (added .add-in-tree .ensures .table-is);
     }
 
@@ -103,7 +103,7 @@ propose-spec =
     same-length
     same-length-2
     returns
-    put-requires
+    store-message-requires
     add-in-tree-requires
     counted-requires
     same-length-3

@@ -33,8 +33,8 @@ returns c =
     let full = sym (c .before .before .no-room-to-send .ensures) ∙ c .before .if1 .taken in
     record { result-is = rw full (c .refused-event .ensures); store-is = rw full refl }
 
-put-requires : tie.Need-put-requires
-put-requires c κs =
+store-message-requires : tie.Need-put-requires
+store-message-requires c κs =
     let s = entry (c .before .before) in
     (row-free (s .args .tally) (now (s .args .messages)) (free (c .before)), s .pre .1)
 
@@ -48,9 +48,9 @@ returns-2 : tie.Need-returns-2
 returns-2 c =
     let put = c .before .before .before in
     let row = free (tested put) in
-    record { result-is = rw row (ap (accepted-event _) (c .counted .ensures)); store-is = rw row (put .put .ensures) }
+    record { result-is = rw row (ap (accepted-event _) (c .counted .ensures)); store-is = rw row (put .store-message .ensures) }
 
 pub send-spec : {M : Type 1} → statement M
 send-spec =
     tie.close
-    (tie.spec no-room-to-send-requires refused-event-requires same-length returns put-requires counted-requires same-length-2 returns-2)
+    (tie.spec no-room-to-send-requires refused-event-requires same-length returns store-message-requires counted-requires same-length-2 returns-2)

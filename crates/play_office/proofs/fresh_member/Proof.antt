@@ -1,4 +1,4 @@
--- `crate::fresh_member` meets its contract by that of `member_record::blank`. Assumes nothing.
+-- `play_office::fresh_member` meets its contract by that of `member_record::blank`. Assumes nothing.
 use borrow.Author.Needs.{needs}
 use Rattle.play_office.proofs.fresh_member.Statement.{statement}
 use Rattle.play_office.proofs.fresh_member.Tie as tie

@@ -1,4 +1,4 @@
--- `crate::fresh_office` meets its contract: seven fresh records in a row. Assumes nothing.
+-- `play_office::fresh_office` meets its contract: seven fresh records in a row. Assumes nothing.
 use mathlib.Core.Path.{refl}
 use Rattle.model.specs.Model.{fresh-members}
 use Rattle.play_office.specs.Represents.{fresh-office}

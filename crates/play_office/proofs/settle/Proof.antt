@@ -1,4 +1,4 @@
--- `crate::settle` meets its contract: each answer of the member is one arm, and each arm one law. Assumes nothing.
+-- `play_office::settle` meets its contract: each answer of the member is one arm, and each arm one law. Assumes nothing.
 use Rattle.member.proofs.Checks.{refused-byte, refused-some}
 use Rattle.play_office.proofs.Before.{counts-fit, is-a-tree}
 use Rattle.play_office.proofs.Settling.{as-result}

@@ -1,4 +1,4 @@
--- `crate::has_table_length` meets its contract: each return goes by the tests that led there. Assumes nothing.
+-- `tree_check::has_table_length` meets its contract: each return goes by the tests that led there. Assumes nothing.
 use mathlib.Core.Path.{refl}
 use borrow.Author.Tests.{eq-eqb, ne-eqb, le-leb, lt-leb}
 use Rattle.tree_check.proofs.has_table_length.Statement.{statement}

@@ -1,4 +1,4 @@
--- `crate::is_tree` meets its contract: its tests are `checks`, which is `is-tree`. Assumes nothing.
+-- `tree_check::is_tree` meets its contract: its tests are `checks`, which is `is-tree`. Assumes nothing.
 use mathlib.Core.Path.{_≡_, sym, _∙_}
 use mathlib.Core.Bool.{true, false}
 use Prim.Native.Nat.{_≤_, _*_}

@@ -1,4 +1,4 @@
--- `crate::root_fits` meets its contract: each return goes by the tests that led there. Assumes nothing.
+-- `tree_check::root_fits` meets its contract: each return goes by the tests that led there. Assumes nothing.
 use mathlib.Core.Path.{_≡_, refl, sym, _∙_}
 use borrow.Author.Needs.{needs}
 use borrow.Author.Tests.{eq-eqb, ne-eqb}

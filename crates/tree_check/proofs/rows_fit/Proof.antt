@@ -1,4 +1,4 @@
--- `crate::rows_fit` meets its contract: every row passed fits. Assumes nothing.
+-- `tree_check::rows_fit` meets its contract: every row passed fits. Assumes nothing.
 use mathlib.Core.Path.{sym}
 use Prim.Native.Nat.{_-_}
 use native.Mathlib.Omega.{arith}

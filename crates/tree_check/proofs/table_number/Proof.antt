@@ -1,4 +1,4 @@
--- `crate::table_number` meets its contract: each test stands for one cause. Assumes nothing.
+-- `tree_check::table_number` meets its contract: each test stands for one cause. Assumes nothing.
 use mathlib.Core.Path.{_≡_, refl, sym, _∙_}
 use mathlib.Core.Bool.{true}
 use borrow.Author.Needs.{needs}

@@ -1,4 +1,4 @@
--- `crate::zeros_from` meets its contract: every word passed is zero. Assumes nothing.
+-- `tree_check::zeros_from` meets its contract: every word passed is zero. Assumes nothing.
 use mathlib.Core.Path.{sym}
 use Prim.Native.Nat.{_-_}
 use native.Mathlib.Omega.{arith}

@@ -1,4 +1,4 @@
--- `crate::reply::refuse` meets its contract: all numbers but the first are 0. Assumes nothing.
+-- `member_calls::reply::refuse` meets its contract: all numbers but the first are 0. Assumes nothing.
 use mathlib.Core.Path.{refl}
 use borrow.Author.Needs.{needs}
 use Rattle.member_calls.proofs.reply.refuse.Statement.{statement}

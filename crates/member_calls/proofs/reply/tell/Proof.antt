@@ -1,4 +1,4 @@
--- `crate::reply::tell` meets its contract, answer by answer. Assumes nothing.
+-- `member_calls::reply::tell` meets its contract, answer by answer. Assumes nothing.
 use mathlib.Core.Path.{refl}
 use Rattle.member.proofs.Checks.{sent-in-bounds, proposed-in-bounds}
 use borrow.Author.Needs.{needs}

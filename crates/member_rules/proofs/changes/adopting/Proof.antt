@@ -1,4 +1,4 @@
--- `crate::changes::adopting` meets its contract: each return goes by the tests that led there. Assumes nothing.
+-- `member_rules::changes::adopting` meets its contract: each return goes by the tests that led there. Assumes nothing.
 use borrow.Author.Tests.{lt-ltb, le-ltb}
 use Rattle.member_rules.specs.Changes.{adopting}
 use borrow.Author.Needs.{needs}

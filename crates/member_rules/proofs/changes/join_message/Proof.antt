@@ -1,4 +1,4 @@
--- `crate::changes::join_message` meets its contract: each return goes by the tests that led there. Assumes nothing.
+-- `member_rules::changes::join_message` meets its contract: each return goes by the tests that led there. Assumes nothing.
 use borrow.Author.Tests.{lt-ltb, le-ltb}
 use Rattle.member_rules.proofs.changes.join_message.Statement.{statement}
 use Rattle.member_rules.proofs.changes.join_message.Tie as tie

@@ -1,4 +1,4 @@
--- `crate::refusals::check_count` meets its contract: each return goes by the tests that led there. Assumes nothing.
+-- `member_rules::refusals::check_count` meets its contract: each return goes by the tests that led there. Assumes nothing.
 use borrow.Author.Tests.{eq-eqb, ne-eqb, le-leb, lt-leb}
 use borrow.Author.Needs.{needs}
 use Rattle.member_rules.proofs.refusals.check_count.Statement.{statement}

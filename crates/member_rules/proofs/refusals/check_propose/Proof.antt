@@ -1,4 +1,4 @@
--- `crate::refusals::check_propose` meets its contract: each return goes by the tests that led there. Assumes nothing.
+-- `member_rules::refusals::check_propose` meets its contract: each return goes by the tests that led there. Assumes nothing.
 use mathlib.Core.Path.{_≡_, sym, _∙_}
 use mathlib.Core.List.{[], _∷_}
 use borrow.Author.Tests.{lt-ltb, le-ltb}

@@ -1,4 +1,4 @@
--- `crate::refusals::check_start` meets its contract: each return goes by the tests that led there. Assumes nothing.
+-- `member_rules::refusals::check_start` meets its contract: each return goes by the tests that led there. Assumes nothing.
 use borrow.Author.Tests.{le-leb, lt-leb}
 use Rattle.member_rules.proofs.Checks.{denied}
 use borrow.Author.Needs.{needs}

@@ -1,4 +1,4 @@
--- `crate::refusals::check_start_call` meets its contract: each return goes by the tests that led there. Assumes nothing.
+-- `member_rules::refusals::check_start_call` meets its contract: each return goes by the tests that led there. Assumes nothing.
 use mathlib.Core.Path.{_≡_}
 use mathlib.Core.List.{[], _∷_}
 use lib.Dec.{leb}

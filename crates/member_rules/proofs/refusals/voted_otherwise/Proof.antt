@@ -1,4 +1,4 @@
--- `crate::refusals::voted_otherwise` meets its contract: each return goes by the tests that led there. Assumes nothing.
+-- `member_rules::refusals::voted_otherwise` meets its contract: each return goes by the tests that led there. Assumes nothing.
 use borrow.Author.Tests.{eq-eqb, ne-eqb}
 use Rattle.member_rules.proofs.refusals.voted_otherwise.Statement.{statement}
 use Rattle.member_rules.proofs.refusals.voted_otherwise.Tie as tie

@@ -1,4 +1,4 @@
--- `crate::event::place` meets its contract: the member that the event names. Assumes nothing.
+-- `play_office::event::place` meets its contract: the member that the event names. Assumes nothing.
 use mathlib.Core.Path.{sym, ap, _∙_}
 use Rattle.play_events.specs.Value.{model-event}
 use Rattle.model.specs.Model.{at-member}

@@ -1,4 +1,4 @@
--- `crate::event::place_of` meets its contract: one test. Assumes nothing.
+-- `play_office::event::place_of` meets its contract: one test. Assumes nothing.
 use mathlib.Core.Path.{refl}
 use borrow.Author.Tests.{lt-ltb, le-ltb}
 use borrow.Author.Needs.{needs}

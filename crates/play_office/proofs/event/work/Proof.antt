@@ -1,4 +1,4 @@
--- `crate::event::work` meets its contract: each kind of event has its own function. Assumes nothing.
+-- `play_office::event::work` meets its contract: each kind of event has its own function. Assumes nothing.
 use mathlib.Core.Path.{_≡_, sym, subst}
 use Rattle.member_record.specs.declared.MemberState.{MemberState}
 use Rattle.play_events.specs.declared.PlayEvent.{PlayEvent}

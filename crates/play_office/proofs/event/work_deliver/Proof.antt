@@ -1,4 +1,4 @@
--- `crate::event::work_deliver` meets its contract: 29, or the step of the model's member at the message of that row, settled. Assumes nothing.
+-- `play_office::event::work_deliver` meets its contract: 29, or the step of the model's member at the message of that row, settled. Assumes nothing.
 use Rattle.play_office.proofs.Settling.{as-result}
 use Rattle.play_office.proofs.Working.{no-member, no-message, sound-member, row-within, row-ranged, to-settle, step-deliver}
 use borrow.Author.Needs.{needs}

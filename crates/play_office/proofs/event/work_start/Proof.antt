@@ -1,4 +1,4 @@
--- `crate::event::work_start` meets its contract: 29, or the step of the model's member, settled. Assumes nothing.
+-- `play_office::event::work_start` meets its contract: 29, or the step of the model's member, settled. Assumes nothing.
 use Rattle.play_office.proofs.Settling.{as-result}
 use Rattle.play_office.proofs.Working.{no-member, sound-member, to-settle, step-start}
 use borrow.Author.Needs.{needs}

@@ -1,4 +1,4 @@
--- `crate::rows::round_fits` meets its contract: each return goes by the tests that led there. Assumes nothing.
+-- `tree_check::rows::round_fits` meets its contract: each return goes by the tests that led there. Assumes nothing.
 use mathlib.Core.Path.{_≡_, refl, sym, ap, _∙_}
 use mathlib.Core.Bool.{not}
 use borrow.Author.Needs.{needs}

@@ -1,4 +1,4 @@
--- `crate::rows::row_fits` meets its contract: each test stands for one part of `fits`. Assumes nothing.
+-- `tree_check::rows::row_fits` meets its contract: each test stands for one part of `fits`. Assumes nothing.
 use mathlib.Core.Path.{_≡_, refl, sym, ap, _∙_}
 use mathlib.Core.Bool.{Bool, _&&_}
 use mathlib.Core.List.{List}

@@ -1,4 +1,4 @@
--- `crate::add::add_number` meets its contract: each test stands for one cause of the machine, in its order. What a test left behind is a lemma
+-- `tree_steps::add::add_number` meets its contract: each test stands for one cause of the machine, in its order. What a test left behind is a lemma
 -- at its place, used by every return after it. Assumes nothing.
 use mathlib.Core.Path.{_≡_, refl, sym, _∙_}
 use mathlib.Core.Bool.{false, _&&_}
@@ -10,7 +10,7 @@ use borrow.Author.Needs.{needs}
 use borrow.Author.Tests.{leb-true, leb-false}
 use denote.Ref.{now}
 use Rattle.ids.specs.Ranges.{out-of-range}
-use Rattle.numbers.specs.Numbers.{PARENT-NOT-BELOW, PARENT-VALUE, CROSSES-COMMITTED, TABLE-FULL, no-row-left}
+use Rattle.numbers.specs.Numbers.{PARENT-NOT-BELOW, VALUE-DIFFERS, CROSSES-COMMITTED, NO-FREE-ROW, no-row-left}
 use Rattle.laws.specs.Lists.{any}
 use Rattle.laws.specs.First.{Cause, first, _gives_}
 use Rattle.tree_theory.specs.Machine.{other-value, blocks, causes, answer, add}
@@ -30,13 +30,13 @@ answered s = answer (s .args .valued) (rows (table s)) (nodes (table s)) (add (s
 
 -- the last causes
 abbrev from-full : tie.Start → List Cause
-from-full s = no-row-left (rows (table s)) (length (nodes (table s))) gives TABLE-FULL ∷ []
+from-full s = no-row-left (rows (table s)) (length (nodes (table s))) gives NO-FREE-ROW ∷ []
 
 abbrev from-blocked : tie.Start → List Cause
 from-blocked s = any (blocks (s .args .r .0) (s .args .p .0)) (nodes (table s)) gives CROSSES-COMMITTED ∷ from-full s
 
 abbrev from-value : tie.Start → List Cause
-from-value s = (s .args .valued && other-value (nodes (table s)) (s .args .v) (s .args .p .0)) gives PARENT-VALUE ∷ from-blocked s
+from-value s = (s .args .valued && other-value (nodes (table s)) (s .args .v) (s .args .p .0)) gives VALUE-DIFFERS ∷ from-blocked s
 
 abbrev from-below : tie.Start → List Cause
 from-below s = leb (s .args .r .0) (s .args .p .0) gives PARENT-NOT-BELOW ∷ from-value s
@@ -149,7 +149,7 @@ no-row-left-requires : tie.Need-no-row-left-requires
 no-row-left-requires c κs = search needs
 
 -- no cause but the last
-last : (c : tie.After-no-row-left) → answered (begun-5 (c .before .before)) ≡ first (c .no-row-left .result gives TABLE-FULL ∷ [])
+last : (c : tie.After-no-row-left) → answered (begun-5 (c .before .before)) ≡ first (c .no-row-left .result gives NO-FREE-ROW ∷ [])
 last c =
     let d = c .before .before in
     let s = begun-5 d in

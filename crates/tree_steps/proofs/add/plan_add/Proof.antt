@@ -1,4 +1,4 @@
--- `crate::add::plan_add` meets its contract: the row behind the used ones, and the status by the rounds above. Assumes nothing.
+-- `tree_steps::add::plan_add` meets its contract: the row behind the used ones, and the status by the rounds above. Assumes nothing.
 use mathlib.Core.Path.{ap, _∙_}
 use mathlib.Core.Bool.{cond}
 use borrow.Author.Needs.{needs}

@@ -1,4 +1,4 @@
--- `crate::call::plan_call` meets its contract: each arm goes by its call. Assumes nothing.
+-- `tree_steps::call::plan_call` meets its contract: each arm goes by its call. Assumes nothing.
 use borrow.Author.Needs.{needs}
 use Rattle.tree_steps.proofs.call.plan_call.Statement.{statement}
 use Rattle.tree_steps.proofs.call.plan_call.Tie as tie

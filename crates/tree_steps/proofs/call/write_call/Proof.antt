@@ -1,4 +1,4 @@
--- `crate::call::write_call` meets its contract: an add's node behind the struck rows, or a commit's status. Assumes nothing.
+-- `tree_steps::call::write_call` meets its contract: an add's node behind the struck rows, or a commit's status. Assumes nothing.
 use borrow.Author.Needs.{needs}
 use denote.Ref.{now}
 use Rattle.tree_steps.proofs.Inserting.{put-behind}

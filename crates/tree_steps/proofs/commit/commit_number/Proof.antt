@@ -1,4 +1,4 @@
--- `crate::commit::commit_number` meets its contract: each test stands for one cause of the machine, in its order. Assumes nothing.
+-- `tree_steps::commit::commit_number` meets its contract: each test stands for one cause of the machine, in its order. Assumes nothing.
 use mathlib.Core.Path.{_≡_, refl, sym, ap, _∙_}
 use mathlib.Core.Bool.{true, false}
 use mathlib.Core.List.{List, [], _∷_}
@@ -7,7 +7,7 @@ use borrow.Author.Needs.{needs}
 use borrow.Author.Tests.{eq-eqb, ne-eqb}
 use denote.Ref.{now}
 use Rattle.ids.specs.Ranges.{out-of-range}
-use Rattle.numbers.specs.Numbers.{ROUND-COMMITTED, ROUND-GHOST}
+use Rattle.numbers.specs.Numbers.{IS-COMMITTED, IS-GHOST}
 use Rattle.laws.specs.First.{first, _gives_}
 use Rattle.tree_theory.specs.Machine.{Node, GHOST, COMMITTED, find, causes, answer, commit}
 use Rattle.tree_theory.specs.Table.{rows, rows-of}
@@ -59,7 +59,7 @@ present-there : (c : tie.Else2) →
     let s = begun-2 c in
     let status = find (s .args .r .0) (all-rows s) .status in
     answer true (rows (now (s .args .t))) (all-rows s) (commit (s .args .r .0)) ≡
-    first (eqb status COMMITTED gives ROUND-COMMITTED ∷ eqb status GHOST gives ROUND-GHOST ∷ [])
+    first (eqb status COMMITTED gives IS-COMMITTED ∷ eqb status GHOST gives IS-GHOST ∷ [])
 unfolding answer causes
 present-there c =
     let s = begun-2 c in
@@ -74,7 +74,7 @@ returns-3 c =
 uncommitted : (c : tie.Else3) →
     let s = read (c .before) in
     answer true (rows (now (s .args .t))) (all-rows s) (commit (s .args .r .0)) ≡
-    first (eqb (find (s .args .r .0) (all-rows s) .status) GHOST gives ROUND-GHOST ∷ [])
+    first (eqb (find (s .args .r .0) (all-rows s) .status) GHOST gives IS-GHOST ∷ [])
 uncommitted c =
     let o = c .before in
     present-there (o .before) ∙ rw (ne-eqb _ _ (λ q. c .if3 .left (sym (status-is o) ∙ q))) refl

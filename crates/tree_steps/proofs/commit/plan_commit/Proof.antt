@@ -1,4 +1,4 @@
--- `crate::commit::plan_commit` meets its contract: the row found among all rows is that of the round. Assumes nothing.
+-- `tree_steps::commit::plan_commit` meets its contract: the row found among all rows is that of the round. Assumes nothing.
 use mathlib.Core.Path.{refl}
 use native.Mathlib.Omega.{arith}
 use borrow.Author.Needs.{needs}

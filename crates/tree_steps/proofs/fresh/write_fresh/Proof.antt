@@ -1,4 +1,4 @@
--- `crate::fresh::write_fresh` meets its contract: after i turns the first i words are zero and the rest is as it was. Of words that are all
+-- `tree_steps::fresh::write_fresh` meets its contract: after i turns the first i words are zero and the rest is as it was. Of words that are all
 -- zero, the root's status makes a fresh table. Assumes nothing.
 use mathlib.Core.Path.{_≡_, ap, _∙_}
 use Prim.Native.Nat.{ℕ, suc, _-_, _≤_}

@@ -1,4 +1,4 @@
--- `crate::look::look_on` meets its contract: each part goes by the row. Assumes nothing.
+-- `tree_steps::look::look_on` meets its contract: each part goes by the row. Assumes nothing.
 use mathlib.Core.Path.{_≡_, sym, ap, _∙_}
 use mathlib.Core.Bool.{_||_}
 use Prim.Native.Nat.{_+_}

@@ -1,4 +1,4 @@
--- `crate::look::look_over` meets its contract: after each turn what is held is what the rows passed say. Assumes nothing.
+-- `tree_steps::look::look_over` meets its contract: after each turn what is held is what the rows passed say. Assumes nothing.
 use mathlib.Core.Path.{sym, _∙_}
 use Prim.Native.Nat.{_-_}
 use native.Mathlib.Omega.{arith}

@@ -1,4 +1,4 @@
--- `crate::path::path_into` meets its contract, by recursion to the parent: the measure is the round. Assumes nothing.
+-- `tree_steps::path::path_into` meets its contract, by recursion to the parent: the measure is the round. Assumes nothing.
 use mathlib.Core.Path.{_≡_, sym, ap, _∙_}
 use Prim.Native.Nat.{ℕ, _<_}
 use native.Mathlib.Omega.{arith}

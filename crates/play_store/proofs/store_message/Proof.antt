@@ -1,4 +1,4 @@
--- `play_store::put` meets its contract: the part lent is the row, which has room for any message. Assumes nothing.
+-- `play_store::store_message` meets its contract: the part lent is the row, which has room for any message. Assumes nothing.
 use mathlib.Core.Path.{_≡_, _∙_}
 use mathlib.Core.List.{append-assoc}
 use Prim.Native.Nat.{_+_, _-_, _≤_}
@@ -10,8 +10,8 @@ use denote.Ref.{now}
 use Rattle.message.specs.Writing.{in-front}
 use Rattle.message.proofs.RoundTrip.{left-in-front}
 use Rattle.play_store.specs.Rows.{row-length, row-start, row-at}
-use Rattle.play_store.proofs.put.Statement.{statement}
-use Rattle.play_store.proofs.put.Tie as tie
+use Rattle.play_store.proofs.store_message.Statement.{statement}
+use Rattle.play_store.proofs.store_message.Tie as tie
 
 mul-start : tie.Need-mul-start
 mul-start c = search needs
@@ -52,8 +52,8 @@ returns c =
       ← drop-drop row-length (row-start (a .k)) s,
     )
 
-pub put-spec : {M : Type 1} → statement M
-put-spec =
+pub store-message-spec : {M : Type 1} → statement M
+store-message-spec =
     tie.close
     (tie.spec
     mul-start
