@@ -48,7 +48,7 @@ enum KalebasinNumber {
     KALEBASIN_REPLY_TOO_SHORT = 18,
     KALEBASIN_NOT_LEADER = 19,
     KALEBASIN_NOT_ABOVE_LED = 20,
-    KALEBASIN_SENDER = 21,
+    KALEBASIN_WRONG_SENDER = 21,
     KALEBASIN_MOVED_PAST = 22,
     KALEBASIN_ANOTHER_VALUE = 23,
     KALEBASIN_NOT_AWAITED = 24,
@@ -84,7 +84,7 @@ static inline const char *kalebasin_cause(uint32_t number) {
     case KALEBASIN_REPLY_TOO_SHORT: return "the reply buffer is under 28 bytes";
     case KALEBASIN_NOT_LEADER: return "the member isn't the leader of the round";
     case KALEBASIN_NOT_ABOVE_LED: return "the round isn't above the one the member led last";
-    case KALEBASIN_SENDER: return "the sender is no member, or doesn't lead the round";
+    case KALEBASIN_WRONG_SENDER: return "the sender is no member, or doesn't lead the round";
     case KALEBASIN_MOVED_PAST: return "the member has moved past the round";
     case KALEBASIN_ANOTHER_VALUE: return "the member has voted for another value in the round";
     case KALEBASIN_NOT_AWAITED: return "the message isn't awaited";

@@ -9,13 +9,13 @@ pub struct Round(pub u32);
 pub struct Member(pub u32);
 
 // The highest round.
-pub const LAST_ROUND: u32 = 1000000;
+const LAST_ROUND: u64 = 1000000;
 
 // Whether a number is above every round.
 pub fn above_range(x: u64) -> bool
     ensures { λ b. ⌜ b ≡ above-range x ⌝ }
 {
-    (LAST_ROUND as u64) < x
+    LAST_ROUND < x
 }
 
 // Whether a number, as a word of a table holds it, is a round: one of 1 to 1,000,000.

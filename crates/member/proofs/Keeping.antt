@@ -65,7 +65,8 @@ start-kept m r offer s (range, (leader, (higher, end))) =
       sent-in-range = one-sent (Start r (m .who .me)) (own-head m r s range);
     }
 
-START-kept : (m : MemberState) (r : Round) (t : Member) → length (m .lead .flags) ≡ 7 → SoundParts m → out-of-range (r .0) ≡ false → AllPassed (START-causes m r t)
+START-kept : (m : MemberState) (r : Round) (t : Member) → length (m .lead .flags) ≡ 7 → SoundParts m → out-of-range (r .0) ≡ false →
+    AllPassed (START-causes m r t)
     → Kept (START-row m r)
 START-kept m r t seven s range (leader, (higher, end)) =
     let v : SoundVotes (m .durable) = vote-parts (m .durable) (s .lasting) in

@@ -16,7 +16,8 @@ use Rattle.message.specs.Fields.{in-range}
 use Rattle.message.specs.Reading.{is-join, untold, no-kind, wrong-length, wrong-presence, inexact, size, decoded, ranged, reading}
 use Rattle.message.specs.Layout.{START-KIND, JOIN-KIND, PROPOSE-KIND, VOTE-KIND, kind-place, presence-place, kind-end, head-length, join-length}
 use Rattle.message.specs.Layout.{join-voted-length}
-use Rattle.message.specs.Layout.{propose-length, longest-message, byte-count, kind-in, message-round, message-sender, presence-in, message-voted, voted-value-in, proposed-in}
+use Rattle.message.specs.Layout.{propose-length, longest-message, byte-count, kind-in, message-round, message-sender, presence-in, message-voted}
+use Rattle.message.specs.Layout.{voted-value-in, proposed-in}
 use Rattle.message.specs.declared.Message.{Message}
 use Rattle.message.specs.declared.Message.the-variants.{Start, Join, JoinVoted, Propose, Vote}
 
@@ -43,7 +44,8 @@ module _ (s : List ℕ) where
   unfolding decoded
   decoded-join k p = rw (k, p)
 
-  pub decoded-join-voted : kind-in s ≡ JOIN-KIND → presence-in s ≡ 1 → decoded s ≡ JoinVoted (message-round s) (message-sender s) (message-voted s) (voted-value-in s)
+  pub decoded-join-voted : kind-in s ≡ JOIN-KIND → presence-in s ≡ 1 →
+      decoded s ≡ JoinVoted (message-round s) (message-sender s) (message-voted s) (voted-value-in s)
   unfolding decoded
   decoded-join-voted k p = rw (k, p)
 

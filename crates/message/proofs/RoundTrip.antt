@@ -26,8 +26,10 @@ use Rattle.message.specs.declared.Message.the-variants.{Start, Join, Joi
 use Rattle.message.specs.declared.Read.{Read}
 use Rattle.message.specs.declared.Read.the-variants.{Got, Refused}
 use Rattle.message.specs.Fields.{head-in-range, vote-in-range, in-range}
-use Rattle.message.specs.Layout.{START-KIND, JOIN-KIND, PROPOSE-KIND, VOTE-KIND, head, layout, bytes, kind-place, round-place, sender-place, presence-place, voted-place}
-use Rattle.message.specs.Layout.{voted-value-place, proposed-place, join-voted-length, propose-length, longest-message, byte-count, kind-in, message-round, message-sender}
+use Rattle.message.specs.Layout.{START-KIND, JOIN-KIND, PROPOSE-KIND, VOTE-KIND, head, layout, bytes, kind-place, round-place, sender-place}
+use Rattle.message.specs.Layout.{presence-place, voted-place}
+use Rattle.message.specs.Layout.{voted-value-place, proposed-place, join-voted-length, propose-length, longest-message, byte-count, kind-in}
+use Rattle.message.specs.Layout.{message-round, message-sender}
 use Rattle.message.specs.Layout.{presence-in, message-voted, voted-value-in, proposed-in, ValueFits}
 use Rattle.message.specs.Reading.{is-join, size, decoded, message-row, read-answer, read-number, reading, ReaderGives}
 use Rattle.message.specs.Writing.{writer-row, writing, buffer-after, in-front}

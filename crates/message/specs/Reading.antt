@@ -28,7 +28,8 @@ unfoldable pub decoded : List ℕ → Message
 decoded s =
     cond (eqb (kind-in s) START-KIND) (Start (message-round s) (message-sender s))
     (cond (is-join s)
-    (cond (eqb (presence-in s) 1) (JoinVoted (message-round s) (message-sender s) (message-voted s) (voted-value-in s)) (Join (message-round s) (message-sender s)))
+    (cond (eqb (presence-in s) 1) (JoinVoted (message-round s) (message-sender s) (message-voted s) (voted-value-in s))
+    (Join (message-round s) (message-sender s)))
     (cond (eqb (kind-in s) PROPOSE-KIND) (Propose (message-round s) (message-sender s) (proposed-in s))
     (Vote (message-round s) (message-sender s))))
 

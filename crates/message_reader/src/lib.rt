@@ -5,8 +5,8 @@ use message::HEAD_LENGTH;
 use message::JOIN_KIND;
 use message::JOIN_LENGTH;
 use message::JOIN_VOTED_LENGTH;
-use message::KIND_PLACE;
 use message::KIND_END;
+use message::KIND_PLACE;
 use message::Message;
 use message::PRESENCE_PLACE;
 use message::PROPOSE_KIND;
@@ -71,7 +71,8 @@ fn as_join(s: &[u8]) -> Message
 // Bytes as a JOIN with a vote.
 fn as_join_voted(s: &[u8]) -> Message
     requires { ⌜ join-voted-length ≤ length (now s) ⌝ }
-    ensures { λ m. ⌜ m ≡ JoinVoted (message-round (now (s .entry))) (message-sender (now (s .entry))) (message-voted (now (s .entry))) (voted-value-in (now (s .entry))) ⌝ }
+    ensures { λ m. ⌜ m ≡ JoinVoted (message-round (now (s .entry))) (message-sender (now (s .entry)))
+        (message-voted (now (s .entry))) (voted-value-in (now (s .entry))) ⌝ }
 {
     Message::JoinVoted {
         round: round_at(s, ROUND_PLACE),

@@ -56,7 +56,7 @@ spelt ws = encoded (map integer ws)
 
 abbrev Meets : Case → Type 0
 Meets (called rows calls given statuses) =
-    (answers true rows fresh calls ≡ given) × (map (λ n. n .status) (after true rows fresh calls) ≡ statuses)
+    _≡_ {A = List ℕ × List ℕ} (answers true rows fresh calls, map (λ n. n .status) (after true rows fresh calls)) (given, statuses)
 Meets (refused ws number) = read-number (reading (spelt ws)) ≡ number
 Meets (accepted ws message) = reading (spelt ws) ≡ Got message
 
@@ -67,4 +67,4 @@ Holds (c ∷ cs) = Meets c × Holds cs
 pub rig : Holds cases
 unfolding cases answers after step answer causes change find path-in struck new-node commit-node reading size decoded encoded word word-at
 rig =
-    ((refl, refl), ((refl, refl), ((refl, refl), ((refl, refl), ((refl, refl), ((refl, refl), ((refl, refl), ((refl, refl), ((refl, refl), ((refl, refl), ((refl, refl), (refl, (refl, tt)))))))))))))
+    (refl, (refl, (refl, (refl, (refl, (refl, (refl, (refl, (refl, (refl, (refl, (refl, (refl, tt)))))))))))))

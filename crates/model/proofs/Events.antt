@@ -25,7 +25,8 @@ use Rattle.model.specs.Model.{Sizes, Event, start, deliver, Office, memb
 use Rattle.model.specs.Model.{event-outcome, proposes-one}
 use Rattle.model.specs.Model.{proposals, event-answer, next, office-after, offer-of, offers-at, offered}
 use Rattle.model.specs.Demand.{calls, ended}
-use Rattle.model.proofs.Kept.{KeptMember, KeptOffice, EventAccepted, was-accepted, message-in, accepted-row, sent-by, next-kept, first-member, first-kept}
+use Rattle.model.proofs.Kept.{KeptMember, KeptOffice, EventAccepted, was-accepted, message-in, accepted-row, sent-by, next-kept, first-member}
+use Rattle.model.proofs.Kept.{first-kept}
 use Rattle.model.proofs.Invariant.{join-quorum, vote-quorum, JoinOf, carried, Joined, MemberHolds, Invariant}
 use Rattle.model.proofs.Grows.{New, keep}
 use Rattle.model.proofs.Meeting.{allowed-meets}

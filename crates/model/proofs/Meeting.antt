@@ -41,7 +41,8 @@ Pasts n sent = (s : ℕ) → s < n → (g : Message) (r c : ℕ) → g ∈ sent 
 
 module _ (z : Sizes) (sent : List Message) (made : List Named) (offers : List ℕ) (M : MadeSo z sent made offers) (past : Pasts (z .n) sent)
     (meets : z .n < join-quorum (z .n) + vote-quorum (z .n)) where
-  uncrossed-by : (r b c : ℕ) → HasQuorum (z .n) (join-quorum (z .n)) (Joined sent r b) → HasQuorum (z .n) (vote-quorum (z .n)) (Voted sent c) → crosses r b c ≡ false
+  uncrossed-by : (r b c : ℕ) → HasQuorum (z .n) (join-quorum (z .n)) (Joined sent r b) → HasQuorum (z .n) (vote-quorum (z .n)) (Voted sent c) →
+      crosses r b c ≡ false
   uncrossed-by r b c J W =
       by-test (crosses r b c)
       (λ t. both meets J W (λ s l j w.

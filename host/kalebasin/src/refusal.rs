@@ -64,7 +64,7 @@ refusals! {
     18 ReplyTooShort "the reply buffer is under 28 bytes"
     19 NotLeader "the member isn't the leader of the round"
     20 NotAboveLed "the round isn't above the one the member led last"
-    21 Sender "the sender is no member, or doesn't lead the round"
+    21 WrongSender "the sender is no member, or doesn't lead the round"
     22 MovedPast "the member has moved past the round"
     23 AnotherValue "the member has voted for another value in the round"
     24 NotAwaited "the message isn't awaited"

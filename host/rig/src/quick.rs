@@ -106,7 +106,7 @@ impl Record {
     /// The flags with that of a sender whose JOIN or VOTE is awaited in this phase.
     fn count(&self, n: u32, round: Round, sender: Member, phase: Phase) -> Result<u8, Refusal> {
         if sender.0 >= n {
-            return Err(Refusal::Sender);
+            return Err(Refusal::WrongSender);
         }
         if round != self.l || self.phase != phase {
             return Err(Refusal::NotAwaited);
@@ -164,7 +164,7 @@ impl Office<'_> {
         match word(words, 0) {
             START => {
                 if round.leader(n) != Some(sender) {
-                    return Err(Refusal::Sender);
+                    return Err(Refusal::WrongSender);
                 }
                 if record.j >= round {
                     return Err(Refusal::MovedPast);
@@ -199,7 +199,7 @@ impl Office<'_> {
             PROPOSE => {
                 let value = double(words, 12);
                 if round.leader(n) != Some(sender) {
-                    return Err(Refusal::Sender);
+                    return Err(Refusal::WrongSender);
                 }
                 if record.j > round {
                     return Err(Refusal::MovedPast);

@@ -51,7 +51,9 @@ abbrev over : tie.After-struct-known6 Inv-loop μ-loop → tie.After-loop Inv-lo
 over c = c .before .before .before
 
 read-head-requires : tie.Need-read-head-requires Inv-loop μ-loop
-read-head-requires c κs = list-parts (c .before .before .before .before .pre .fits) .head
+read-head-requires c κs =
+    let lent = c .before .before in
+    list-parts (lent .before .before .pre .fits) .head
 
 cast-count : tie.Need-cast-count Inv-loop μ-loop
 cast-count c = search needs

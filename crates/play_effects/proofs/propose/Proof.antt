@@ -19,10 +19,10 @@ use Rattle.play_effects.proofs.propose.Tie as tie
 abbrev entry : tie.After-proposal-number → tie.Start
 entry c = c .before .before .before .before .before
 
-abbrev to-put : tie.After-put → tie.Else1
+abbrev to-put : tie.After-store-message → tie.Else1
 to-put c = c .before .before
 
-abbrev to-add : tie.After-add-in-tree-arg → tie.After-put
+abbrev to-add : tie.After-add-in-tree-arg → tie.After-store-message
 to-add c = c .before .before .before
 
 abbrev lent : tie.Start → Memory
@@ -63,7 +63,7 @@ returns c =
       table-is = rw n refl;
     }
 
-store-message-requires : tie.Need-put-requires
+store-message-requires : tie.Need-store-message-requires
 store-message-requires c κs =
     let s = entry (c .before .before) in
     let (row, _) = passed (proposal-causes (s .args .tally) (lent s)) refl (free (c .before)) in

@@ -13,7 +13,7 @@ use Rattle.play_effects.proofs.send.Tie as tie
 abbrev entry : tie.After-no-room-to-send → tie.Start
 entry c = c .before .before .before
 
-abbrev tested : tie.After-put → tie.Else1
+abbrev tested : tie.After-store-message → tie.Else1
 tested c = c .before .before
 
 free : (c : tie.Else1) → no-room-to-send (entry (c .before) .args .tally) (now (entry (c .before) .args .messages)) ≡ false
@@ -33,7 +33,7 @@ returns c =
     let full = sym (c .before .before .no-room-to-send .ensures) ∙ c .before .if1 .taken in
     record { result-is = rw full (c .refused-event .ensures); store-is = rw full refl }
 
-store-message-requires : tie.Need-put-requires
+store-message-requires : tie.Need-store-message-requires
 store-message-requires c κs =
     let s = entry (c .before .before) in
     (row-free (s .args .tally) (now (s .args .messages)) (free (c .before)), s .pre .1)

@@ -192,7 +192,7 @@ impl Record {
 
     fn on_start(&mut self, round: Round, sender: Member) -> Result<Step, Refusal> {
         if Some(sender) != round.leader(self.n) {
-            return Err(Refusal::Sender);
+            return Err(Refusal::WrongSender);
         }
         if self.j >= round {
             return Err(Refusal::MovedPast);
@@ -222,7 +222,7 @@ impl Record {
 
     fn on_propose(&mut self, round: Round, sender: Member, value: u64) -> Result<Step, Refusal> {
         if Some(sender) != round.leader(self.n) {
-            return Err(Refusal::Sender);
+            return Err(Refusal::WrongSender);
         }
         if self.j > round {
             return Err(Refusal::MovedPast);
@@ -248,7 +248,7 @@ impl Record {
     /// Flags the sender of a JOIN or VOTE that is awaited in this phase.
     fn count_sender(&mut self, round: Round, sender: Member, phase: u32) -> Result<(), Refusal> {
         if sender.0 >= self.n {
-            return Err(Refusal::Sender);
+            return Err(Refusal::WrongSender);
         }
         if round != self.l || self.phase != phase {
             return Err(Refusal::NotAwaited);

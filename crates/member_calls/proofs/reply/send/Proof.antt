@@ -18,8 +18,10 @@ returns c =
     let write = c .before .before .write-message in
     let s = c .before .before .before .before .before in
     let g = s .args .g in
-    let old = now (s .args .reply) in
-    (ap (λ (w : Written). w .length) (write .ensures .answer ∙ in-range-written g old (s .pre .0) (s .pre .1)), write .ensures .buffer ∙ left-in-front g old (s .pre .0) (s .pre .1))
+    let old = now (s .args .reply) in (
+      ap (λ (w : Written). w .length) (write .ensures .answer ∙ in-range-written g old (s .pre .0) (s .pre .1)),
+      write .ensures .buffer ∙ left-in-front g old (s .pre .0) (s .pre .1),
+    )
 
 pub send-spec : {M : Type 1} → statement M
 send-spec = tie.close (tie.spec write-message-requires same-length returns)
