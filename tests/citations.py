@@ -11,7 +11,7 @@ PAGES = ["README.md", "docs/REVIEW.md", "docs/PROVING.md"]
 WORDS = """rt rattle cargo rustc gcc rpcgen valgrind omega search simp rw cc refl subst ap needs arith tests omega unfolding unfoldable abbrev pub
 requires ensures returns let in ghost old new old: new: u8 u32 u64 usize bool true false cond first if match else while & &mut _ . .. ? × ≢ ≡ Lts tie c
 NAME FN N M Err Ok main.rs lib.rs --ignored target/ target/inc RT_JOBS drop replicate take getD length set .before .kept .last .inv .given .ensures
-abbrev impl self""".split()
+impl self not return cargo-web target/staticlib/libexports.a""".split()
 
 
 def text(path):
@@ -48,7 +48,9 @@ for path in files("crates", (".edit",)):
     edits.setdefault(os.path.basename(path)[:-5], []).append(path)
 names |= set(edits)
 for path in files("host", (".rs", ".toml", ".h")):
-    names |= set(re.findall(r"\b\w+\b", text(path)))
+    body = text(path)
+    names.add(os.path.basename(path))
+    names |= set(re.findall(r"\b(?:fn|struct|enum|const|mod|type|trait|feature|name =)\s+\"?([\w-]+)", body)) | set(re.findall(r"\bKALEBASIN_\w+|\bkalebasin_\w+", body))
 for top in ("tests", "xdr", "docs", ".ci"):
     for path in files(top, ("",)):
         names.add(os.path.basename(path))
