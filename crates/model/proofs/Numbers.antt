@@ -12,6 +12,7 @@ use Rattle.laws.specs.Tests.{tests, by-test, clash, or-left, or-right, and-left
 use Rattle.laws.specs.Lists.{_∈_, any, any-intro, any-elim}
 use Rattle.laws.specs.First.{Cause, _gives_, first}
 use Rattle.laws.specs.Numbers.{first-has}
+use Rattle.numbers.specs.Numbers.{COUNTED-ALREADY, MOVED-PAST, NO-FREE-ROW, NO-MEMBER-OR-MESSAGE, NOT-ABOVE-LED, NOT-AWAITED, NOT-LEADER, ROUND-RANGE, STORE-FULL}
 use Rattle.ids.specs.declared.Round.{Round}
 use Rattle.ids.specs.declared.Member.{Member}
 use Rattle.ids.specs.Ranges.{out-of-range, above-range}
@@ -20,6 +21,7 @@ use Rattle.message.specs.declared.Message.{Message}
 use Rattle.message.specs.declared.Message.the-variants.{Start, Join, JoinVoted, Propose, Vote}
 use Rattle.member_record.specs.declared.MemberState.{MemberState}
 use Rattle.member_record.specs.Record.{allowed, leads, round-number}
+use Rattle.member_record.specs.Phases.{COLLECTING, PROPOSED}
 use Rattle.member_rules.specs.Causes.{start-call-causes, START-causes, count-causes, other-vote, PROPOSE-causes}
 use Rattle.member_rules.specs.Changes.{counting, adopting}
 use Rattle.member.specs.Table.{Outcome, silent, complete, proposes, decides, step-causes, step-row, sound-step}
@@ -37,11 +39,11 @@ use Rattle.model.proofs.Tree.{nodes-counted}
 
 -- 0, and what the rows round, start and deliver of the place table give, 21 and 23 apart
 abbrev pub step-numbers : List ℕ
-step-numbers = 0 ∷ 3 ∷ 19 ∷ 20 ∷ 22 ∷ 24 ∷ 25 ∷ []
+step-numbers = 0 ∷ ROUND-RANGE ∷ NOT-LEADER ∷ NOT-ABOVE-LED ∷ MOVED-PAST ∷ NOT-AWAITED ∷ COUNTED-ALREADY ∷ []
 
 -- and the rows event and last
 abbrev pub event-numbers : List ℕ
-event-numbers = 0 ∷ 3 ∷ 9 ∷ 19 ∷ 20 ∷ 22 ∷ 24 ∷ 25 ∷ 29 ∷ 30 ∷ []
+event-numbers = 0 ∷ ROUND-RANGE ∷ NO-FREE-ROW ∷ NOT-LEADER ∷ NOT-ABOVE-LED ∷ MOVED-PAST ∷ NOT-AWAITED ∷ COUNTED-ALREADY ∷ NO-MEMBER-OR-MESSAGE ∷ STORE-FULL ∷ []
 
 among : (k : ℕ) (l : List ℕ) → any (eqb k) l ≡ true → k ∈ l
 among k l h = any-elim (eqb k) l h (λ a i e. rw (eqb-true k a e) i)
@@ -79,7 +81,7 @@ step-number m e =
 -- the row "last" of the place table
 abbrev last-causes : Sizes → Office → Event → List Cause
 last-causes z o e =
-    no-store-row z o e gives 30 ∷ no-table-row z o e gives 9 ∷ []
+    no-store-row z o e gives STORE-FULL ∷ no-table-row z o e gives NO-FREE-ROW ∷ []
 
 module _ (z : Sizes) (o : Office) (offers : List ℕ) (K : KeptOffice z o) (I : Invariant z o offers) where
   -- a message from the leader of its round
@@ -109,32 +111,32 @@ module _ (z : Sizes) (o : Office) (offers : List ℕ) (K : KeptOffice z o) (I : 
       first (count-causes phase m r s) ∈ step-numbers
   count-numbers t m M phase r s l =
       first-has (λ k. k ∈ step-numbers) (count-causes phase m r s) (among 0 step-numbers refl)
-      (λ e. absurd (omega (tests, M .size)), (λ e. among 24 step-numbers refl, (λ e. among 25 step-numbers refl, tt)))
+      (λ e. absurd (omega (tests, M .size)), (λ e. among NOT-AWAITED step-numbers refl, (λ e. among COUNTED-ALREADY step-numbers refl, tt)))
 
   message-numbers : (t : ℕ) (m : MemberState) → KeptMember z t m → MemberHolds (z .n) (o .sent) (o .made) offers t m →
       (g : Message) → g ∈ o .sent → first (step-causes m (delivers g)) ∈ step-numbers
   unfolding step-causes
   message-numbers t m M S (Start r s) i =
       first-has (λ k. k ∈ step-numbers) (START-causes m r s) (among 0 step-numbers refl)
-      (λ e. absurd (led t m M r s (I .leaders (Start r s) i) e), (λ e. among 22 step-numbers refl, tt))
-  message-numbers t m M S (Join r s) i = count-numbers t m M 1 r s (K .senders (Join r s) i)
-  message-numbers t m M S (JoinVoted r s q w) i = count-numbers t m M 1 r s (K .senders (JoinVoted r s q w) i)
+      (λ e. absurd (led t m M r s (I .leaders (Start r s) i) e), (λ e. among MOVED-PAST step-numbers refl, tt))
+  message-numbers t m M S (Join r s) i = count-numbers t m M COLLECTING r s (K .senders (Join r s) i)
+  message-numbers t m M S (JoinVoted r s q w) i = count-numbers t m M COLLECTING r s (K .senders (JoinVoted r s q w) i)
   message-numbers t m M S (Propose r s v) i =
       first-has (λ k. k ∈ step-numbers) (PROPOSE-causes m r s v) (among 0 step-numbers refl) (
         λ e. absurd (led t m M r s (I .leaders (Propose r s v) i) e),
         (
-          λ e. among 22 step-numbers refl,
+          λ e. among MOVED-PAST step-numbers refl,
           (λ e. absurd (same-vote t m S r s v i (not-true (out-of-range (r .0)) (and-left (not (out-of-range (r .0))) _ (K .ranged (Propose r s v) i))) e), tt),
         ),
       )
-  message-numbers t m M S (Vote r s) i = count-numbers t m M 2 r s (K .senders (Vote r s) i)
+  message-numbers t m M S (Vote r s) i = count-numbers t m M PROPOSED r s (K .senders (Vote r s) i)
 
   -- the member's own number for an event of a member and of a message sent
   own-number : (e : Event) → at-member e < z .n → unsent o e ≡ false → first (step-causes (member-at z o (at-member e)) (event-of o e)) ∈ step-numbers
   unfolding step-causes
   own-number (start k r x) l h =
       first-has (λ k. k ∈ step-numbers) (start-call-causes (member-at z o k) (round-number r)) (among 0 step-numbers refl)
-      (λ e. among 3 step-numbers refl, (λ e. among 19 step-numbers refl, (λ e. among 20 step-numbers refl, tt)))
+      (λ e. among ROUND-RANGE step-numbers refl, (λ e. among NOT-LEADER step-numbers refl, (λ e. among NOT-ABOVE-LED step-numbers refl, tt)))
   own-number (deliver j k) l h =
       message-numbers k (member-at z o k) (K .each k l) (I .members k l) (message-at o j) (message-in o j k h)
 
@@ -150,27 +152,27 @@ module _ (z : Sizes) (o : Office) (offers : List ℕ) (K : KeptOffice z o) (I : 
   unfolding event-answer
   answer-numbers e =
       by-test (absent z o e)
-      (λ a. rw a (among 29 event-numbers refl))
+      (λ a. rw a (among NO-MEMBER-OR-MESSAGE event-numbers refl))
       (λ a. rw a (by-test (eqb (event-outcome z o e .number) 0)
       (λ b. rw b (first-has (λ k. k ∈ event-numbers) (last-causes z o e) (among 0 event-numbers refl)
-      (λ c. among 30 event-numbers refl, (λ c. among 9 event-numbers refl, tt))))
+      (λ c. among STORE-FULL event-numbers refl, (λ c. among NO-FREE-ROW event-numbers refl, tt))))
       (λ b. rw b (within step-numbers event-numbers refl (step-numbered e a)))))
 
   -- a number of the row last is given only by its cause
-  last-number : (e : Event) (k : ℕ) → any (eqb k) (0 ∷ 29 ∷ step-numbers) ≡ false → event-answer z o e ≡ k → first (last-causes z o e) ≡ k
+  last-number : (e : Event) (k : ℕ) → any (eqb k) (0 ∷ NO-MEMBER-OR-MESSAGE ∷ step-numbers) ≡ false → event-answer z o e ≡ k → first (last-causes z o e) ≡ k
   unfolding event-answer
   last-number e k apart h =
       by-test (absent z o e)
-      (λ a. let q : 29 ≡ k = rw a at h in clash (any-intro (eqb k) (0 ∷ 29 ∷ step-numbers) (there (here refl)) (eq-eqb k 29 (sym q))) apart)
+      (λ a. let q : NO-MEMBER-OR-MESSAGE ≡ k = rw a at h in clash (any-intro (eqb k) (0 ∷ NO-MEMBER-OR-MESSAGE ∷ step-numbers) (there (here refl)) (eq-eqb k NO-MEMBER-OR-MESSAGE (sym q))) apart)
       (λ a. by-test (eqb (event-outcome z o e .number) 0)
       (λ b. rw (a, b) at h)
       (λ b. let q : event-outcome z o e .number ≡ k = rw (a, b) at h in
-      clash (any-intro (eqb k) (0 ∷ 29 ∷ step-numbers) (there (there (step-numbered e a))) (eq-eqb k (event-outcome z o e .number) (sym q))) apart))
+      clash (any-intro (eqb k) (0 ∷ NO-MEMBER-OR-MESSAGE ∷ step-numbers) (there (there (step-numbered e a))) (eq-eqb k (event-outcome z o e .number) (sym q))) apart))
 
   -- 30 is given only where the store is full
-  pub thirty-full : (e : Event) → event-answer z o e ≡ 30 → length (o .sent) ≡ z .store
+  pub thirty-full : (e : Event) → event-answer z o e ≡ STORE-FULL → length (o .sent) ≡ z .store
   thirty-full e h =
-      let q : first (last-causes z o e) ≡ 30 = last-number e 30 refl h in
+      let q : first (last-causes z o e) ≡ STORE-FULL = last-number e STORE-FULL refl h in
       by-test (no-store-row z o e)
       (λ c. omega (tests, K .fits, and-right (sends-one (event-outcome z o e .sent)) (leb (z .store) (length (o .sent))) c))
       (λ c. by-test (no-table-row z o e)
@@ -178,9 +180,9 @@ module _ (z : Sizes) (o : Office) (offers : List ℕ) (K : KeptOffice z o) (I : 
       (λ d. absurd (omega (arith, rw (c, d) at q))))
 
   -- and 9 only where the proposals fill the table
-  pub nine-full : (e : Event) → event-answer z o e ≡ 9 → z .table ≤ suc (proposals (o .made))
+  pub nine-full : (e : Event) → event-answer z o e ≡ NO-FREE-ROW → z .table ≤ suc (proposals (o .made))
   nine-full e h =
-      let q : first (last-causes z o e) ≡ 9 = last-number e 9 refl h in
+      let q : first (last-causes z o e) ≡ NO-FREE-ROW = last-number e NO-FREE-ROW refl h in
       by-test (no-store-row z o e)
       (λ c. absurd (omega (arith, rw c at q)))
       (λ c. by-test (no-table-row z o e)
@@ -193,11 +195,11 @@ module _ (z : Sizes) (es : List Event) (e : Event) (ok : allowed (z .n) ≡ true
   numbers = answer-numbers z (ended z es) (offered z (first-office (z .n)) es) (ended-kept z es ok) (holds z ok es) e
 
   -- 30 only where no store row is free, and 9 only where no table row is
-  pub store-full : event-answer z (ended z es) e ≡ 30 → length (ended z es .sent) ≡ z .store
-  store-full = thirty-full z (ended z es) (offered z (first-office (z .n)) es) (ended-kept z es ok) (holds z ok es) e
+  pub store-is-full : event-answer z (ended z es) e ≡ STORE-FULL → length (ended z es .sent) ≡ z .store
+  store-is-full = thirty-full z (ended z es) (offered z (first-office (z .n)) es) (ended-kept z es ok) (holds z ok es) e
 
-  pub table-full : 0 < z .table → event-answer z (ended z es) e ≡ 9 → length (made-tree z (ended z es)) ≡ z .table
-  table-full rows h =
+  pub table-is-full : 0 < z .table → event-answer z (ended z es) e ≡ NO-FREE-ROW → length (made-tree z (ended z es)) ≡ z .table
+  table-is-full rows h =
       omega (
         arith,
         nodes-counted z (ended z es) (all-ok z es ok rows),
