@@ -59,9 +59,8 @@ fn run(list: &[u8], messages: &mut [u8], nodes: &mut [u64], answered: &mut [u8])
         let state = w.state;
         members[i] = state;
         tally = w.tally;
-        let number = w.number;
-        answered[k] = number as u8;
-        accepted += one_if_accepted(number);
+        answered[k] = w.number as u8;
+        accepted += one_if_accepted(w.number);
         k += 1;
     }
     PlayAnswer {
