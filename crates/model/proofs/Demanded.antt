@@ -10,8 +10,9 @@ use Rattle.laws.specs.Lists.{_∈_}
 use Rattle.tree_theory.specs.Machine.{Call, Node, COMMITTED, fresh, after}
 use Rattle.tree_theory.specs.Table.{table}
 use Rattle.tree_theory.specs.Properties.{Properties, InRange, AllOk, adds-in, history}
+use Rattle.tree_theory.specs.Rebuilt.{made}
 use Rattle.tree_theory.proofs.Calls.{commits-intro}
-use Rattle.tree_theory.proofs.Rebuilt.{made, in-added, history-committed, round-positive}
+use Rattle.tree_theory.proofs.Rebuilt.{in-added, history-committed, round-positive}
 use Rattle.tree_theory.proofs.History.{Told}
 use Rattle.tree_theory.proofs.FourProperties.{told-ok, ok-exactly}
 use Rattle.tree_theory.proofs.Agreement.{agreement}

@@ -15,11 +15,12 @@ use Rattle.ids.specs.Ranges.{out-of-range, above-range}
 use Rattle.tree_theory.specs.Machine.{Call, add, commit, Node, ADDED, GHOST, COMMITTED, crosses, present, find, above, blocks, other-value}
 use Rattle.tree_theory.specs.Machine.{struck, new-node, commit-node, causes, answer, change}
 use Rattle.tree_theory.specs.Properties.{history, round-of, adds-in, adds, commits, adds-with, edge-crosses}
+use Rattle.tree_theory.specs.Rebuilt.{made, added-nodes, rebuilt}
 use Rattle.tree_theory.proofs.Grown.{absent-crossed}
 use Rattle.tree_theory.proofs.Paths.{crossing-alone}
 use Rattle.tree_theory.proofs.Calls.{NextCall, AddNext, CommitNext, grow, adds-elim, commits-elim, edge-elim, adds-intro, commits-intro}
 use Rattle.tree_theory.proofs.Calls.{adds-with-elim, adds-with-intro, committed-added, adds-in-append}
-use Rattle.tree_theory.proofs.Rebuilt.{cons-same, history-committed, history-ghost, made, added-nodes, rebuilt, Story, grown, added-append, length-added}
+use Rattle.tree_theory.proofs.Rebuilt.{cons-same, history-committed, history-ghost, Story, grown, added-append, length-added}
 use Rattle.tree_theory.proofs.Rebuilt.{in-added, of-added, map-added, crossed-rebuilt, present-rebuilt, find-rebuilt, round-positive}
 
 -- an add needs a row beside those used

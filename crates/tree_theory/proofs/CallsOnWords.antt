@@ -1,22 +1,36 @@
 -- Lists of calls on a fresh table of words: their numbers and the table that they leave are the machine's, so each gets OK exactly if the list has
--- the four properties, and each status is that of the history. Assumes nothing.
+-- the four properties, and the table is that of the calls that got OK. Assumes nothing.
 use mathlib.Core.Path.{_≡_, refl, sym, ap, _∙_, subst}
 use mathlib.Core.Bool.{Bool, true}
-use mathlib.Core.List.{List, [], _∷_}
+use mathlib.Core.List.{List, [], _∷_, _++_}
 use mathlib.Core.Logic.{_↔_}
-use Prim.Native.Nat.{ℕ, _/_, _<_}
-use lib.ListN.{length}
+use Prim.Native.Nat.{ℕ, _-_, _/_, _<_}
+use lib.ListN.{length, replicate}
 use Rattle.laws.specs.Lists.{_∈_}
-use Rattle.tree_theory.specs.Machine.{Call, Node, fresh, answer, answers, step, after, accepted}
+use Rattle.tree_theory.specs.Machine.{Call, add, commit, Node, fresh, answer, answers, step, after}
 use Rattle.tree_theory.specs.Properties.{Properties, InRange, adds-in, history}
-use Rattle.tree_theory.specs.Table.{sized, rows, table, Tree, nodes, calls-of, call-number, call-table, call-numbers, calls-table, fresh-table}
+use Rattle.tree_theory.specs.Table.{sized, rows, words, table, Tree, nodes, calls-of, call-number, call-table, call-numbers, calls-table, fresh-table}
+use Rattle.tree_theory.specs.Rebuilt.{with-ok, accepted, added-nodes, rebuilt, added-words, rebuilt-words, rebuilt-table, ToldTable}
 use Rattle.tree_theory.proofs.Grown.{Grown}
 use Rattle.tree_theory.proofs.History.{all-grown, history-status}
 use Rattle.tree_theory.proofs.Regrown.{regrown}
-use Rattle.tree_theory.proofs.Words.{length-table, nodes-table}
+use Rattle.tree_theory.proofs.Words.{length-words, length-table, nodes-table}
 use Rattle.tree_theory.proofs.Trees.{sized-rows, grown-fit, grown-stated}
 use Rattle.tree_theory.proofs.Steps.{step-grown, written-tree, tree-number, tree-table, fresh-written}
 use Rattle.tree_theory.proofs.FourProperties.{ok-exactly}
+
+words-added : (h cs : List Call) → words (added-nodes h cs) ≡ added-words h cs
+unfolding words added-nodes added-words
+words-added h [] = refl
+words-added h (add r v p ∷ cs) = ap (λ l. r ∷ p ∷ v ∷ history h r ∷ l) (words-added h cs)
+words-added h (commit r ∷ cs) = words-added h cs
+
+-- the table of rebuilt nodes, in words
+table-rebuilt : (len : ℕ) (h : List Call) → table len (rebuilt h) ≡ rebuilt-table len h
+unfolding table
+table-rebuilt len h =
+    let e : words (rebuilt h) ≡ rebuilt-words h = unfold words in (ap (λ l. 0 ∷ 0 ∷ 0 ∷ 3 ∷ l) (words-added h h)) in
+    ap (λ k. words (rebuilt h) ++ replicate {A = ℕ} (len - k) 0) (sym (length-words (rebuilt h))) ∙ ap (λ l. l ++ replicate {A = ℕ} (len - length l) 0) e
 
 module _ (valued : Bool) (ws : List ℕ) (h : sized ws ≡ true) where
   module _ (ns : List Node) (G : Grown valued (rows ws) ns) where
@@ -74,9 +88,13 @@ module _ (valued : Bool) (ws : List ℕ) (h : sized ws ≡ true) where
   ok-on-words cs r f =
       subst (λ l. ((n : ℕ) → n ∈ l → n ≡ 0) ↔ Properties valued cs) (sym (fresh-numbers cs)) (ok-exactly valued (rows ws) cs r f)
 
-  -- and after any list, refused calls included, each status is that of the history of those accepted
-  pub status-on-words : (cs : List Call) (n : Node) → n ∈ nodes (calls-table valued (fresh-table ws) cs) →
-      n .status ≡ history (accepted valued (rows ws) fresh cs) (n .round)
-  status-on-words cs n m =
-      history-status valued (rows ws) cs n
-      (subst (λ l. n ∈ l) (ap nodes (fresh-calls cs) ∙ held (after valued (rows ws) fresh cs) (all-grown valued (rows ws) cs)) m)
+  -- and after any list, refused calls included, the table is that of the calls that got OK
+  pub status-on-words : (cs : List Call) → ToldTable valued ws cs
+  status-on-words cs =
+      let h : List Call = accepted valued (rows ws) fresh cs in
+      record {
+        table-is =
+            fresh-calls cs ∙ ap (table (length ws)) (history-status valued (rows ws) cs) ∙ table-rebuilt (length ws) h ∙
+            ap (λ numbers. rebuilt-table (length ws) (with-ok cs numbers)) (sym (fresh-numbers cs));
+        length-is = ap length (fresh-calls cs) ∙ long (after valued (rows ws) fresh cs) (all-grown valued (rows ws) cs);
+      }

@@ -9,8 +9,9 @@ use native.Mathlib.Omega.{arith}
 use lib.Seq.{append-snoc}
 use borrow.Author.Tests.{eq-eqb}
 use Rattle.laws.specs.Lists.{_∈_, in-cut}
-use Rattle.tree_theory.specs.Machine.{Call, add, commit, Node, fresh, answer, step, answers, accepted, after}
+use Rattle.tree_theory.specs.Machine.{Call, add, commit, Node, fresh, answer, step, answers, after}
 use Rattle.tree_theory.specs.Properties.{Properties, InRange, AllOk, adds-in}
+use Rattle.tree_theory.specs.Rebuilt.{with-ok, accepted}
 use Rattle.tree_theory.proofs.Calls.{prefix, next-of, adds-in-append}
 use Rattle.tree_theory.proofs.Accepted.{CallAllowed, RowLeft, allowed-ok}
 use Rattle.tree_theory.proofs.History.{Told, told-of, told-fresh, told-next, accepted-ok}
@@ -18,7 +19,7 @@ use Rattle.tree_theory.proofs.History.{Told, told-of, told-fresh, told-
 -- if each call gets OK, all are accepted
 pub all-accepted : (valued : Bool) (rows : ℕ) (ns : List Node) (cs : List Call) →
     ((n : ℕ) → n ∈ answers valued rows ns cs → n ≡ 0) → accepted valued rows ns cs ≡ cs
-unfolding answers accepted
+unfolding answers with-ok
 all-accepted valued rows ns [] f = refl
 all-accepted valued rows ns (c ∷ cs) f =
     accepted-ok valued rows ns c cs (eq-eqb (answer valued rows ns c) 0 (f (answer valued rows ns c) (here refl))) ∙

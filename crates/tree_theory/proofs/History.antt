@@ -1,19 +1,19 @@
--- After any list of calls from fresh, refused ones included, the nodes are those rebuilt from the accepted calls: so each status is
--- the history status of these. By induction on the list, with the calls accepted so far. Assumes nothing.
+-- After any list of calls from fresh, refused ones included, the nodes are those rebuilt from the accepted calls. By induction on the list, with the
+-- calls accepted so far. Assumes nothing.
 use mathlib.Core.Path.{_≡_, refl, sym, ap, _∙_, subst}
 use mathlib.Core.Bool.{Bool, true, false}
-use mathlib.Core.List.{List, [], _∷_, _++_, append-nil, List·Memᴰ·head as here, List·Memᴰ·tail as there}
+use mathlib.Core.List.{List, [], _∷_, _++_, append-nil}
 use Prim.Native.Nat.{ℕ}
 use lib.Dec.{eqb}
 use lib.Seq.{append-snoc}
 use borrow.Author.Tests.{eqb-true}
 use Rattle.laws.specs.Tests.{by-test}
-use Rattle.laws.specs.Lists.{_∈_}
-use Rattle.tree_theory.specs.Machine.{Call, Node, fresh, answer, change, step, after, accepted}
-use Rattle.tree_theory.specs.Properties.{history, adds-in}
+use Rattle.tree_theory.specs.Machine.{Call, Node, fresh, answer, answers, change, step, after}
+use Rattle.tree_theory.specs.Properties.{adds-in}
+use Rattle.tree_theory.specs.Rebuilt.{with-ok, accepted, added-nodes, rebuilt, ToldNodes}
 use Rattle.tree_theory.proofs.Grown.{Grown}
 use Rattle.tree_theory.proofs.Calls.{none}
-use Rattle.tree_theory.proofs.Rebuilt.{added-nodes, rebuilt, Story, grown, of-added}
+use Rattle.tree_theory.proofs.Rebuilt.{Story, grown}
 use Rattle.tree_theory.proofs.Accepted.{CallAllowed, ok-allowed, story-next, changed}
 
 pub step-ok : (valued : Bool) (rows : ℕ) (ns : List Node) (c : Call) → eqb (answer valued rows ns c) 0 ≡ true → step valued rows ns c ≡ change ns c
@@ -26,12 +26,12 @@ step-refused valued rows ns c t = rw t refl
 
 pub accepted-ok : (valued : Bool) (rows : ℕ) (ns : List Node) (c : Call) (cs : List Call) → eqb (answer valued rows ns c) 0 ≡ true →
     accepted valued rows ns (c ∷ cs) ≡ c ∷ accepted valued rows (step valued rows ns c) cs
-unfolding accepted
+unfolding answers with-ok
 accepted-ok valued rows ns c cs t = rw t refl
 
 accepted-refused : (valued : Bool) (rows : ℕ) (ns : List Node) (c : Call) (cs : List Call) → eqb (answer valued rows ns c) 0 ≡ false →
     accepted valued rows ns (c ∷ cs) ≡ accepted valued rows (step valued rows ns c) cs
-unfolding accepted
+unfolding answers with-ok
 accepted-refused valued rows ns c cs t = rw t refl
 
 -- nodes that a story tells
@@ -60,7 +60,7 @@ told-next valued rows h ns c T t =
 
 told-all : (valued : Bool) (rows : ℕ) (cs h : List Call) (ns : List Node) → Told valued rows h ns →
     Told valued rows (h ++ accepted valued rows ns cs) (after valued rows ns cs)
-unfolding after accepted
+unfolding after answers with-ok
 told-all valued rows [] h ns T = rw (append-nil h) T
 told-all valued rows (c ∷ cs) h ns T =
     by-test (eqb (answer valued rows ns c) 0)
@@ -83,15 +83,6 @@ told-grown valued rows h ns T = rw (T .nodes) (grown valued rows h (T .story))
 pub all-grown : (valued : Bool) (rows : ℕ) (cs : List Call) → Grown valued rows (after valued rows fresh cs)
 all-grown valued rows cs = told-grown valued rows (accepted valued rows fresh cs) (after valued rows fresh cs) (told-of valued rows cs)
 
--- after any list of calls each status is the one that the history of the accepted calls gives
-pub history-status : (valued : Bool) (rows : ℕ) (cs : List Call) (n : Node) → n ∈ after valued rows fresh cs →
-    n .status ≡ history (accepted valued rows fresh cs) (n .round)
-unfolding history
-history-status valued rows cs n m = by-node (subst (λ l. n ∈ l) (told-of valued rows cs .nodes) m)
-  where
-    h : List Call
-    h = accepted valued rows fresh cs
-
-    by-node : n ∈ rebuilt h → n .status ≡ history h (n .round)
-    by-node (here e) = rw e refl
-    by-node (there i) = of-added h h i (λ r v p j e. rw e refl)
+-- after any list of calls the nodes are those of the accepted calls, each with the status that their history gives
+pub history-status : (valued : Bool) (rows : ℕ) (cs : List Call) → ToldNodes valued rows cs
+history-status valued rows cs = told-of valued rows cs .nodes

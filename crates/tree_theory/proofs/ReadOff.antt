@@ -12,7 +12,7 @@ use Rattle.tree_theory.specs.Machine.{Call, add, commit, Node, COMMITTED
 use Rattle.tree_theory.specs.Properties.{history, adds-in, adds, commits, edge-crosses}
 use Rattle.tree_theory.specs.Table.{adds-of, commits-of}
 use Rattle.tree_theory.specs.Check.{edge-over, crossed}
-use Rattle.tree_theory.proofs.Rebuilt.{added-nodes}
+use Rattle.tree_theory.specs.Rebuilt.{added-nodes}
 
 abbrev pub add-of : Node → Call
 add-of n = add (n .round) (n .value) (n .parent)

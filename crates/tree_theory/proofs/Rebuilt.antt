@@ -1,5 +1,4 @@
--- The nodes as a function of the accepted calls: an add makes a node, whose status is its history status. If the calls have the
--- four properties, the nodes are grown ones. Assumes nothing.
+-- Nodes rebuilt from the accepted calls: if these have the four properties, the nodes are grown ones. Assumes nothing.
 use mathlib.Core.Path.{_≡_, refl, sym, ap, _∙_, subst}
 use mathlib.Core.Bool.{Bool, true, false, _||_, and-false}
 use mathlib.Core.List.{List, [], _∷_, _++_, map, append-nil, List·Memᴰ·head as here, List·Memᴰ·tail as there, Memᴰ·append-left}
@@ -11,25 +10,13 @@ use borrow.Author.Tests.{ne-eqb, le-ltb}
 use Rattle.laws.specs.Tests.{by-test, tests, impossible, or-right}
 use Rattle.laws.specs.Lists.{_∈_, any, none-any, in-cut}
 use Rattle.ids.specs.Ranges.{above-range}
-use Rattle.tree_theory.specs.Machine.{Call, add, commit, Node, node-of, root, GHOST, COMMITTED, crosses, present, find}
+use Rattle.tree_theory.specs.Machine.{Call, add, commit, Node, root, GHOST, COMMITTED, crosses, present, find}
 use Rattle.tree_theory.specs.Properties.{Properties, InRange, history, adds-in, adds, commits, edge-crosses}
 use Rattle.tree_theory.specs.Check.{crossed}
+use Rattle.tree_theory.specs.Rebuilt.{made, added-nodes, rebuilt}
 use Rattle.tree_theory.proofs.Nodes.{find-in, find-round}
 use Rattle.tree_theory.proofs.Grown.{Grown, Placed, Stated}
 use Rattle.tree_theory.proofs.Calls.{add-inj, adds-intro, adds-with-elim, commits-elim, committed-uncrossed, unique}
-
--- the node that an add makes, after the history h
-abbrev pub made : List Call → ℕ → ℕ → ℕ → Node
-made h r v p = node-of r p v (history h r)
-
--- the nodes that the adds of a list make, after the history h
-unfoldable pub added-nodes : List Call → List Call → List Node
-added-nodes h [] = []
-added-nodes h (add r v p ∷ cs) = made h r v p ∷ added-nodes h cs
-added-nodes h (commit r ∷ cs) = added-nodes h cs
-
-abbrev pub rebuilt : List Call → List Node
-rebuilt h = root ∷ added-nodes h h
 
 pub cons-same : {x y : Node} {l k : List Node} → x ≡ y → l ≡ k → x ∷ l ≡ y ∷ k
 cons-same a b = cc

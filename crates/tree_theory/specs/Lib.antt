@@ -2,4 +2,5 @@
 pub mod Machine
 pub mod Properties
 pub mod Table
+pub mod Rebuilt
 pub mod Check

@@ -151,12 +151,3 @@ unfoldable pub answers : Bool → ℕ → List Node → List Call → List ℕ
 unfolding step
 answers valued rows ns [] = []
 answers valued rows ns (c ∷ cs) = answer valued rows ns c ∷ answers valued rows (step valued rows ns c) cs
-
--- the calls that got OK
-unfoldable pub accepted : Bool → ℕ → List Node → List Call → List Call
-unfolding step
-accepted valued rows ns [] = []
-accepted valued rows ns (c ∷ cs) =
-    cond (eqb (answer valued rows ns c) OK)
-    (c ∷ accepted valued rows (step valued rows ns c) cs)
-    (accepted valued rows (step valued rows ns c) cs)
