@@ -33,6 +33,7 @@ use Rattle.message.specs.Layout.{message-round, message-sender}
 use Rattle.message.specs.Layout.{presence-in, message-voted, voted-value-in, proposed-in, ValueFits}
 use Rattle.message.specs.Reading.{is-join, size, decoded, message-row, read-answer, read-number, reading, ReaderGives}
 use Rattle.message.specs.Writing.{writer-row, writing, buffer-after, in-front}
+use Rattle.message.specs.RoundTrip.{AcceptedAreWritten, WrittenAreAccepted}
 use Rattle.message.proofs.Checks.{Known, right-size, size-least, size-front, size-join-least, size-join, size-join-voted, size-propose, size-other}
 use Rattle.message.proofs.Checks.{decoded-start, decoded-join, decoded-join-voted, decoded-propose, decoded-vote}
 
@@ -267,11 +268,24 @@ pub left-as-it-was : (m : Message) (old : List ℕ) → (first (writer-row m old
 unfolding buffer-after
 left-as-it-was m old refused = rw (ne-eqb (first (writer-row m old)) 0 refused)
 
--- a message that the writer took stands at the front of the buffer, is in range, and reads back
-pub written-reads-back : (m : Message) (old : List ℕ) → ValueFits m → writing m old .number ≡ 0 →
-    (in-range m ≡ true) × (reading (take (writing m old .length) (buffer-after m old)) ≡ Got m)
+-- a message that the writer took is in range, and the length answered of the buffer is its bytes
+written-taken : (m : Message) (old : List ℕ) → writing m old .number ≡ 0 → (in-range m ≡ true) × (take (writing m old .length) (buffer-after m old) ≡ bytes m)
 unfolding writing buffer-after in-front
-written-reads-back m old v ok =
+written-taken m old ok =
     let (room, (ranged, end)) = passed (writer-row m old) refl ok in
-    let fits : in-range m ≡ true = not-false (in-range m) ranged in
-    (fits, rw (ok, take-at (bytes m) (drop (length (bytes m)) old) (length (bytes m)) refl) (reads-back m v fits))
+    (not-false (in-range m) ranged, rw (ok, take-at (bytes m) (drop (length (bytes m)) old) (length (bytes m)) refl) refl)
+
+pub written-reads-back : WrittenAreAccepted
+written-reads-back m v old w new W ok r R =
+    let (ranged, front) = written-taken m old (rw (W .answer) at ok) in
+    let same : take (w .length) new ≡ bytes m = rw (W .answer, W .buffer) front in
+    R .answer ∙ ap reading same ∙ reads-back m v ranged
+
+pub accepted-as-written : AcceptedAreWritten
+unfolding in-front
+accepted-as-written s b m R old l w new W =
+    let (same, held, ranged) = only-written s b m (sym (R .answer)) in
+    record {
+      answer-is = W .answer ∙ in-range-written m old l ranged ∙ ap (λ x. record { number = 0; length = length x }) (sym same);
+      buffer-is = W .buffer ∙ left-in-front m old l ranged ∙ ap (λ x. x ++ drop (length x) old) (sym same);
+    }
