@@ -3,7 +3,7 @@
 use mathlib.Core.Path.{_≡_, refl, sym, _∙_}
 use mathlib.Core.Bool.{true}
 use mathlib.Core.List.{List, List·Memᴰ·tail as there}
-use Prim.Native.Nat.{ℕ, _<_}
+use Prim.Native.Nat.{ℕ, _*_, _<_}
 use lib.ListN.{length}
 use borrow.Author.Tests.{eqb-true}
 use Rattle.laws.specs.Lists.{_∈_}
@@ -62,7 +62,7 @@ module _ (z : Sizes) (es : List Event) (ok : allowed (z .n) ≡ true) where
         (eqb-true (history h r) COMMITTED (history-committed h r pos ∙ commits-intro h (decision-call (ended z es .made) i))) pos refl
 
     -- given that the table left is the tree of what the model made
-    pub demand : (left : List ℕ) → left ≡ table (length left) (made-tree z (ended z es)) → Demand z es left
+    pub demand : (left : List ℕ) → left ≡ table (4 * z .table) (made-tree z (ended z es)) → Demand z es left
     demand left t = record {
       ok = all-ok;
       table-is = t;

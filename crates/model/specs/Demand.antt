@@ -2,8 +2,7 @@
 use mathlib.Core.Path.{_≡_}
 use mathlib.Core.Bool.{true}
 use mathlib.Core.List.{List, [], _∷_, _++_}
-use Prim.Native.Nat.{ℕ}
-use lib.ListN.{length}
+use Prim.Native.Nat.{ℕ, _*_}
 use Rattle.laws.specs.Lists.{_∈_}
 use Rattle.tree_theory.specs.Machine.{Call, add, commit, fresh}
 use Rattle.tree_theory.specs.Machine.{after as after-calls}
@@ -27,8 +26,8 @@ ended z es = office-after z (first-office (z .n)) es
 pub record Demand (z : Sizes) (es : List Event) (left : List ℕ) : Type 0 where
   -- entered in the order made into a fresh tree of the table's rows, each proposal and decision gets OK
   pub ok : AllOk true (z .table) (calls (ended z es .made))
-  -- the table left is that tree, in every row, free rows too
-  pub table-is : left ≡ table (length left) (after-calls true (z .table) fresh (calls (ended z es .made)))
+  -- the table left is that tree in the rows lent, four words each, free rows too
+  pub table-is : left ≡ table (4 * z .table) (after-calls true (z .table) fresh (calls (ended z es .made)))
   -- all decided values are equal
   pub equal : (r x s y : ℕ) → decision r x ∈ ended z es .made → decision s y ∈ ended z es .made → x ≡ y
   -- and each was offered at an accepted start earlier in the list

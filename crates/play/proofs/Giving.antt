@@ -16,7 +16,7 @@ use Rattle.tree_theory.specs.Table.{nodes, rows, sized, table, fresh-number, fr
 use Rattle.tree_theory.proofs.Grown.{Grown}
 use Rattle.tree_theory.proofs.Words.{length-table, nodes-table}
 use Rattle.tree_theory.proofs.History.{all-grown}
-use Rattle.tree_theory.proofs.Trees.{sized-rows, grown-fit, grown-stated}
+use Rattle.tree_theory.proofs.Trees.{sized-rows, sized-words, grown-fit, grown-stated}
 use Rattle.tree_theory.proofs.Steps.{fresh-written}
 use Rattle.member_record.specs.Record.{allowed}
 use Rattle.model.specs.Model.{Sizes, first-office, event-answers, proposals}
@@ -168,7 +168,6 @@ module _ {list : List ℕ} {L : Lent} (P : PassedList list L) where
         let U = on-lent in
         let grown : Grown true (rows ws) ns = all-grown true (rows ws) (calls (ended z es .made)) in
         let fit = grown-fit true ws ns (P .table-length) grown in
-        let long : length (L′ .memory .table) ≡ length ws = ap length (U .table-is) ∙ length-table (length ws) ns fit in
         let held : nodes (L′ .memory .table) ≡ ns = ap nodes (U .table-is) ∙ nodes-table (length ws) ns fit (grown-stated true (rows ws) ns grown) in
         let lent-rows = sized-rows ws (P .table-length) in
         let ok = all-ok z es (P .members) lent-rows in
@@ -177,7 +176,7 @@ module _ {list : List ℕ} {L : Lent} (P : PassedList list L) where
           taken = λ q.
               record {
                 played = U;
-                demand = demand z es (P .members) lent-rows (L′ .memory .table) (U .table-is ∙ ap (λ n. table n ns) (sym long));
+                demand = demand z es (P .members) lent-rows (L′ .memory .table) (U .table-is ∙ ap (λ n. table n ns) (sym (sized-words ws (P .table-length))));
                 proposals-are = ap suc (U .proposals-made) ∙ sym (ap length held ∙ nodes-counted z (ended z es) ok);
                 decisions-are = ap suc (U .decisions-made) ∙ sym (ap committed-nodes held ∙ committed-counted z (ended z es) ok lent-rows);
               };

@@ -29,6 +29,12 @@ sized-rows ws h =
     let b : leb 4 (length ws) ≡ true = and-left (leb 4 (length ws)) (leb (length ws) 1024) (and-right (eqb (length ws % 4) 0) within h) in
     omega tests
 
+-- four words a row are all words
+pub sized-words : (ws : List ℕ) → sized ws ≡ true → 4 * rows ws ≡ length ws
+sized-words ws h =
+    let b : eqb (length ws % 4) 0 ≡ true = and-left (eqb (length ws % 4) 0) (leb 4 (length ws) && leb (length ws) 1024) h in
+    omega tests
+
 -- ---- a tree holds grown nodes
 
 pub grown-stated : (valued : Bool) (k : ℕ) (ns : List Node) → Grown valued k ns → (n : Node) → n ∈ ns → n .status ≢ FREE
