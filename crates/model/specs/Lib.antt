@@ -2,4 +2,5 @@
 pub mod Model
 pub mod Demand
 pub mod Counts
+pub mod Cases
 pub mod Sound
