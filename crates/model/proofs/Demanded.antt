@@ -4,7 +4,6 @@ use mathlib.Core.Path.{_≡_, refl, sym, _∙_}
 use mathlib.Core.Bool.{true}
 use mathlib.Core.List.{List, List·Memᴰ·tail as there}
 use Prim.Native.Nat.{ℕ, _*_, _<_}
-use lib.ListN.{length}
 use borrow.Author.Tests.{eqb-true}
 use Rattle.laws.specs.Lists.{_∈_}
 use Rattle.tree_theory.specs.Machine.{Call, Node, COMMITTED, fresh, after}

@@ -12,7 +12,8 @@ use Rattle.laws.specs.Tests.{tests, by-test, clash, or-left, or-right, and-left
 use Rattle.laws.specs.Lists.{_∈_, any, any-intro, any-elim}
 use Rattle.laws.specs.First.{Cause, _gives_, first}
 use Rattle.laws.specs.Numbers.{first-has}
-use Rattle.numbers.specs.Numbers.{COUNTED-ALREADY, MOVED-PAST, NO-FREE-ROW, NO-MEMBER-OR-MESSAGE, NOT-ABOVE-LED, NOT-AWAITED, NOT-LEADER, ROUND-RANGE, STORE-FULL}
+use Rattle.numbers.specs.Numbers.{COUNTED-ALREADY, MOVED-PAST, NO-FREE-ROW, NO-MEMBER-OR-MESSAGE, NOT-ABOVE-LED, NOT-AWAITED, NOT-LEADER}
+use Rattle.numbers.specs.Numbers.{ROUND-RANGE, STORE-FULL}
 use Rattle.ids.specs.declared.Round.{Round}
 use Rattle.ids.specs.declared.Member.{Member}
 use Rattle.ids.specs.Ranges.{out-of-range, above-range}
@@ -163,11 +164,13 @@ module _ (z : Sizes) (o : Office) (offers : List ℕ) (K : KeptOffice z o) (I : 
   unfolding event-answer
   last-number e k apart h =
       by-test (absent z o e)
-      (λ a. let q : NO-MEMBER-OR-MESSAGE ≡ k = rw a at h in clash (any-intro (eqb k) (0 ∷ NO-MEMBER-OR-MESSAGE ∷ step-numbers) (there (here refl)) (eq-eqb k NO-MEMBER-OR-MESSAGE (sym q))) apart)
+      (λ a. let q : NO-MEMBER-OR-MESSAGE ≡ k = rw a at h in
+      clash (any-intro (eqb k) (0 ∷ NO-MEMBER-OR-MESSAGE ∷ step-numbers) (there (here refl)) (eq-eqb k NO-MEMBER-OR-MESSAGE (sym q))) apart)
       (λ a. by-test (eqb (event-outcome z o e .number) 0)
       (λ b. rw (a, b) at h)
       (λ b. let q : event-outcome z o e .number ≡ k = rw (a, b) at h in
-      clash (any-intro (eqb k) (0 ∷ NO-MEMBER-OR-MESSAGE ∷ step-numbers) (there (there (step-numbered e a))) (eq-eqb k (event-outcome z o e .number) (sym q))) apart))
+      clash (any-intro (eqb k) (0 ∷ NO-MEMBER-OR-MESSAGE ∷ step-numbers) (there (there (step-numbered e a)))
+      (eq-eqb k (event-outcome z o e .number) (sym q))) apart))
 
   -- 30 is given only where the store is full
   pub thirty-full : (e : Event) → event-answer z o e ≡ STORE-FULL → length (o .sent) ≡ z .store
