@@ -4,4 +4,7 @@ pub mod Held
 pub mod Widths
 pub mod Putting
 pub mod Items
-pub mod Writing
+pub mod Locals
+pub mod Shapes
+pub mod PutAll
+pub mod Shaped

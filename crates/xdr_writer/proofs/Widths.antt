@@ -1,8 +1,8 @@
 -- The writer's functions over the width of the number that is put: contracts and MIR, each as one text at a width w and an item of it.
 -- A function of either width is this text by computation, so one walk serves both.
---     to-…       a number is put at a place of a slice: the contract of `word_to`, `hyper_to`, `write_word` and `write_hyper`
+--     to-…       a number is put at a place of a slice: the contract of `word_to` and `hyper_to`
 --     put-…      a number is put by a writer: the contract of `put_word` and `put_hyper`
---     put-code, write-code     the MIR of `put_word` and of `write_word`, calling what they are handed
+--     put-code   the MIR of `put_word` and of `put_hyper`, calling what they are handed
 -- Assumes nothing: these are definitions.
 use mathlib.Core.Path.{_≡_}
 use Prim.Native.Nat.{ℕ, _+_, _≤_}
@@ -96,19 +96,4 @@ put-code w callee = record {
       seq (assign (whole 7) (addrOf (place 1 (field 0 ∷ field 0 ∷ deref (tyInt w8) ∷ [])))) (
       seq (assign (whole 8) (aggregate (copy (whole 7) ∷ copy (place 1 (field 0 ∷ field 1 ∷ [])) ∷ []))) (
       seq (assign (whole 0) (aggregate (copy (whole 8) ∷ copy (whole 4) ∷ []))) return))))));
-}
-
-abbrev pub write-code : Width → Name → Fn
-write-code w callee = record {
-  lifetimes = 1;
-  outlives = [];
-  params = 3;
-  locals = value (tyInt w64) ∷ value (sliceTy (tyRef (named 0) mut (tyInt w8))) ∷ value (tyInt w64) ∷ value (tyInt w) ∷ value
-      (T′.mir erased) ∷ value lent ∷ value (sliceTy lent) ∷ value (T′.mir erased) ∷ [];
-  body =
-      seq (assign (whole 5) (addrOf (place 1 (field 0 ∷ deref (tyInt w8) ∷ [])))) (
-      seq (assign (whole 6) (aggregate (copy (whole 5) ∷ part 1 1 ∷ []))) (
-      seq (assign (whole 7) (aggregate (copy (whole 6) ∷ copy (whole 2) ∷ []))) (
-      seq (call callee (copy (whole 7) ∷ copy (whole 3) ∷ []) (whole 4)) (
-      seq (assign (whole 0) (rvOpd (part 4 1))) return))));
 }

@@ -54,21 +54,3 @@ pub fn put_hyper<'a>(w: Writer<'a>, x: u64) -> Writer<'a>
         at: next,
     }
 }
-
-// The same on a buffer and a place, through a writer: who calls it holds none.
-pub fn write_word(buf: &mut [u8], at: usize, x: u32) -> usize
-    requires { ⌜ at + 4 ≤ length (now buf) ⌝ }
-    ensures { λ r. ⌜ Puts (integer x) (now (buf .entry)) at r (now (buf .exit)) ⌝ }
-{
-    let w = put_word(Writer { buf: buf, at: at }, x);
-    w.at
-}
-
-// The same of an unsigned hyper.
-pub fn write_hyper(buf: &mut [u8], at: usize, x: u64) -> usize
-    requires { ⌜ at + 8 ≤ length (now buf) ⌝ }
-    ensures { λ r. ⌜ Puts (long x) (now (buf .entry)) at r (now (buf .exit)) ⌝ }
-{
-    let w = put_hyper(Writer { buf: buf, at: at }, x);
-    w.at
-}

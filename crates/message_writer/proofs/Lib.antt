@@ -1,0 +1,2 @@
+-- What the writer's proofs by hand share.
+pub mod Pieces
