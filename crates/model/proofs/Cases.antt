@@ -4,9 +4,9 @@ use Rattle.tree_theory.specs.Machine.{after, answers, causes, answer, change, s
 use Rattle.xdr.specs.Words.{word, word-at}
 use Rattle.xdr.specs.Items.{encoded}
 use Rattle.message.specs.Reading.{size, decoded, reading}
-use Rattle.model.specs.Cases.{cases, Holds}
+use Rattle.model.specs.Cases.{cases, AllMet}
 
-pub rig : Holds cases
+pub rig : AllMet cases
 unfolding cases answers after step answer causes change find path-in struck new-node commit-node reading size decoded encoded word word-at
 rig =
     (refl, (refl, (refl, (refl, (refl, (refl, (refl, (refl, (refl, (refl, (refl, (refl, tt))))))))))))

@@ -48,7 +48,7 @@ Meets (called label rows calls given left) =
     _≡_ {A = List ℕ × List (ℕ × ℕ)} (answers true rows fresh calls, map round-and-status (after true rows fresh calls)) (given, left)
 Meets (spelled label words given) = map (λ ws. reading (bytes-of-words ws)) words ≡ given
 
--- and so is each of a list
-abbrev pub Holds : List Case → Type 0
-Holds [] = Unit {0}
-Holds (c ∷ cs) = Meets c × Holds cs
+-- and so is each case of a list
+abbrev pub AllMet : List Case → Type 0
+AllMet [] = Unit {0}
+AllMet (c ∷ cs) = Meets c × AllMet cs
