@@ -280,6 +280,19 @@ fn member_call(calls: &Calls, fields: &MemberFields, call: &MemberCall, room: us
     left
 }
 
+/// Makes a member call by both; the number that they give, or how they differ.
+fn compare_member(calls: Pair, fields: &MemberFields, call: &MemberCall, room: usize) -> Result<u32, String> {
+    let [one, other] = calls.map(|calls| member_call(calls, fields, call, room));
+    if one == other {
+        return Ok(number_of(&other.answer));
+    }
+    let names = calls.map(|calls| calls.name);
+    Err(format!(
+        "{call:02x?} with {room} bytes for the reply on {fields:?}\n{}: {one:02x?}\n{}: {other:02x?}",
+        names[0], names[1]
+    ))
+}
+
 /// The numbers that member calls give.
 const MEMBER_NUMBERS: [u32; 14] = [0, 3, 14, 15, 16, 17, 18, 19, 20, 21, 22, 23, 24, 25];
 
@@ -296,16 +309,7 @@ pub fn random_members(calls: Pair, seed: u64, members: usize) -> Compared {
             let call = random_member_call(&mut random, &fields);
             let room = *random.pick(&[28, 28, 28, 28, 40, 27, 0]);
             for fields in [fields, damaged_fields(&fields, &mut random)] {
-                let left = calls.map(|calls| member_call(calls, &fields, &call, room));
-                if left[0] != left[1] {
-                    let names = calls.map(|calls| calls.name);
-                    let (one, other) = (&left[0], &left[1]);
-                    return Err(format!(
-                        "{call:02x?} with {room} bytes for the reply on {fields:?}\n{}: {one:02x?}\n{}: {other:02x?}",
-                        names[0], names[1]
-                    ));
-                }
-                given.insert(number_of(&left[1].answer));
+                given.insert(compare_member(calls, &fields, &call, room)?);
                 compared += 1;
             }
             if !matches!(call, MemberCall::Fresh(..)) {
@@ -317,6 +321,60 @@ pub fn random_members(calls: Pair, seed: u64, members: usize) -> Compared {
         Some(number) => Err(format!("no call got {number}")),
         None => Ok(compared),
     }
+}
+
+/// Every record of three members with small numbers, sound or not: on a sound one every call with small numbers, on any
+/// other one start and one delivery.
+pub fn small_records(calls: Pair) -> Compared {
+    let every = small_member_calls();
+    let some = [every[0].clone(), every[every.len() - 1].clone()];
+    let (mut compared, mut sound) = (0, 0);
+    for code in 0..4 * 4 * 4 * 2 * 4 * 5 * 2 * 4 * 16 {
+        let digit = |below: u32, of: u32| code / below % of;
+        let mut fields = MemberFields::default();
+        fields.number = Member(digit(1, 4));
+        fields.members = 3;
+        fields.joined = Round(digit(4, 4));
+        fields.voted = Round(digit(16, 4));
+        fields.vote = u64::from(7 * digit(64, 2));
+        fields.led = Round(digit(128, 4));
+        fields.phase = digit(512, 5);
+        fields.value = u64::from(8 * digit(2_560, 2));
+        fields.source = Round(digit(5_120, 4));
+        fields.flags = digit(20_480, 16);
+        let number = compare_member(calls, &fields, &some[0], Message::LONGEST)?;
+        let is_sound = number != Refusal::RecordUnsound.number();
+        sound += usize::from(is_sound);
+        for call in if is_sound { &every[..] } else { &some[1..] } {
+            compare_member(calls, &fields, call, Message::LONGEST)?;
+            compared += 1;
+        }
+        compare_member(calls, &fields, &some[1], Message::LONGEST - 1)?;
+        compared += 2;
+    }
+    match sound {
+        0 => Err("no record was sound".into()),
+        _ => Ok(compared),
+    }
+}
+
+/// Starts and messages of rounds 0 to 4, and a message of no kind at the end.
+fn small_member_calls() -> Vec<MemberCall> {
+    let rounds = || (0..=4).map(Round);
+    let mut calls: Vec<_> = rounds().flat_map(|round| [0, 7, 8].map(|offer| MemberCall::Start(round, offer))).collect();
+    for round in rounds() {
+        for sender in (0..4).map(Member) {
+            let mut messages =
+                vec![Message::start(round, sender), Message::join(round, sender, None), Message::vote(round, sender)];
+            for value in [0, 7, 8] {
+                messages.push(Message::propose(round, sender, value));
+                messages.extend(rounds().map(|voted| Message::join(round, sender, Some(Vote { round: voted, value }))));
+            }
+            calls.extend(messages.iter().map(|message| MemberCall::Deliver(message_bytes(message))));
+        }
+    }
+    calls.push(MemberCall::Deliver(vec![0; 12]));
+    calls
 }
 
 /// A call that the member may accept: its next rounds, the messages that it waits for, votes and values of its own.

@@ -51,6 +51,11 @@ fn messages_written() {
 }
 
 #[test]
+fn every_small_record() {
+    same("small records", suite::small_records(PAIR));
+}
+
+#[test]
 fn random_members() {
     same("random members", suite::random_members(PAIR, seed(), 40_000));
 }
