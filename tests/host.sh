@@ -50,6 +50,7 @@ other_version_told() {
 
 check "cargo check fails without the archive" without_archive check --offline
 check "clippy warns" without_archive clippy --offline --all-targets -- -D warnings
+check "clippy warns of the test of the lent calls" without_archive clippy --offline --test lent -- -D warnings
 check "clippy warns of the packages without the core" without_archive clippy --offline --all-targets --no-default-features -- -D warnings
 check "the pages can't be made without the archive" pages
 if ! built; then

@@ -98,7 +98,9 @@ static inline const char *kalebasin_cause(uint32_t number) {
     }
 }
 
-/* The version of these functions: 1. It goes up with each change that a caller sees. */
+/* The version of the functions that this header declares, and that of the archive's. A program that starts asks that the two
+ * be equal: the version goes up with each change that a caller sees. */
+enum { KALEBASIN_VERSION = 1 };
 uint32_t kalebasin_version(void);
 
 /* A row of the store in bytes, and a row of a table in words. */
