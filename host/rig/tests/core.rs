@@ -242,3 +242,8 @@ fn the_longest_path_on_a_stack_of_64_kib() {
     assert_eq!(count, Ok(TABLE_ROWS));
     assert!(path.iter().copied().eq(0..TABLE_ROWS as u64));
 }
+
+#[test]
+fn members_on_a_stack_of_64_kib() {
+    same("members on a small stack", on_a_small_stack(|| suite::random_members(PAIR, seed(), 2_000)));
+}

@@ -220,8 +220,9 @@ fn a_round_on_records_where_they_sit() {
     for _ in 0..2 {
         let message = reply[..sent].to_vec();
         for member in 0..2 {
-            let answered = deliver(&mut office[member], &message, &mut reply).unwrap().sent;
-            let counted = deliver(&mut office[1], &reply[..answered].to_vec(), &mut reply).unwrap();
+            let length = deliver(&mut office[member], &message, &mut reply).unwrap().sent;
+            let answer = reply[..length].to_vec();
+            let counted = deliver(&mut office[1], &answer, &mut reply).unwrap();
             made.extend(counted.made);
             sent = counted.sent;
         }
