@@ -15,7 +15,6 @@ use Rattle.message.specs.Layout.{bytes, byte-count, longest-message}
 use Rattle.message.specs.declared.Written.{Written}
 use Rattle.message.specs.Writing.{writer-row, writing, buffer-after, WriterLeaves}
 use Rattle.message.proofs.RoundTrip.{length-bytes}
-use Rattle.member_record.specs.Record.{round-number}
 use Rattle.member_record.specs.declared.MemberState.{MemberState}
 use Rattle.member.specs.Table.{Outcome}
 use Rattle.member_calls.specs.declared.reply.AfterCall.{AfterCall}
@@ -23,7 +22,7 @@ use Rattle.member_calls.specs.declared.reply.Report.{Report}
 use Rattle.member_calls.specs.Reports.{reply-length, reported, LeavesReport}
 use Rattle.exports.specs.declared.members.MemberFields.{MemberFields}
 use Rattle.exports.specs.declared.members.WriteResult.{WriteResult}
-use Rattle.exports.specs.Members.{member-of, call-result, member-result, fields-row, message-of, write-row, write-result, written-after}
+use Rattle.exports.specs.Members.{call-result, member-result, fields-row, fields-message, write-row, write-result, written-after}
 
 -- no message is longer than the longest-message
 count-short : (m : Message) → byte-count m ≤ longest-message
@@ -74,16 +73,16 @@ module _ (k r s p q v : ℕ) (old : List ℕ) (n : ℕ) (row : n ≡ first (fiel
   pub fields-refused : (n ≡ 0 → ⊥) → (record { number = n; length = 0 } ≡ write-result k r s p q v old) × (old ≡ written-after k r s p q v old)
   unfolding write-result written-after write-row
   fields-refused nz =
-      let front : first (write-row k r s p q v old) ≡ n = first-front (fields-row k p q v) (writer-row (message-of k (round-number r) (member-of s) p (round-number q) v) old)
+      let front : first (write-row k r s p q v old) ≡ n = first-front (fields-row k p q v) (writer-row (fields-message k r s p q v) old)
       (λ z. nz (row ∙ z)) ∙ sym row in
       (rw (front, ne-eqb n 0 nz), rw (front, ne-eqb n 0 nz))
 
-  pub fields-written : n ≡ 0 → (w : Written) (new : List ℕ) → WriterLeaves (message-of k (round-number r) (member-of s) p (round-number q) v) old w new
+  pub fields-written : n ≡ 0 → (w : Written) (new : List ℕ) → WriterLeaves (fields-message k r s p q v) old w new
       → (record { number = w .number; length = w .length } ≡ write-result k r s p q v old) × (new ≡ written-after k r s p q v old)
   unfolding write-result written-after write-row writing buffer-after fields-row
   fields-written z w new l =
-      let behind : first (write-row k r s p q v old) ≡ first (writer-row (message-of k (round-number r) (member-of s) p (round-number q) v) old) =
-      first-behind (fields-row k p q v) (writer-row (message-of k (round-number r) (member-of s) p (round-number q) v) old) (passed (fields-row k p q v) refl (sym row ∙ z))
+      let behind : first (write-row k r s p q v old) ≡ first (writer-row (fields-message k r s p q v) old) =
+      first-behind (fields-row k p q v) (writer-row (fields-message k r s p q v) old) (passed (fields-row k p q v) refl (sym row ∙ z))
       in
       let result : Written → WriteResult = λ (x : Written). record { number = x .number; length = x .length } in
       (rw behind (ap result (l .answer)), rw behind (l .buffer))

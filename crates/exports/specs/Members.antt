@@ -85,7 +85,11 @@ no-fields = record { me = 0; n = 0; joined = 0; voted = 0; vote = 0; led = 0; ph
 abbrev pub refused-call : MemberFields → ℕ → MemberResult
 refused-call f k = record { number = k; sent = 0; round = 0; parent = 0; value = 0; fields = f }
 
--- what a call hands back: the record that came, where it is refused, else the one after
+-- the record that goes back: the one that came, where the call is refused, else the one after
+abbrev pub fields-after : MemberFields → MemberState → ℕ → MemberFields
+fields-after f m k = cond (eqb k 0) (fields-of m) f
+
+-- what a call hands back
 abbrev pub call-result : MemberFields → AfterCall → MemberResult
 call-result f c =
     record {
@@ -94,7 +98,7 @@ call-result f c =
       round = c .report .round .0;
       parent = c .report .parent .0;
       value = c .report .value;
-      fields = cond (eqb (c .report .number) 0) (fields-of (c .state)) f;
+      fields = fields-after f (c .state) (c .report .number);
     }
 
 abbrev pub member-result : MemberFields → Outcome → MemberResult
@@ -121,6 +125,9 @@ message-of k r s p q v =
     (cond (eqb k JOIN-KIND) (cond (eqb p 1) (JoinVoted r s q v) (Join r s))
     (cond (eqb k PROPOSE-KIND) (Propose r s v) (Vote r s)))
 
+abbrev pub fields-message : ℕ → ℕ → ℕ → ℕ → ℕ → ℕ → Message
+fields-message k r s p q v = message-of k (round-number r) (member-of s) p (round-number q) v
+
 -- a field that the kind doesn't have isn't 0
 unfoldable pub spare-fields : ℕ → ℕ → ℕ → ℕ → Bool
 spare-fields k p q v =
@@ -142,7 +149,7 @@ fields-row k p q v =
 -- the causes of the fields, then those of the writer: 18 the buffer, 16 a range
 unfoldable pub write-row : ℕ → ℕ → ℕ → ℕ → ℕ → ℕ → List ℕ → List Cause
 unfolding fields-row
-write-row k r s p q v old = fields-row k p q v ++ writer-row (message-of k (round-number r) (member-of s) p (round-number q) v) old
+write-row k r s p q v old = fields-row k p q v ++ writer-row (fields-message k r s p q v) old
 
 -- the number; the length is that of the message, and 0 with a refusal
 unfoldable pub write-result : ℕ → ℕ → ℕ → ℕ → ℕ → ℕ → List ℕ → WriteResult
@@ -150,10 +157,10 @@ unfolding write-row
 write-result k r s p q v old =
     record {
       number = first (write-row k r s p q v old);
-      length = cond (eqb (first (write-row k r s p q v old)) 0) (length (bytes (message-of k (round-number r) (member-of s) p (round-number q) v))) 0;
+      length = cond (eqb (first (write-row k r s p q v old)) 0) (length (bytes (fields-message k r s p q v))) 0;
     }
 
 -- the message at the front, and the bytes behind it as they were; a refusal leaves the buffer as it was
 unfoldable pub written-after : ℕ → ℕ → ℕ → ℕ → ℕ → ℕ → List ℕ → List ℕ
 unfolding write-row
-written-after k r s p q v old = cond (eqb (first (write-row k r s p q v old)) 0) (in-front (message-of k (round-number r) (member-of s) p (round-number q) v) old) old
+written-after k r s p q v old = cond (eqb (first (write-row k r s p q v old)) 0) (in-front (fields-message k r s p q v) old) old

@@ -18,7 +18,8 @@ ghost use Prim.Native.Nat.{_≤_};
 ghost use Rattle.laws.specs.First.{first};
 ghost use Rattle.message.specs.Layout.{longest-message};
 ghost use Rattle.member_calls.specs.Reports.{reply-after};
-ghost use Rattle.exports.specs.Members.{BitAdded, bit, flags-of, mask-of, no-mask, state-of, fields-of, no-fields, call-result, refused-call};
+ghost use Rattle.exports.specs.Members.{BitAdded, bit, flags-of, mask-of, no-mask, state-of, fields-of, no-fields};
+ghost use Rattle.exports.specs.Members.{fields-after, call-result, refused-call};
 ghost use Rattle.exports.specs.Members.{member-result, fresh-outcome, start-outcome, deliver-outcome, no-presence, spare-fields, fields-row, message-of};
 ghost use Rattle.exports.specs.Members.{write-result, written-after};
 
@@ -184,30 +185,30 @@ fn refuse(f: MemberFields, number: u32) -> MemberResult
     }
 }
 
-// What a call on a record handed back, as numbers; the record that came goes back where the call is refused.
+// The record that goes back: the one that came where the call is refused, else the one after.
+fn fields_after(f: MemberFields, m: MemberState, answer: u32) -> MemberFields
+    ensures { λ g. ⌜ g ≡ fields-after f m answer ⌝ }
+{
+    if answer != numbers::OK {
+        return f;
+    }
+    fields_of(m)
+}
+
+// What a call on a record handed back, as numbers.
 fn result(f: MemberFields, c: AfterCall) -> MemberResult
     requires { ⌜ c .report .sent ≤ longest-message ⌝ }
     ensures { λ r. ⌜ r ≡ call-result f c ⌝ }
 {
     let report = c.report;
     let m = c.state;
-    if report.number != numbers::OK {
-        return MemberResult {
-            number: report.number,
-            sent: report.sent as u32,
-            round: report.round.0,
-            parent: report.parent.0,
-            value: report.value,
-            fields: f,
-        };
-    }
     MemberResult {
         number: report.number,
         sent: report.sent as u32,
         round: report.round.0,
         parent: report.parent.0,
         value: report.value,
-        fields: fields_of(m),
+        fields: fields_after(f, m, report.number),
     }
 }
 
