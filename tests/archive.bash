@@ -1,7 +1,9 @@
-# The archive of the exports, for the tests that link it: built unless it is newer than the last proof of the exports.
+# The archive of the exports, for the tests that link it, and those of other crates.
 archive=target/staticlib/libexports.a
 
+# Builds the archive of a crate, of the exports where none is named, unless it is newer than the crate's last proof.
 built() {
-    rt check exports >/dev/null || return
-    [ -e target/stamp/exports ] && [ "$archive" -nt target/stamp/exports ] || rt staticlib exports
+    local crate=${1:-exports}
+    rt check "$crate" >/dev/null || return
+    [ -e "target/stamp/$crate" ] && [ "target/staticlib/lib$crate.a" -nt "target/stamp/$crate" ] || rt staticlib "$crate"
 }

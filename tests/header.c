@@ -1,4 +1,4 @@
-/* Calls each function of kalebasin.h and expects what document 01 says: its rehearsal, a message, a tree of two rounds, and refusals; slices of
+/* Calls each function of kalebasin.h and expects what document 01 says: its rehearsal, a message, a member, a tree of two rounds, and refusals; slices of
    no elements, also null ones, and bytes at odd addresses. */
 #include "kalebasin.h"
 #include <stdio.h>
@@ -15,6 +15,9 @@
 _Static_assert(sizeof(KalebasinPlayResult) == 20, "five words");
 _Static_assert(sizeof(KalebasinMessageResult) == 32, "six words and a value");
 _Static_assert(sizeof(KalebasinPathResult) == 8, "two words");
+_Static_assert(sizeof(KalebasinWriteResult) == 8, "two words");
+_Static_assert(sizeof(KalebasinMemberRecord) == 48, "eight words and two values, and nothing between them");
+_Static_assert(sizeof(KalebasinMemberResult) == 72, "four words, a value and a record, and nothing between them");
 
 static uint8_t list[400];
 static size_t length;
@@ -58,6 +61,54 @@ static int read_message(void) {
     return 0;
 }
 
+static int write_message(void) {
+    static const uint8_t propose[20] = {0, 0, 0, 3, 0, 0, 0, 9, 0, 0, 0, 3, 1, 2, 3, 4, 5, 6, 7, 8};
+    uint8_t buffer[30], marks[30];
+    memset(buffer, 99, sizeof buffer), memset(marks, 99, sizeof marks);
+    EXPECT(kalebasin_write_message(5, 9, 3, 0, 0, 0, buffer, 30).number == KALEBASIN_MESSAGE_KIND);
+    EXPECT(kalebasin_write_message(KALEBASIN_JOIN, 9, 3, 2, 0, 0, buffer, 30).number == KALEBASIN_MESSAGE_FIELD);
+    EXPECT(kalebasin_write_message(KALEBASIN_VOTE, 9, 3, 0, 0, 7, buffer, 30).number == KALEBASIN_MESSAGE_FIELD);
+    EXPECT(kalebasin_write_message(KALEBASIN_VOTE, 9, 7, 0, 0, 0, buffer, 27).number == KALEBASIN_REPLY_TOO_SHORT);
+    KalebasinWriteResult r = kalebasin_write_message(KALEBASIN_VOTE, 9, 7, 0, 0, 0, buffer, 28);
+    EXPECT(r.number == KALEBASIN_MESSAGE_FIELD && r.length == 0 && !memcmp(buffer, marks, 30));
+    r = kalebasin_write_message(KALEBASIN_PROPOSE, 9, 3, 0, 0, 0x0102030405060708, buffer, 30);
+    EXPECT(r.number == 0 && r.length == 20 && !memcmp(buffer, propose, 20) && !memcmp(buffer + 20, marks, 10));
+    return 0;
+}
+
+/* Members 0 and 1 of three take round 1 to its decision. */
+static int member(void) {
+    static const KalebasinMemberRecord zeros;
+    uint8_t sent[28], reply[28], back[28];
+    KalebasinMemberResult r = kalebasin_member_fresh(3, 3);
+    EXPECT(r.number == KALEBASIN_RECORD_UNSOUND && !memcmp(&r.record, &zeros, sizeof zeros));
+    KalebasinMemberRecord of[2] = {kalebasin_member_fresh(0, 3).record, kalebasin_member_fresh(1, 3).record}, odd = of[1];
+    odd.flags = 128;
+    r = kalebasin_member_start(odd, 1, 70, sent, 28);
+    EXPECT(r.number == KALEBASIN_RECORD_UNSOUND && !r.sent && !memcmp(&r.record, &odd, sizeof odd));
+    EXPECT(kalebasin_member_deliver(odd, sent, 28, reply, 28).number == KALEBASIN_RECORD_UNSOUND);
+    EXPECT(kalebasin_member_start(of[1], 2, 70, sent, 27).number == KALEBASIN_REPLY_TOO_SHORT);
+    EXPECT(kalebasin_member_start(of[1], 2, 70, sent, 28).number == KALEBASIN_NOT_LEADER);
+    r = kalebasin_member_start(of[1], 1, 70, sent, 28);
+    EXPECT(r.number == 0 && r.sent == 12 && !r.round && r.record.led == 1 && r.record.phase == 1);
+    of[1] = r.record;
+    size_t length = r.sent;
+    for (uint32_t phase = 1; phase <= 2; phase++) {
+        for (int i = 0; i < 2; i++) {
+            r = kalebasin_member_deliver(of[i], sent, length, reply, 28);
+            EXPECT(r.number == 0 && r.sent > 0 && !r.round);
+            of[i] = r.record;
+            r = kalebasin_member_deliver(of[1], reply, r.sent, back, 28);
+            EXPECT(r.number == 0 && (i == 1 || (!r.sent && !r.round && r.record.flags == 1)));
+            of[1] = r.record;
+        }
+        EXPECT(r.round == 1 && r.value == 70 && r.parent == 0 && r.sent == (phase == 1 ? 20 : 0) && r.record.phase == phase + 1);
+        memcpy(sent, back, 28), length = r.sent;
+    }
+    EXPECT(of[1].flags == 3 && of[0].voted == 1 && of[0].vote == 70);
+    return 0;
+}
+
 static int tree(void) {
     uint64_t table[16], out[4] = {99, 99, 99, 99};
     EXPECT(kalebasin_tree_fresh(table, 15) == 1 && kalebasin_tree_fresh(table, 16) == 0);
@@ -85,6 +136,12 @@ static int nothing(uint64_t *nowhere) {
     EXPECT(table[0] == 0 && table[1] == 0 && table[2] == 0 && table[3] == KALEBASIN_COMMITTED);
     EXPECT(kalebasin_play(none, 0, none, 0, nowhere, 0, none, 0).number == KALEBASIN_LIST_SHAPE);
     EXPECT(kalebasin_read_message(none, 0).number == KALEBASIN_MESSAGE_LENGTH);
+    KalebasinMemberRecord record = kalebasin_member_fresh(1, 3).record;
+    uint8_t reply[28];
+    EXPECT(kalebasin_write_message(KALEBASIN_VOTE, 9, 3, 0, 0, 0, none, 0).number == KALEBASIN_REPLY_TOO_SHORT);
+    EXPECT(kalebasin_member_start(record, 1, 70, none, 0).number == KALEBASIN_REPLY_TOO_SHORT);
+    EXPECT(kalebasin_member_deliver(record, one_event, 20, none, 0).number == KALEBASIN_REPLY_TOO_SHORT);
+    EXPECT(kalebasin_member_deliver(record, none, 0, reply, 28).number == KALEBASIN_MESSAGE_LENGTH);
     EXPECT(kalebasin_tree_fresh(nowhere, 0) == KALEBASIN_TABLE_LENGTH);
     EXPECT(kalebasin_tree_add(nowhere, 0, 1, 5, 0) == KALEBASIN_TABLE_LENGTH);
     EXPECT(kalebasin_tree_commit(nowhere, 0, 1) == KALEBASIN_TABLE_LENGTH);
@@ -118,5 +175,6 @@ static int causes(void) {
 }
 
 int main(void) {
-    return play() || read_message() || tree() || nothing(NULL) || nothing((uint64_t *)8) || odd_addresses() || causes();
+    EXPECT(kalebasin_version() == KALEBASIN_VERSION);
+    return play() || read_message() || write_message() || member() || tree() || nothing(NULL) || nothing((uint64_t *)8) || odd_addresses() || causes();
 }

@@ -39,8 +39,18 @@ vault() {
         (cd "$work/vault" && cargo run --offline --quiet | tee "$work/told") && [ "$(tail -n 1 "$work/told")" = "2 proposals, 0 decisions" ]
 }
 
+# An archive of another version ends a program at its first call.
+other_version_told() {
+    mkdir -p "$work/other" && cp "$archive" "$work/other" && (
+        cd "$work/other" && ar x libexports.a && objcopy --redefine-sym kalebasin_version=own_version exports.o &&
+            echo 'unsigned kalebasin_version(void) { return 99; }' | cc -x c -c -o version.o - && ar rc libexports.a exports.o version.o
+    ) && ! (cd host && KALEBASIN_LIB=$work/other cargo run --offline --quiet --example office) 2>"$work/told" &&
+        grep -q 'has the calls of version 99, the crate kalebasin those of version 1$' "$work/told"
+}
+
 check "cargo check fails without the archive" without_archive check --offline
 check "clippy warns" without_archive clippy --offline --all-targets -- -D warnings
+check "clippy warns of the test of the lent calls" without_archive clippy --offline --test lent -- -D warnings
 check "clippy warns of the packages without the core" without_archive clippy --offline --all-targets --no-default-features -- -D warnings
 check "the pages can't be made without the archive" pages
 if ! built; then
@@ -49,6 +59,7 @@ if ! built; then
     exit 1
 fi
 check "a package that depends on the library alone fails" vault
+check "an archive of another version isn't told" other_version_told
 
 cargo_tests --no-fail-fast
 passed=$((passed + ran))

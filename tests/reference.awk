@@ -17,8 +17,8 @@ function digits(bytes) {
     events = 0
     next
 }
-/^```tree$/ {
-    inside = "tree"
+/^```(tree|member)$/ {
+    inside = "calls"
     next
 }
 /^```$/ && inside == "list" {
@@ -42,9 +42,9 @@ inside == "list" && /^[0-9a-f ]+   / {
     next
 }
 inside == "list" { answer = answer (answer == "" ? "" : "\n") $0 }
-inside == "tree" {
+inside == "calls" {
     split($0, part, /   +/)
-    ask(part[1], part[2])
+    ask(part[1] ~ /^deliver / ? "deliver " digits(substr(part[1], 9)) : part[1], part[2])
 }
 !inside && /^\| `[0-9a-f ]+` \| / {
     split($0, cell, / *\| */)

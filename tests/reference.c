@@ -1,6 +1,7 @@
 /* Asks the archive what the examples of docs/REFERENCE.md ask. A line is a question, and gets a line of answer, an accepted list two:
      message HEX, list HEX, cause NUMBER; fresh(ROWS), add(ROUND,VALUE,PARENT), commit(ROUND), path(ROUND), path(ROUND) into COUNT words and
-     nodes of one table. */
+     nodes of one table; fresh(NUMBER,N), start(ROUND,OFFER), deliver HEX and record of one member;
+     write(KIND,ROUND,SENDER,PRESENT,VOTED,VALUE). */
 #include "hex.h"
 #include "words.h"
 #include <string.h>
@@ -36,14 +37,46 @@ static void put_path(size_t rows, uint32_t round, size_t room) {
     for (uint32_t i = 0; i < r.count; i++) printf("%s %llu", i ? "" : ":", (unsigned long long)rounds[i]);
 }
 
+static KalebasinMemberRecord record;
+static uint8_t reply[28];
+
+/* The number, what is sent and what is made; the record is the one that came back. */
+static void put_report(KalebasinMemberResult r) {
+    record = r.record;
+    printf("%u", r.number);
+    if (r.sent) {
+        printf(", sends ");
+        put_words(stdout, kalebasin_read_message(reply, r.sent));
+    }
+    if (r.round && r.sent) printf(", makes add(%u,%llu,%u)", r.round, (unsigned long long)r.value, r.parent);
+    if (r.round && !r.sent) printf(", makes commit(%u) of %llu", r.round, (unsigned long long)r.value);
+}
+
+static void put_record(KalebasinMemberRecord m) {
+    printf("%u %u %u %u %llu %u %u %llu %u %u", m.me, m.n, m.joined, m.voted, (unsigned long long)m.vote, m.led, m.phase, (unsigned long long)m.value,
+           m.source, m.flags);
+}
+
+static void put_written(uint32_t kind, uint32_t round, uint32_t sender, uint32_t present, uint32_t voted, uint64_t value) {
+    KalebasinWriteResult r = kalebasin_write_message(kind, round, sender, present, voted, value, reply, sizeof reply);
+    printf("%u", r.number);
+    for (uint32_t i = 0; i < r.length; i++) printf("%s%02x", i ? i % 4 ? "" : " " : ": ", reply[i]);
+}
+
 int main(void) {
     size_t rows = 0;
     while (fgets(line, sizeof line, stdin)) {
-        unsigned a, p;
+        unsigned a, b, c, d, p;
         unsigned long long v;
         if (!strncmp(line, "message ", 8)) put_words(stdout, kalebasin_read_message((uint8_t *)data, bytes_of(line + 8, data, ROOM)));
         else if (!strncmp(line, "list ", 5)) put_played(bytes_of(line + 5, data, ROOM));
         else if (sscanf(line, "cause %u", &a) == 1) printf("%s", kalebasin_cause(a));
+        else if (sscanf(line, "fresh(%u,%u)", &a, &p) == 2) put_report(kalebasin_member_fresh(a, p));
+        else if (sscanf(line, "start(%u,%llu)", &a, &v) == 2) put_report(kalebasin_member_start(record, a, v, reply, sizeof reply));
+        else if (!strncmp(line, "deliver ", 8))
+            put_report(kalebasin_member_deliver(record, (uint8_t *)data, bytes_of(line + 8, data, ROOM), reply, sizeof reply));
+        else if (!strncmp(line, "record", 6)) put_record(record);
+        else if (sscanf(line, "write(%u,%u,%u,%u,%u,%llu)", &a, &b, &c, &d, &p, &v) == 6) put_written(a, b, c, d, p, v);
         else if (sscanf(line, "fresh(%u)", &a) == 1 && a <= TABLE_ROWS) printf("%u", kalebasin_tree_fresh(table, 4 * (rows = a)));
         else if (sscanf(line, "add(%u,%llu,%u)", &a, &v, &p) == 3) printf("%u", kalebasin_tree_add(table, 4 * rows, a, v, p));
         else if (sscanf(line, "commit(%u)", &a) == 1) printf("%u", kalebasin_tree_commit(table, 4 * rows, a));

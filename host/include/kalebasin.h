@@ -1,4 +1,4 @@
-/* The C functions of the archive libexports.a: play, the message reader and the calls of the tree, for x86-64.
+/* The C functions of the archive libexports.a: play, one member, messages and the calls of the tree, for x86-64.
  * docs/REFERENCE.md says more of each of them, of the bytes and of the numbers.
  *
  * Linking: after `rt staticlib exports`,
@@ -9,12 +9,12 @@
  *
  * A slice is a pointer and a count of elements (bytes or 64-bit words). Bytes may start at any address; table and out
  * start at a multiple of 8. Where the count is 0 the pointer isn't followed and may be null. The call then answers as it
- * does to any slice of no elements: 26 to a list, 28 to a store, 1 to a table, 14 to a message, 13 to out; and no answer
- * bytes are enough for a list of no events. What is lent for writing overlaps nothing else. Nothing is kept after a call,
- * and nothing is allocated.
+ * does to any slice of no elements: 26 to a list, 28 to a store, 1 to a table, 14 to a message, 13 to out, 18 to a reply
+ * or buffer; and no answer bytes are enough for a list of no events. What is lent for writing overlaps nothing else.
+ * Nothing is kept after a call, and nothing is allocated.
  *
  * Each number is 0 for OK, or a refusal. A call gives the first refusal that applies, in the order noted at the call; it
- * then changes nothing, and every other field of its result is 0.
+ * then changes nothing, and every other field of its result is 0, but for a record, which comes back as it came.
  */
 #ifndef KALEBASIN_H
 #define KALEBASIN_H
@@ -98,6 +98,11 @@ static inline const char *kalebasin_cause(uint32_t number) {
     }
 }
 
+/* The version of the functions that this header declares, and that of the archive's. A program that starts asks that the two
+ * be equal: the version goes up with each change that a caller sees. */
+enum { KALEBASIN_VERSION = 1 };
+uint32_t kalebasin_version(void);
+
 /* A row of the store in bytes, and a row of a table in words. */
 enum { KALEBASIN_STORE_ROW = 28, KALEBASIN_TABLE_ROW = 4 };
 
@@ -141,6 +146,53 @@ typedef struct {
 /* Reads one message, neither more nor fewer bytes. 14 (under 4 bytes), 15, 14 (wrong length; a JOIN: under 16 bytes), 16
  * (presence), 14 (a JOIN: wrong length), 16 (other fields). A field that the kind doesn't have is 0. */
 KalebasinMessageResult kalebasin_read_message(const uint8_t *bytes, size_t len);
+
+typedef struct {
+    uint32_t number;
+    uint32_t length; /* bytes written */
+} KalebasinWriteResult;
+
+/* Writes the message with these fields to the front of buffer; bytes behind it stay. A field that the kind doesn't have
+ * is 0, as the reader gives it. 15, 16 (presence; a field that the kind doesn't have isn't 0), 18 (under 28 bytes), 16
+ * (ranges). */
+KalebasinWriteResult kalebasin_write_message(uint32_t kind, uint32_t round, uint32_t sender, uint32_t present,
+                                             uint32_t voted, uint64_t value, uint8_t *buffer, size_t len);
+
+/* A member record. Any numbers may stand here: what is no sound record gets 17. */
+typedef struct {
+    uint32_t me;     /* own number */
+    uint32_t n;      /* N, the number of members */
+    uint32_t joined; /* J, the highest round joined or voted in */
+    uint32_t voted;  /* V, the round last voted in, 0 if none */
+    uint64_t vote;   /* W, the value voted for there */
+    uint32_t led;    /* L, the round last led, 0 if none */
+    uint32_t phase;  /* 0 idle, 1 collecting, 2 proposed, 3 decided */
+    uint64_t value;  /* X, the value to propose */
+    uint32_t source; /* B, the round that it came from */
+    uint32_t flags;  /* bit s: member s is counted in this phase; none from bit 7 on */
+} KalebasinMemberRecord;
+
+typedef struct {
+    uint32_t number;
+    uint32_t sent;   /* bytes at the front of the reply, 0 if nothing is sent */
+    uint32_t round;  /* of the proposal that is sent, or of the decision where nothing is sent; else 0 */
+    uint32_t parent; /* of the proposal: the round that its value came from */
+    uint64_t value;  /* proposed or decided */
+    KalebasinMemberRecord record; /* after the call; with a refusal as it came */
+} KalebasinMemberResult;
+
+/* The record of a member that has done nothing yet; zeros, where it is refused. 17. */
+KalebasinMemberResult kalebasin_member_fresh(uint32_t number, uint32_t members);
+
+/* Starts a round. reply has at least 28 bytes; what is sent stands at its front, and bytes behind it stay.
+ * 17, 18, 3, 19, 20. */
+KalebasinMemberResult kalebasin_member_start(KalebasinMemberRecord record, uint32_t round, uint64_t offer,
+                                             uint8_t *reply, size_t len);
+
+/* Delivers the bytes of one message; reply as above. 17, 18, those of the reader; then START 21, 22; JOIN 21, 24, 25;
+ * PROPOSE 21, 22, 23; VOTE 21, 24, 25. */
+KalebasinMemberResult kalebasin_member_deliver(KalebasinMemberRecord record, const uint8_t *bytes, size_t bytes_len,
+                                               uint8_t *reply, size_t len);
 
 /* Makes a table fresh: the root 0, 0, 0, 3 and zeros. 1. */
 uint32_t kalebasin_tree_fresh(uint64_t *table, size_t len);

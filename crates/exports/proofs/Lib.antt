@@ -1,2 +1,4 @@
 -- What the proofs of the exports use.
+pub mod MemberFieldsKept
+pub mod MemberResults
 pub mod PathCount

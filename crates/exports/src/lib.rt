@@ -1,5 +1,7 @@
-// The C functions that the host calls: play, the message reader and the calls of the tree, thin over the proved crates. A slice passes as
-// a pointer and a count of elements. A number is 0 for OK, else 01's refusal.
+// The C functions that the host calls: play, the message reader and the calls of the tree, thin over the proved crates, and those of one
+// member in `members`. A slice passes as a pointer and a count of elements. A number is 0 for OK, else 01's refusal.
+pub mod members;
+
 use ids::Member;
 use ids::Round;
 use message::JOIN_KIND;

@@ -4,8 +4,10 @@ ghost use mathlib.Core.Bool.{not};
 ghost use Prim.Native.Nat.{_<_, _%_};
 ghost use Rattle.ids.specs.Ranges.{above-range, out-of-range};
 
+#[repr(C)]
 pub struct Round(pub u32);
 
+#[repr(C)]
 pub struct Member(pub u32);
 
 // The highest round.

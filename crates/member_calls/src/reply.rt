@@ -17,6 +17,7 @@ ghost use Rattle.member.specs.Kept.{Kept};
 ghost use Rattle.member_calls.specs.Reports.{reply-length, reply-after, LeavesReport, LeavesReply};
 
 // The result of a call: numbers of 01. Each that the call does not give or name is 0.
+#[repr(C)]
 pub struct Report {
     // Of the place table; 0 is OK.
     pub number: u32,

@@ -1,5 +1,6 @@
 // The member calls of 01, "Members": the record is lent and altered where it sits, and what is sent stands in a lent reply buffer.
-// Each takes the record apart for a step by value, and puts back what the step left.
+// Each takes the record apart for a step by value, and puts back what the step left. They are C functions so that a test can lend them
+// a record; a host has the calls by value of `exports`, where no byte of a flag is anything but a Boolean.
 use ids::Member;
 use ids::Round;
 use member_calls::deliver_into;
@@ -11,7 +12,8 @@ ghost use Rattle.member_calls.specs.Reports.{LeavesReport, LeavesReply};
 ghost use Rattle.member_calls.specs.Calls.{fresh-call, start-call, deliver-call};
 
 // Makes the record fresh.
-pub fn fresh(m: &mut MemberState, me: Member, n: u32) -> Report
+#[no_mangle]
+pub extern "C" fn fresh(m: &mut MemberState, me: Member, n: u32) -> Report
     ensures { λ r. ⌜ LeavesReport (fresh-call (now (m .entry)) me n) (now (m .exit)) r ⌝ }
 {
     let c = fresh_into(*m, me, n);
@@ -20,7 +22,8 @@ pub fn fresh(m: &mut MemberState, me: Member, n: u32) -> Report
 }
 
 // start(r, offer).
-pub fn start(m: &mut MemberState, r: Round, offer: u64, reply: &mut [u8]) -> Report
+#[no_mangle]
+pub extern "C" fn start(m: &mut MemberState, r: Round, offer: u64, reply: &mut [u8]) -> Report
     ensures { λ p. ⌜ LeavesReply (start-call (now (m .entry)) r offer (now (reply .entry))) (now (reply .entry)) (now (m .exit)) p (now (reply .exit)) ⌝ }
 {
     let c = start_into(*m, r, offer, reply);
@@ -29,7 +32,8 @@ pub fn start(m: &mut MemberState, r: Round, offer: u64, reply: &mut [u8]) -> Rep
 }
 
 // Delivers the message that bytes are.
-pub fn deliver(m: &mut MemberState, bytes: &[u8], reply: &mut [u8]) -> Report
+#[no_mangle]
+pub extern "C" fn deliver(m: &mut MemberState, bytes: &[u8], reply: &mut [u8]) -> Report
     ensures { λ p. ⌜ LeavesReply (deliver-call (now (m .entry)) (now (bytes .entry)) (now (reply .entry))) (now (reply .entry)) (now (m .exit)) p
         (now (reply .exit)) ⌝ }
 {

@@ -1,4 +1,4 @@
-// The member record of 01, "Members": which records are sound, and the fresh record.
+// The member record of 01, "Members": which records are sound, and the fresh record. Its layout is C's, since `member_lent` takes it lent.
 use ids::Member;
 use ids::Round;
 use ids::above_range;
@@ -21,6 +21,7 @@ pub const PROPOSED: u32 = 2;
 pub const DECIDED: u32 = 3;
 
 // Which member of which office a record is.
+#[repr(C)]
 pub struct Who {
     // Own number.
     pub me: Member,
@@ -29,6 +30,7 @@ pub struct Who {
 }
 
 // What must last: a member that forgot one of these could vote or lead against what it did.
+#[repr(C)]
 pub struct Durable {
     // J, the highest round joined or voted.
     pub joined: Round,
@@ -41,6 +43,7 @@ pub struct Durable {
 }
 
 // What belongs to leading the round last led.
+#[repr(C)]
 pub struct Lead {
     // IDLE, COLLECTING, PROPOSED or DECIDED.
     pub phase: u32,
@@ -53,6 +56,7 @@ pub struct Lead {
 }
 
 // The member record.
+#[repr(C)]
 pub struct MemberState {
     pub who: Who,
     pub durable: Durable,

@@ -52,7 +52,74 @@ pub struct PathResult {
     pub count: u32,
 }
 
+/// A member record as numbers, which [`kalebasin_member_start`] and [`kalebasin_member_deliver`] take and give back. Any
+/// numbers may stand here: what is no sound record is refused with 17. Later versions have more fields.
+#[repr(C)]
+#[derive(Clone, Copy, Debug, Default, PartialEq, Eq, Hash)]
+#[non_exhaustive]
+pub struct MemberRecord {
+    /// The member's own number.
+    pub me: u32,
+    /// N.
+    pub n: u32,
+    /// J.
+    pub joined: u32,
+    /// V.
+    pub voted: u32,
+    /// W.
+    pub vote: u64,
+    /// L.
+    pub led: u32,
+    /// 0 to 3.
+    pub phase: u32,
+    /// X.
+    pub value: u64,
+    /// B.
+    pub source: u32,
+    /// Bit s is the flag of member s.
+    pub flags: u32,
+}
+
+/// What the calls of a member return: on a refusal the record is as it came, and all else but `number` is 0.
+#[repr(C)]
+#[derive(Clone, Copy, Debug, Default, PartialEq, Eq, Hash)]
+#[non_exhaustive]
+pub struct MemberResult {
+    /// 0, or why the call is refused.
+    pub number: u32,
+    /// The length of the message at the front of the reply, 0 if none is sent.
+    pub sent: u32,
+    /// The round of the proposal that is sent, or of the decision where nothing is sent, else 0.
+    pub round: u32,
+    /// The parent of the proposal.
+    pub parent: u32,
+    /// The value proposed or decided.
+    pub value: u64,
+    /// The record after the call; zeros where a fresh one is refused.
+    pub record: MemberRecord,
+}
+
+/// What [`kalebasin_write_message`] returns: on a refusal `length` is 0.
+#[repr(C)]
+#[derive(Clone, Copy, Debug, Default, PartialEq, Eq, Hash)]
+pub struct WriteResult {
+    /// 0, or why nothing is written.
+    pub number: u32,
+    /// The bytes written.
+    pub length: u32,
+}
+
+/// The version of the C functions that this crate is written for. A call of the front of this crate ends the program
+/// where the archive's [`kalebasin_version`] is another.
+pub const API_VERSION: u32 = 1;
+
 extern "C" {
+    /// The archive's version of these functions.
+    ///
+    /// # Safety
+    /// It asks for nothing.
+    pub fn kalebasin_version() -> u32;
+
     /// [`play`](crate::play).
     ///
     /// # Safety
@@ -99,4 +166,50 @@ extern "C" {
     /// Each pointer isn't null and stands at so many words as the length behind it says; `out` doesn't overlap `table`
     /// and may be written.
     pub fn kalebasin_tree_path(table: *const u64, len: usize, round: u32, out: *mut u64, out_len: usize) -> PathResult;
+
+    /// [`Message::write`](crate::Message::write). A field that the kind doesn't have is 0.
+    ///
+    /// # Safety
+    /// `buffer` isn't null and stands at `len` bytes that may be written.
+    pub fn kalebasin_write_message(
+        kind: u32,
+        round: u32,
+        sender: u32,
+        present: u32,
+        voted: u32,
+        value: u64,
+        buffer: *mut u8,
+        len: usize,
+    ) -> WriteResult;
+
+    /// [`MemberRecord::fresh`](crate::MemberRecord::fresh).
+    ///
+    /// # Safety
+    /// It asks for nothing.
+    pub fn kalebasin_member_fresh(number: u32, members: u32) -> MemberResult;
+
+    /// [`MemberRecord::start`](crate::MemberRecord::start).
+    ///
+    /// # Safety
+    /// `reply` isn't null and stands at `len` bytes that may be written.
+    pub fn kalebasin_member_start(
+        record: MemberRecord,
+        round: u32,
+        offer: u64,
+        reply: *mut u8,
+        len: usize,
+    ) -> MemberResult;
+
+    /// [`MemberRecord::deliver`](crate::MemberRecord::deliver).
+    ///
+    /// # Safety
+    /// Each pointer isn't null and stands at so many bytes as the length behind it says; `reply` doesn't overlap `bytes`
+    /// and may be written.
+    pub fn kalebasin_member_deliver(
+        record: MemberRecord,
+        bytes: *const u8,
+        bytes_len: usize,
+        reply: *mut u8,
+        len: usize,
+    ) -> MemberResult;
 }

@@ -9,8 +9,14 @@
 //!
 //! Build an [`EventList`], lend [`play`] the memory it works in, and read what it left:
 //! the answers by [`Refusal::from_number`], the messages by [`sent`] and [`read_message`], the tree by [`nodes`].
-//! `examples/office.rs` is a program to start from. These functions need the feature `core` (on by default) and the
-//! archive of the core; without the feature the rest of this crate is still there.
+//! `examples/office.rs` is a program to start from.
+//!
+//! A machine that runs one member keeps a [`MemberRecord`]: [`MemberRecord::start`] begins a round that it leads,
+//! [`MemberRecord::deliver`] takes the bytes that come in, and what each of them leaves in its reply goes out. What is proved
+//! of the values decided is proved of play, for members that never forget.
+//!
+//! The functions of the core need the feature `core` (on by default) and its archive; without the
+//! feature the rest of this crate is still there.
 //!
 //! # Beside the core
 //!
@@ -26,6 +32,7 @@ mod event;
 #[cfg(feature = "core")]
 pub mod ffi;
 mod ids;
+mod member;
 mod message;
 mod node;
 pub mod notation;
@@ -37,10 +44,11 @@ mod store;
 
 pub use event::{Event, EventList};
 pub use ids::{Member, MessageNumber, Round};
+pub use member::{Made, MemberFields, Report};
 pub use message::{Message, Vote};
 pub use node::{nodes, Node, Status};
 pub use played::{Played, STORE_ROW, STORE_ROWS, TABLE_ROW, TABLE_ROWS};
 #[cfg(feature = "core")]
-pub use proved::{play, read_message, tree_add, tree_commit, tree_fresh, tree_path};
+pub use proved::{play, read_message, tree_add, tree_commit, tree_fresh, tree_path, MemberRecord};
 pub use refusal::{number_of, NoRefusal, Refusal};
 pub use store::sent;

@@ -12,7 +12,7 @@ pub struct Vote {
     pub value: u64,
 }
 
-/// A message between members. The bytes are read by `read_message`.
+/// A message between members. Its bytes are read by `read_message` and written by `Message::write`.
 ///
 /// Later versions have more fields in each kind, so a pattern ends in `..`, and a message is made by the function of its
 /// kind.

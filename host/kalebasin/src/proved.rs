@@ -1,7 +1,23 @@
-//! Safe functions over the proved core. A refused call changes nothing that is lent to it.
+//! Safe functions over the proved core. A refused call changes nothing that is lent to it. The first call of a program
+//! compares the archive's version with this crate's.
 
 use crate::ffi;
-use crate::{Member, Message, Played, Refusal, Round, Vote};
+use crate::{Made, Member, MemberFields, Message, Played, Refusal, Report, Round, Vote};
+use std::sync::Once;
+
+/// Ends the program where the archive is of another version, before a result of it is read wrongly.
+fn compare_versions() {
+    static COMPARED: Once = Once::new();
+    COMPARED.call_once(|| {
+        // SAFETY: the function takes nothing.
+        let archive = unsafe { ffi::kalebasin_version() };
+        let own = ffi::API_VERSION;
+        assert!(
+            archive == own,
+            "libexports.a has the calls of version {archive}, the crate kalebasin those of version {own}"
+        );
+    });
+}
 
 /// Runs a list of events over a whole office.
 ///
@@ -29,6 +45,7 @@ use crate::{Member, Message, Played, Refusal, Round, Vote};
 /// # Errors
 /// 26, 27, 28 or 1, checked in that order.
 pub fn play(list: &[u8], store: &mut [u8], table: &mut [u64], answers: &mut [u8]) -> Result<Played, Refusal> {
+    compare_versions();
     // SAFETY: each pointer and length come from one slice; the mutable ones are exclusive.
     let result = unsafe {
         ffi::kalebasin_play(
@@ -64,6 +81,7 @@ pub fn play(list: &[u8], store: &mut [u8], table: &mut [u64], answers: &mut [u8]
 /// # Errors
 /// 14, 15 or 16, as document 01 orders them.
 pub fn read_message(bytes: &[u8]) -> Result<Message, Refusal> {
+    compare_versions();
     // SAFETY: pointer and length come from one slice.
     let result = unsafe { ffi::kalebasin_read_message(bytes.as_ptr(), bytes.len()) };
     accepted(result.number)?;
@@ -80,11 +98,178 @@ pub fn read_message(bytes: &[u8]) -> Result<Message, Refusal> {
     })
 }
 
+impl Message {
+    /// Writes this message to the front of `buffer` and returns its length; bytes behind it stay. [`read_message`] reads it
+    /// back.
+    ///
+    /// ```
+    /// use kalebasin::{read_message, Member, Message, Refusal, Round};
+    ///
+    /// let message = Message::propose(Round(4), Member(1), 70);
+    /// let mut buffer = [0; Message::LONGEST];
+    /// let length = message.write(&mut buffer)?;
+    /// assert_eq!(read_message(&buffer[..length]), Ok(message));
+    /// assert_eq!(message.write(&mut buffer[..length]), Err(Refusal::ReplyTooShort));
+    /// # Ok::<(), Refusal>(())
+    /// ```
+    ///
+    /// # Errors
+    /// 18 if the buffer has no room for the longest message, else 16.
+    pub fn write(&self, buffer: &mut [u8]) -> Result<usize, Refusal> {
+        compare_versions();
+        let (kind, vote, value) = match *self {
+            Message::Start { .. } => (1, None, 0),
+            Message::Join { vote, .. } => (2, vote, vote.map_or(0, |vote| vote.value)),
+            Message::Propose { value, .. } => (3, None, value),
+            Message::Vote { .. } => (4, None, 0),
+        };
+        // SAFETY: pointer and length come from one exclusive slice.
+        let result = unsafe {
+            ffi::kalebasin_write_message(
+                kind,
+                self.round().0,
+                self.sender().0,
+                u32::from(vote.is_some()),
+                vote.map_or(0, |vote| vote.round.0),
+                value,
+                buffer.as_mut_ptr(),
+                buffer.len(),
+            )
+        };
+        accepted(result.number)?;
+        Ok(result.length as usize)
+    }
+}
+
+/// One member of an office: the record that a machine keeps, and the proved steps on it.
+///
+/// A step takes the record from one sound state to the next and tells what to send; a refused one leaves it. Keep one
+/// record for each member and no copies that act: a member that goes on from an older record has forgotten what it
+/// promised, and nothing is proved of an office with such a member. So the fields of [`MemberRecord::fields`] are on disk
+/// before what a step sends leaves the machine.
+///
+/// ```
+/// use kalebasin::{Made, Member, MemberRecord, Message, Refusal, Round};
+///
+/// let mut reply = [0; Message::LONGEST];
+/// let mut leader = MemberRecord::fresh(Member(1), 3)?;
+/// let sent = leader.start(Round(1), 70, &mut reply)?.sent;
+/// let start = reply[..sent].to_vec();
+/// let mut made = None;
+/// for member in [0, 2] {
+///     let mut member = MemberRecord::fresh(Member(member), 3)?;
+///     let sent = member.deliver(&start, &mut reply)?.sent;
+///     made = leader.deliver(&reply[..sent].to_vec(), &mut reply)?.made;
+/// }
+/// assert_eq!(made, Some(Made::Proposal { round: Round(1), value: 70, parent: Round(0) }));
+/// # Ok::<(), Refusal>(())
+/// ```
+#[derive(Clone, Debug, PartialEq, Eq, Hash)]
+pub struct MemberRecord(ffi::MemberRecord);
+
+impl MemberRecord {
+    /// The record of a member that has done nothing yet, in an office of 3, 5 or 7 members.
+    ///
+    /// # Errors
+    /// 17.
+    pub fn fresh(number: Member, members: u32) -> Result<MemberRecord, Refusal> {
+        compare_versions();
+        // SAFETY: the function takes numbers alone.
+        let result = unsafe { ffi::kalebasin_member_fresh(number.0, members) };
+        accepted(result.number)?;
+        Ok(MemberRecord(result.record))
+    }
+
+    /// Starts a round that this member leads, with a value to offer. What is to be sent to all members stands at the front
+    /// of `reply` then; bytes behind it stay.
+    ///
+    /// # Errors
+    /// 17, 18, 3, 19 or 20, checked in that order.
+    pub fn start(&mut self, round: Round, offer: u64, reply: &mut [u8]) -> Result<Report, Refusal> {
+        compare_versions();
+        // SAFETY: pointer and length come from one exclusive slice.
+        let result = unsafe { ffi::kalebasin_member_start(self.0, round.0, offer, reply.as_mut_ptr(), reply.len()) };
+        self.take(&result)
+    }
+
+    /// Delivers the bytes of one message to this member. What it sends stands at the front of `reply` then; bytes behind it
+    /// stay.
+    ///
+    /// # Errors
+    /// 17, 18, those of [`read_message`], then 21 to 25 by the message's kind.
+    pub fn deliver(&mut self, bytes: &[u8], reply: &mut [u8]) -> Result<Report, Refusal> {
+        compare_versions();
+        // SAFETY: each pointer and length come from one slice; the mutable one is exclusive.
+        let result = unsafe {
+            ffi::kalebasin_member_deliver(self.0, bytes.as_ptr(), bytes.len(), reply.as_mut_ptr(), reply.len())
+        };
+        self.take(&result)
+    }
+
+    /// The fields, as a host keeps them on disk.
+    pub fn fields(&self) -> MemberFields {
+        let ffi::MemberRecord { me, n, joined, voted, vote, led, phase, value, source, flags } = self.0;
+        MemberFields {
+            number: Member(me),
+            members: n,
+            joined: Round(joined),
+            voted: Round(voted),
+            vote,
+            led: Round(led),
+            phase,
+            value,
+            source: Round(source),
+            flags,
+        }
+    }
+
+    /// The record of these fields, whatever they are. Calls on one that isn't sound get 17.
+    ///
+    /// ```
+    /// use kalebasin::{Member, MemberFields, MemberRecord, Message, Refusal, Round};
+    ///
+    /// let mut record = MemberRecord::from_fields(MemberFields::default());
+    /// let refused = record.start(Round(1), 70, &mut [0; Message::LONGEST]);
+    /// assert_eq!(refused, Err(Refusal::RecordUnsound));
+    /// let fresh = MemberRecord::fresh(Member(1), 3)?;
+    /// assert_eq!(MemberRecord::from_fields(fresh.fields()), fresh);
+    /// # Ok::<(), Refusal>(())
+    /// ```
+    pub fn from_fields(fields: MemberFields) -> MemberRecord {
+        MemberRecord(ffi::MemberRecord {
+            me: fields.number.0,
+            n: fields.members,
+            joined: fields.joined.0,
+            voted: fields.voted.0,
+            vote: fields.vote,
+            led: fields.led.0,
+            phase: fields.phase,
+            value: fields.value,
+            source: fields.source.0,
+            flags: fields.flags,
+        })
+    }
+
+    /// Takes over the record of an accepted call, and tells what the call came to.
+    fn take(&mut self, result: &ffi::MemberResult) -> Result<Report, Refusal> {
+        accepted(result.number)?;
+        self.0 = result.record;
+        let (round, value) = (Round(result.round), result.value);
+        let made = match (round, result.sent) {
+            (Round(0), _) => None,
+            (_, 0) => Some(Made::Decision { round, value }),
+            _ => Some(Made::Proposal { round, value, parent: Round(result.parent) }),
+        };
+        Ok(Report::new(result.sent as usize, made))
+    }
+}
+
 /// Makes a table fresh: the root in the first row, all else free.
 ///
 /// # Errors
 /// 1.
 pub fn tree_fresh(table: &mut [u64]) -> Result<(), Refusal> {
+    compare_versions();
     // SAFETY: pointer and length come from one exclusive slice.
     accepted(unsafe { ffi::kalebasin_tree_fresh(table.as_mut_ptr(), table.len()) })
 }
@@ -94,6 +279,7 @@ pub fn tree_fresh(table: &mut [u64]) -> Result<(), Refusal> {
 /// # Errors
 /// 1 to 9, checked in that order.
 pub fn tree_add(table: &mut [u64], round: Round, value: u64, parent: Round) -> Result<(), Refusal> {
+    compare_versions();
     // SAFETY: pointer and length come from one exclusive slice.
     accepted(unsafe { ffi::kalebasin_tree_add(table.as_mut_ptr(), table.len(), round.0, value, parent.0) })
 }
@@ -103,6 +289,7 @@ pub fn tree_add(table: &mut [u64], round: Round, value: u64, parent: Round) -> R
 /// # Errors
 /// 1, 2, 3, 10, 11 or 12, checked in that order.
 pub fn tree_commit(table: &mut [u64], round: Round) -> Result<(), Refusal> {
+    compare_versions();
     // SAFETY: pointer and length come from one exclusive slice.
     accepted(unsafe { ffi::kalebasin_tree_commit(table.as_mut_ptr(), table.len(), round.0) })
 }
@@ -112,6 +299,7 @@ pub fn tree_commit(table: &mut [u64], round: Round) -> Result<(), Refusal> {
 /// # Errors
 /// 1, 2, 3 (not for round 0), 10 or 13, checked in that order.
 pub fn tree_path(table: &[u64], round: Round, out: &mut [u64]) -> Result<usize, Refusal> {
+    compare_versions();
     // SAFETY: each pointer and length come from one slice; the mutable one is exclusive.
     let result = unsafe { ffi::kalebasin_tree_path(table.as_ptr(), table.len(), round.0, out.as_mut_ptr(), out.len()) };
     accepted(result.number)?;

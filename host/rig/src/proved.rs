@@ -2,7 +2,42 @@
 
 use crate::Calls;
 use kalebasin::{play, read_message, tree_add, tree_commit, tree_fresh, tree_path};
+use kalebasin::{Member, MemberFields, MemberRecord, Message, Refusal, Report, Round};
 
 /// The proved core, as a set of calls.
-pub const CALLS: Calls =
-    Calls { name: "the proved core", play, read_message, tree_fresh, tree_add, tree_commit, tree_path };
+pub const CALLS: Calls = Calls {
+    name: "the proved core",
+    play,
+    read_message,
+    write_message: Message::write,
+    member_fresh,
+    member_start,
+    member_deliver,
+    tree_fresh,
+    tree_add,
+    tree_commit,
+    tree_path,
+};
+
+fn member_fresh(number: Member, members: u32) -> Result<MemberFields, Refusal> {
+    MemberRecord::fresh(number, members).map(|record| record.fields())
+}
+
+fn member_start(fields: &mut MemberFields, round: Round, offer: u64, reply: &mut [u8]) -> Result<Report, Refusal> {
+    on_record(fields, |record| record.start(round, offer, reply))
+}
+
+fn member_deliver(fields: &mut MemberFields, bytes: &[u8], reply: &mut [u8]) -> Result<Report, Refusal> {
+    on_record(fields, |record| record.deliver(bytes, reply))
+}
+
+/// Makes a call on the record of these fields, which are then those of the record after it.
+fn on_record(
+    fields: &mut MemberFields,
+    call: impl FnOnce(&mut MemberRecord) -> Result<Report, Refusal>,
+) -> Result<Report, Refusal> {
+    let mut record = MemberRecord::from_fields(*fields);
+    let answer = call(&mut record);
+    *fields = record.fields();
+    answer
+}

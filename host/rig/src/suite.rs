@@ -8,7 +8,11 @@ use crate::second::message;
 use crate::shrink::shortest;
 use crate::Calls;
 use kalebasin::notation::parse;
-use kalebasin::{Event, EventList, Member, Message, MessageNumber, Round, Vote, STORE_ROW, TABLE_ROW};
+use kalebasin::{
+    number_of, Event, EventList, Member, MemberFields, Message, MessageNumber, Refusal, Report, Round, Vote,
+};
+use kalebasin::{STORE_ROW, TABLE_ROW};
+use std::collections::BTreeSet;
 
 /// The two implementations; the second is the reference.
 pub type Pair<'a> = [&'a Calls; 2];
@@ -208,6 +212,237 @@ pub fn messages(calls: Pair) -> Compared {
         Err(format!("{} reads {:?}, {} reads {:?}\nmessage bytes: {bytes:02x?}", names[0], read[0], names[1], read[1]))
     })?;
     Ok(compared)
+}
+
+/// The writer on messages in range and out of it, and on buffers of every length up to 30 bytes.
+pub fn written_messages(calls: Pair) -> Compared {
+    let mut compared = 0;
+    for round in [0, 1, 2, 300, 1_000_000, 1_000_001, u32::MAX].map(Round) {
+        for sender in [0, 6, 7, u32::MAX].map(Member) {
+            let mut messages = vec![
+                Message::start(round, sender),
+                Message::vote(round, sender),
+                Message::join(round, sender, None),
+                Message::propose(round, sender, u64::MAX),
+            ];
+            for voted in [0, 1, round.0.wrapping_sub(1), round.0].map(Round) {
+                messages.push(Message::join(round, sender, Some(Vote { round: voted, value: 0x0102_0304_0506_0708 })));
+            }
+            for message in &messages {
+                for room in 0..=30 {
+                    compared += 1;
+                    let left = calls.map(|calls| {
+                        let mut buffer = vec![0xaa; room];
+                        ((calls.write_message)(message, &mut buffer), buffer)
+                    });
+                    if left[0] != left[1] {
+                        let names = calls.map(|calls| calls.name);
+                        let (one, other) = (&left[0], &left[1]);
+                        return Err(format!(
+                            "{message} into {room} bytes\n{}: {one:?}\n{}: {other:?}",
+                            names[0], names[1]
+                        ));
+                    }
+                }
+            }
+        }
+    }
+    Ok(compared)
+}
+
+/// A call of a member.
+#[derive(Clone, Debug, PartialEq, Eq, Hash)]
+enum MemberCall {
+    Fresh(Member, u32),
+    Start(Round, u64),
+    Deliver(Vec<u8>),
+}
+
+/// What a member call left: its answer, the record and the reply with a guard behind it.
+#[derive(Clone, Debug, PartialEq, Eq)]
+struct MemberLeft {
+    answer: Result<Report, Refusal>,
+    fields: MemberFields,
+    reply: Vec<u8>,
+}
+
+fn member_call(calls: &Calls, fields: &MemberFields, call: &MemberCall, room: usize) -> MemberLeft {
+    let mut left = MemberLeft { answer: Ok(Report::default()), fields: *fields, reply: vec![0xaa; room + GUARD] };
+    let reply = &mut left.reply[..room];
+    left.answer = match call {
+        MemberCall::Fresh(number, n) => (calls.member_fresh)(*number, *n).map(|fresh| {
+            left.fields = fresh;
+            Report::default()
+        }),
+        MemberCall::Start(round, offer) => (calls.member_start)(&mut left.fields, *round, *offer, reply),
+        MemberCall::Deliver(bytes) => (calls.member_deliver)(&mut left.fields, bytes, reply),
+    };
+    left
+}
+
+/// Makes a member call by both; the number that they give, or how they differ.
+fn compare_member(calls: Pair, fields: &MemberFields, call: &MemberCall, room: usize) -> Result<u32, String> {
+    let [one, other] = calls.map(|calls| member_call(calls, fields, call, room));
+    if one == other {
+        return Ok(number_of(&other.answer));
+    }
+    let names = calls.map(|calls| calls.name);
+    Err(format!(
+        "{call:02x?} with {room} bytes for the reply on {fields:?}\n{}: {one:02x?}\n{}: {other:02x?}",
+        names[0], names[1]
+    ))
+}
+
+/// The numbers that member calls give.
+const MEMBER_NUMBERS: [u32; 14] = [0, 3, 14, 15, 16, 17, 18, 19, 20, 21, 22, 23, 24, 25];
+
+/// Random calls on random members, each on the record that the calls before have left, and on a damaged copy of it. That
+/// every number is given is part of it.
+pub fn random_members(calls: Pair, seed: u64, members: usize) -> Compared {
+    let mut random = Random::new(seed);
+    let (mut compared, mut given) = (0, BTreeSet::new());
+    for _ in 0..members {
+        let n = *random.pick(&[3, 3, 5, 7]);
+        let number = Member(random.below(n as usize) as u32);
+        let mut fields = (calls[1].member_fresh)(number, n).map_err(|refusal| refusal.to_string())?;
+        for _ in 0..random.between(1, 40) {
+            let call = random_member_call(&mut random, &fields);
+            let room = *random.pick(&[28, 28, 28, 28, 40, 27, 0]);
+            for fields in [fields, damaged_fields(&fields, &mut random)] {
+                given.insert(compare_member(calls, &fields, &call, room)?);
+                compared += 1;
+            }
+            if !matches!(call, MemberCall::Fresh(..)) {
+                fields = member_call(calls[1], &fields, &call, room).fields;
+            }
+        }
+    }
+    match MEMBER_NUMBERS.iter().find(|number| !given.contains(number)) {
+        Some(number) => Err(format!("no call got {number}")),
+        None => Ok(compared),
+    }
+}
+
+/// Every record of three members with small numbers, sound or not: on a sound one every call with small numbers, on any
+/// other one start and one delivery.
+pub fn small_records(calls: Pair) -> Compared {
+    let every = small_member_calls();
+    let some = [every[0].clone(), every[every.len() - 1].clone()];
+    let (mut compared, mut sound) = (0, 0);
+    for code in 0..4 * 4 * 4 * 2 * 4 * 5 * 2 * 4 * 16 {
+        let digit = |below: u32, of: u32| code / below % of;
+        let mut fields = MemberFields::default();
+        fields.number = Member(digit(1, 4));
+        fields.members = 3;
+        fields.joined = Round(digit(4, 4));
+        fields.voted = Round(digit(16, 4));
+        fields.vote = u64::from(7 * digit(64, 2));
+        fields.led = Round(digit(128, 4));
+        fields.phase = digit(512, 5);
+        fields.value = u64::from(8 * digit(2_560, 2));
+        fields.source = Round(digit(5_120, 4));
+        fields.flags = digit(20_480, 16);
+        let number = compare_member(calls, &fields, &some[0], Message::LONGEST)?;
+        let is_sound = number != Refusal::RecordUnsound.number();
+        sound += usize::from(is_sound);
+        for call in if is_sound { &every[..] } else { &some[1..] } {
+            compare_member(calls, &fields, call, Message::LONGEST)?;
+            compared += 1;
+        }
+        compare_member(calls, &fields, &some[1], Message::LONGEST - 1)?;
+        compared += 2;
+    }
+    match sound {
+        0 => Err("no record was sound".into()),
+        _ => Ok(compared),
+    }
+}
+
+/// Starts and messages of rounds 0 to 4, and a message of no kind at the end.
+fn small_member_calls() -> Vec<MemberCall> {
+    let rounds = || (0..=4).map(Round);
+    let mut calls: Vec<_> = rounds().flat_map(|round| [0, 7, 8].map(|offer| MemberCall::Start(round, offer))).collect();
+    for round in rounds() {
+        for sender in (0..4).map(Member) {
+            let mut messages =
+                vec![Message::start(round, sender), Message::join(round, sender, None), Message::vote(round, sender)];
+            for value in [0, 7, 8] {
+                messages.push(Message::propose(round, sender, value));
+                messages.extend(rounds().map(|voted| Message::join(round, sender, Some(Vote { round: voted, value }))));
+            }
+            calls.extend(messages.iter().map(|message| MemberCall::Deliver(message_bytes(message))));
+        }
+    }
+    calls.push(MemberCall::Deliver(vec![0; 12]));
+    calls
+}
+
+/// A call that the member may accept: its next rounds, the messages that it waits for, votes and values of its own.
+fn random_member_call(random: &mut Random, fields: &MemberFields) -> MemberCall {
+    let n = fields.members;
+    let value = *random.pick(&[7, 8, fields.vote, fields.value]);
+    let near = fields.joined.0.max(fields.led.0) + random.below(9) as u32;
+    let round = Round(*random.pick(&[near, near, fields.led.0, fields.led.0, fields.joined.0, 0, 999_999, 1_000_001]));
+    let any = Member(random.below(9) as u32);
+    let sender = if random.chance(80) { round.leader(n).unwrap_or(any) } else { any };
+    let vote = Vote { round: Round(random.below(round.0 as usize + 2) as u32), value };
+    let message = match random.below(100) {
+        0..=1 => return MemberCall::Fresh(any, *random.pick(&[3, 4, 5, 7, 8])),
+        2..=20 => {
+            let own = near - near % n + fields.number.0;
+            return MemberCall::Start(Round(*random.pick(&[own, own + n, round.0])), value);
+        }
+        21..=40 => Message::start(round, sender),
+        41..=55 => Message::join(round, any, None),
+        56..=65 => Message::join(round, any, Some(vote)),
+        66..=80 => Message::propose(round, sender, value),
+        _ => Message::vote(round, any),
+    };
+    let mut bytes = message_bytes(&message);
+    if random.chance(15) {
+        let at = random.below(bytes.len());
+        bytes[at] = random.number() as u8;
+    }
+    if random.chance(5) {
+        bytes.truncate(random.below(bytes.len()));
+    }
+    MemberCall::Deliver(bytes)
+}
+
+/// The bytes of a message, whatever its fields are.
+pub fn message_bytes(message: &Message) -> Vec<u8> {
+    let (round, sender) = (message.round().0, message.sender().0);
+    let (words, value) = match *message {
+        Message::Start { .. } => (vec![1, round, sender], None),
+        Message::Join { vote: None, .. } => (vec![2, round, sender, 0], None),
+        Message::Join { vote: Some(vote), .. } => (vec![2, round, sender, 1, vote.round.0], Some(vote.value)),
+        Message::Propose { value, .. } => (vec![3, round, sender], Some(value)),
+        Message::Vote { .. } => (vec![4, round, sender], None),
+    };
+    words.iter().flat_map(|word| word.to_be_bytes()).chain(value.iter().flat_map(|value| value.to_be_bytes())).collect()
+}
+
+/// A record with one field that may not fit the others.
+fn damaged_fields(fields: &MemberFields, random: &mut Random) -> MemberFields {
+    let mut fields = *fields;
+    let near = random.below(12) as u32;
+    let number = *random.pick(&[near, near, near, 999_999, 1_000_000, 1_000_001, u32::MAX]);
+    match random.below(10) {
+        0 => fields.number = Member(number),
+        1 => fields.members = number,
+        2 => fields.joined = Round(number),
+        3 => fields.voted = Round(number),
+        4 => fields.vote = u64::from(near),
+        5 => fields.led = Round(number),
+        6 => fields.phase = number % 6,
+        7 => fields.value = u64::from(near),
+        8 => fields.source = Round(number),
+        _ => {
+            let bits = *random.pick(&[3, 7, 9, 32]);
+            fields.flags ^= 1 << random.below(bits);
+        }
+    }
+    fields
 }
 
 /// Looks at some bytes and reports what is wrong.

@@ -46,6 +46,21 @@ fn every_small_message_and_every_damaged_byte() {
 }
 
 #[test]
+fn messages_written() {
+    same("messages written", suite::written_messages(PAIR));
+}
+
+#[test]
+fn every_small_record() {
+    same("small records", suite::small_records(PAIR));
+}
+
+#[test]
+fn random_members() {
+    same("random members", suite::random_members(PAIR, seed(), 40_000));
+}
+
+#[test]
 fn every_small_table() {
     same("small tables", suite::small_tables(PAIR));
 }
@@ -91,6 +106,77 @@ fn message_results_field_by_field() {
         Ok(())
     };
     suite::each_message(look).unwrap();
+}
+
+/// The number that the order of checks in docs/REFERENCE.md gives to fields to write.
+fn number_to_write([kind, round, sender, present, voted]: [u32; 5], value: u64, room: usize) -> u32 {
+    let told = kind == 2 && present == 1;
+    let spare = (kind != 2 && present != 0) || (!told && voted != 0) || (!told && kind != 3 && value != 0);
+    let in_range = (1..=1_000_000).contains(&round) && sender <= 6 && (!told || (1..round).contains(&voted));
+    match () {
+        () if !(1..=4).contains(&kind) => 15,
+        () if (kind == 2 && present > 1) || spare => 16,
+        () if room < 28 => 18,
+        () if !in_range => 16,
+        () => 0,
+    }
+}
+
+/// Fields that are no message too: what is written reads back as them, and a refusal writes nothing.
+#[test]
+fn fields_written() {
+    let mut accepted = 0;
+    for code in 0..7 * 6 * 4 * 4 * 4 * 3 * 3 {
+        let digit = |below: usize, of: usize| code / below % of;
+        let fields = [
+            [0, 1, 2, 3, 4, 5, u32::MAX][digit(1, 7)],
+            [0, 1, 2, 9, 1_000_000, 1_000_001][digit(7, 6)],
+            [0, 6, 7, u32::MAX][digit(42, 4)],
+            [0, 1, 2, u32::MAX][digit(168, 4)],
+            [0, 1, 8, 9][digit(672, 4)],
+        ];
+        let (value, room) = ([0, 1, u64::MAX][digit(2_688, 3)], [27, 28, 31][digit(8_064, 3)]);
+        let [kind, round, sender, present, voted] = fields;
+        let mut buffer = [0xaa; 31];
+        // SAFETY: the buffer has at least `room` bytes.
+        let written = unsafe {
+            let at = buffer.as_mut_ptr();
+            ffi::kalebasin_write_message(kind, round, sender, present, voted, value, at, room)
+        };
+        assert_eq!(written.number, number_to_write(fields, value, room), "{fields:?} {value} into {room} bytes");
+        let (message, behind) = buffer.split_at(written.length as usize);
+        assert!(behind.iter().all(|byte| *byte == 0xaa), "{fields:?} {value} into {room} bytes");
+        if written.number == 0 {
+            accepted += 1;
+            // SAFETY: pointer and length come from one slice.
+            let read = unsafe { ffi::kalebasin_read_message(message.as_ptr(), message.len()) };
+            assert_eq!(self::fields(&read), ([0, kind, round, sender, present, voted], value));
+        } else {
+            assert_eq!(written.length, 0);
+        }
+    }
+    assert!(accepted > 100, "{accepted} messages were written");
+}
+
+/// A refused member call gives the record back as it came, of fresh zeros, and 0 in every other field.
+#[test]
+fn refused_members_field_by_field() {
+    let mut record = ffi::MemberRecord::default();
+    (record.me, record.n, record.vote, record.flags) = (1, 3, u64::MAX, u32::MAX);
+    let mut reply = [0xaa; 28];
+    // SAFETY: pointer and length come from one array.
+    let refused = unsafe {
+        [
+            (ffi::kalebasin_member_fresh(3, 3), ffi::MemberRecord::default()),
+            (ffi::kalebasin_member_start(record, 1, 70, reply.as_mut_ptr(), 28), record),
+            (ffi::kalebasin_member_deliver(record, [0; 12].as_ptr(), 12, reply.as_mut_ptr(), 28), record),
+        ]
+    };
+    for (result, as_it_came) in refused {
+        assert_eq!((result.number, result.record), (17, as_it_came));
+        assert_eq!((result.sent, result.round, result.parent, result.value), (0, 0, 0, 0));
+    }
+    assert_eq!(reply, [0xaa; 28]);
 }
 
 /// A refused play or path has 0 in every other field.
@@ -155,4 +241,9 @@ fn the_longest_path_on_a_stack_of_64_kib() {
     });
     assert_eq!(count, Ok(TABLE_ROWS));
     assert!(path.iter().copied().eq(0..TABLE_ROWS as u64));
+}
+
+#[test]
+fn members_on_a_stack_of_64_kib() {
+    same("members on a small stack", on_a_small_stack(|| suite::random_members(PAIR, seed(), 2_000)));
 }

@@ -4,6 +4,7 @@
 use kalebasin::{number_of, Member, Message, Round, Vote};
 use kalebasin_rig::random::Random;
 use kalebasin_rig::second::member::{deliver, fresh, quorum, start, Record, COLLECTING, DECIDED, IDLE, PROPOSED};
+use kalebasin_rig::suite::message_bytes;
 use std::collections::BTreeMap;
 use std::fs;
 
@@ -100,45 +101,29 @@ fn spelt(words: &[u32]) -> Vec<u8> {
     words.iter().flat_map(|word| word.to_be_bytes()).collect()
 }
 
-/// The bytes of a message, whatever its fields are.
-fn bytes(message: Message) -> Vec<u8> {
-    let (round, sender) = (message.round().0, message.sender().0);
-    let mut words = match message {
-        Message::Start { .. } => vec![1, round, sender],
-        Message::Join { vote: None, .. } => vec![2, round, sender, 0],
-        Message::Join { vote: Some(vote), .. } => vec![2, round, sender, 1, vote.round.0],
-        Message::Propose { .. } => vec![3, round, sender],
-        Message::Vote { .. } => vec![4, round, sender],
-    };
-    if let Message::Join { vote: Some(Vote { value, .. }), .. } | Message::Propose { value, .. } = message {
-        words.extend(halves(value));
-    }
-    spelt(&words)
-}
-
 fn starts(round: u32, offer: u64) -> Call {
     Call::Start(Round(round), offer)
 }
 
 fn start_of(round: u32, sender: u32) -> Call {
-    Call::Deliver(bytes(Message::start(Round(round), Member(sender))))
+    Call::Deliver(message_bytes(&Message::start(Round(round), Member(sender))))
 }
 
 fn join(round: u32, sender: u32) -> Call {
-    Call::Deliver(bytes(Message::join(Round(round), Member(sender), None)))
+    Call::Deliver(message_bytes(&Message::join(Round(round), Member(sender), None)))
 }
 
 fn voted_join(round: u32, sender: u32, voted: u32, value: u64) -> Call {
     let vote = Some(Vote { round: Round(voted), value });
-    Call::Deliver(bytes(Message::join(Round(round), Member(sender), vote)))
+    Call::Deliver(message_bytes(&Message::join(Round(round), Member(sender), vote)))
 }
 
 fn propose(round: u32, sender: u32, value: u64) -> Call {
-    Call::Deliver(bytes(Message::propose(Round(round), Member(sender), value)))
+    Call::Deliver(message_bytes(&Message::propose(Round(round), Member(sender), value)))
 }
 
 fn vote(round: u32, sender: u32) -> Call {
-    Call::Deliver(bytes(Message::vote(Round(round), Member(sender))))
+    Call::Deliver(message_bytes(&Message::vote(Round(round), Member(sender))))
 }
 
 fn member(number: u32, n: u32) -> Record {
@@ -401,7 +386,7 @@ fn at_random(random: &mut Random) -> Case {
             Call::Start(Round(round), some_value(random))
         }
         _ => {
-            let mut message = bytes(some_message(random, &record));
+            let mut message = message_bytes(&some_message(random, &record));
             if random.chance(8) {
                 let at = random.below(message.len());
                 message[at] ^= 1 << random.below(8);

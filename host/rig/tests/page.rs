@@ -217,35 +217,39 @@ fn labels_stay_off_lines() {
     assert_eq!(browser.value("probes.overlaps()"), "3 1 JOIN r1 under line arrive");
 }
 
-/// A list of the most events is written and drawn within a second, and the slider goes to its end in one; the first of five
-/// times that is so short, since other programs run too.
+/// A list of the most events is written and drawn within a second, and the slider goes to its end in one. Of the browser it
+/// is the processor's time that counts, and of the tool the shortest of five: other programs run too.
 #[test]
 #[ignore = "needs chromium"]
 fn a_thousand_events_within_a_second() {
     let mut browser = browser();
     for (seed, n) in [(5, 5), (2, 7)] {
         let list = random_list(seed, n, EventList::MOST);
-        let mut times = (0..5).map(|_| times(&mut browser, &list));
-        let found = times.find(|times| times[0] + times[1] < SECOND && times[2] < SECOND);
-        println!("{n} members: written, drawn, to its end in {found:?}");
-        assert!(found.is_some());
+        let written = (0..5).map(|_| time_to_write(&list)).min().unwrap();
+        let [drawn, to_its_end] = times(&mut browser, &list);
+        println!("{n} members: written in {written:?}, drawn in {drawn:?}, to its end in {to_its_end:?}");
+        assert!(written + drawn < SECOND && to_its_end < SECOND, "{written:?} {drawn:?} {to_its_end:?}");
     }
 }
 
 const SECOND: Duration = Duration::from_secs(1);
 
-/// The times of the tool, of the browser until all is drawn, and of the way to the last event.
-fn times(browser: &mut Browser, list: &EventList) -> [Duration; 3] {
+fn time_to_write(list: &EventList) -> Duration {
     let began = Instant::now();
-    let file = page("thousand", list);
-    let written = began.elapsed();
-    let drawn = Duration::from_secs_f64(browser.open(&file) / 1_000.0);
+    page("thousand", list);
+    began.elapsed()
+}
+
+/// What the browser works until all is drawn, and on the way to the last event.
+fn times(browser: &mut Browser, list: &EventList) -> [Duration; 2] {
+    browser.open(&page("thousand", list));
+    let drawn = browser.worked();
     assert_eq!(browser.value("String(document.querySelectorAll('.row').length)"), list.events.len().to_string());
     browser.value("String(document.getElementById('slider').focus())");
-    let began = Instant::now();
+    let before = browser.worked();
     browser.press("End", 35);
     assert!(browser.value("document.getElementById('place').innerText").starts_with("999: "));
-    [written, drawn, began.elapsed()]
+    [drawn, browser.worked() - before]
 }
 
 /// The page loads nothing, and its text names nothing to load.

@@ -69,6 +69,20 @@ const FAULTS: &[Fault] = &[
         "replay == table\n",
         "replay[..table.len() - 1] == table[..table.len() - 1]\n",
     ),
+    Fault("a VOTE of no member is counted", "member.rs", "if sender.0 >= self.n {", "if sender.0 >= 7 {"),
+    Fault("B may be the round led", "member.rs", "self.b < self.l && flags_fit", "self.b <= self.l && flags_fit"),
+    Fault(
+        "a flag of no member is left out",
+        "member.rs",
+        "(fields.flags < 1 << 7).then",
+        "(fields.flags < 1 << 8).then",
+    ),
+    Fault(
+        "16 before 18",
+        "message.rs",
+        "if buffer.len() < Message::LONGEST {",
+        "if check_fields(message).is_ok() && buffer.len() < Message::LONGEST {",
+    ),
     Fault("a path that just fits is refused", "tree.rs", "if out.len() < count {", "if out.len() <= count {"),
 ];
 
@@ -82,6 +96,8 @@ fn main() {
     let compared = suite::random_lists(pair, 1, 5_000, &mut |_| ())
         .and_then(|_| suite::random_trees(pair, 1, 2_000))
         .and_then(|_| suite::small_tables(pair))
+        .and_then(|_| suite::random_members(pair, 1, 2_000))
+        .and_then(|_| suite::written_messages(pair))
         .and_then(|_| suite::messages(pair));
     if let Err(report) = compared {
         println!("{report}");

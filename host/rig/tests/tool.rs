@@ -338,8 +338,10 @@ fn comparisons() {
     let (status, out, error) = compare("9");
     assert_eq!(status, 0, "{out}");
     let lines: Vec<&str> = out.lines().collect();
-    assert!(lines[0].starts_with("random trees: ") && lines[0].ends_with(" calls, no difference"), "{out}");
-    assert_eq!(lines[1..], ["random lists: 500 calls, no difference"]);
+    for (line, what) in lines.iter().zip(["random trees: ", "random members: "]) {
+        assert!(line.starts_with(what) && line.ends_with(" calls, no difference"), "{out}");
+    }
+    assert_eq!(lines[2..], ["random lists: 500 calls, no difference"]);
     assert!(error.starts_with("500 of 500 lists, "), "{error}");
     assert_eq!(compare("9").1, out);
     assert_ne!(compare("10").1, out);

@@ -1,7 +1,7 @@
 //! The member record and its steps.
 
 use super::message;
-use kalebasin::{Member, Message, Refusal, Round, Vote};
+use kalebasin::{Made, Member, MemberFields, Message, Refusal, Report, Round, Vote};
 
 /// The phase of a member that has led no round.
 pub const IDLE: u32 = 0;
@@ -113,6 +113,32 @@ pub fn deliver(record: &mut Record, reply: &mut [u8], bytes: &[u8]) -> Result<(u
     Ok((sent, step))
 }
 
+/// [`fresh`], as fields.
+pub fn fresh_fields(number: Member, n: u32) -> Result<MemberFields, Refusal> {
+    fresh(number, n).map(|record| record.fields())
+}
+
+/// [`start`] on the record of these fields.
+pub fn start_fields(fields: &mut MemberFields, round: Round, offer: u64, reply: &mut [u8]) -> Result<Report, Refusal> {
+    on_fields(fields, |record| start(record, reply, round, offer))
+}
+
+/// [`deliver`] on the record of these fields.
+pub fn deliver_fields(fields: &mut MemberFields, bytes: &[u8], reply: &mut [u8]) -> Result<Report, Refusal> {
+    on_fields(fields, |record| deliver(record, reply, bytes))
+}
+
+/// Fields that are no record, for a flag of no member, aren't sound.
+fn on_fields(
+    fields: &mut MemberFields,
+    call: impl FnOnce(&mut Record) -> Result<(usize, Step), Refusal>,
+) -> Result<Report, Refusal> {
+    let mut record = Record::from_fields(fields).ok_or(Refusal::RecordUnsound)?;
+    let (sent, step) = call(&mut record)?;
+    *fields = record.fields();
+    Ok(Report::new(sent, step.made()))
+}
+
 fn check_lent(record: &Record, reply: &[u8]) -> Result<(), Refusal> {
     if !record.is_sound() {
         return Err(Refusal::RecordUnsound);
@@ -135,7 +161,47 @@ pub fn size_allowed(n: u32) -> bool {
     matches!(n, 3 | 5 | 7)
 }
 
+impl Step {
+    /// The proposal or the decision.
+    pub fn made(&self) -> Option<Made> {
+        let proposal = self.proposal.map(|Proposal { round, value, parent }| Made::Proposal { round, value, parent });
+        proposal.or(self.decision.map(|Decision { round, value }| Made::Decision { round, value }))
+    }
+}
+
 impl Record {
+    /// The record as a host keeps it.
+    pub fn fields(&self) -> MemberFields {
+        let mut fields = MemberFields::default();
+        fields.number = self.number;
+        fields.members = self.n;
+        fields.joined = self.j;
+        fields.voted = self.v;
+        fields.vote = self.w;
+        fields.led = self.l;
+        fields.phase = self.phase;
+        fields.value = self.x;
+        fields.source = self.b;
+        fields.flags = (0..7).filter(|at| self.flags[*at]).map(|at| 1 << at).sum();
+        fields
+    }
+
+    /// The record of these fields; none where a bit is set that is no flag.
+    pub fn from_fields(fields: &MemberFields) -> Option<Record> {
+        (fields.flags < 1 << 7).then(|| Record {
+            number: fields.number,
+            n: fields.members,
+            j: fields.joined,
+            v: fields.voted,
+            w: fields.vote,
+            l: fields.led,
+            phase: fields.phase,
+            x: fields.value,
+            b: fields.source,
+            flags: std::array::from_fn(|at| fields.flags >> at & 1 == 1),
+        })
+    }
+
     /// What document 01 asks of a sound record, in its order.
     pub fn is_sound(&self) -> bool {
         size_allowed(self.n)

@@ -48,9 +48,12 @@ fn read_join(bytes: &[u8]) -> Result<Message, Refusal> {
     Ok(Message::join(round(bytes), sender(bytes), vote))
 }
 
-/// Writes a message to the front of the buffer, which has room for any; the number of bytes written. Fields out of
-/// range are refused before anything is written.
+/// Writes a message to the front of the buffer; the number of bytes written. A buffer without room for any message and
+/// fields out of range are refused, in that order, before anything is written.
 pub fn write(message: &Message, buffer: &mut [u8]) -> Result<usize, Refusal> {
+    if buffer.len() < Message::LONGEST {
+        return Err(Refusal::ReplyTooShort);
+    }
     check_fields(message)?;
     let mut writer = Writer { buffer, at: 0 };
     let (round, sender) = (message.round(), message.sender());

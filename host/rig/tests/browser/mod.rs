@@ -48,20 +48,26 @@ impl Browser {
         let attached = browser.call("Target.attachToTarget", &attach);
         browser.session = format!(r#","sessionId":"{}""#, field(&attached, "sessionId"));
         browser.call("Page.enable", "{}");
+        browser.call("Performance.enable", r#"{"timeDomain":"threadTicks"}"#);
         browser.call("Page.addScriptToEvaluateOnNewDocument", &format!(r#"{{"source":{}}}"#, quoted(PROBES)));
         browser
     }
 
-    /// Opens a file and waits until it is drawn; the milliseconds that this took.
-    pub fn open(&mut self, file: &Path) -> f64 {
+    /// Opens a file and waits until it is drawn.
+    pub fn open(&mut self, file: &Path) {
         self.call("Page.navigate", &format!(r#"{{"url":{}}}"#, quoted(&format!("file://{}", file.display()))));
-        loop {
-            let drawn = self.value("String(window.drawn || '')");
-            if let Ok(milliseconds) = drawn.parse() {
-                return milliseconds;
-            }
+        while self.value("String(window.drawn)") != "true" {
             sleep(Duration::from_millis(5));
         }
+    }
+
+    /// How long the processor has worked at the tasks of the page that was opened last: at its script, layout and painting.
+    pub fn worked(&mut self) -> Duration {
+        let metrics = self.call("Performance.getMetrics", "{}");
+        let (_, behind) =
+            metrics.split_once(r#""name":"TaskDuration","value":"#).unwrap_or_else(|| panic!("{metrics}"));
+        let seconds = behind.split_once('}').and_then(|(seconds, _)| seconds.parse().ok());
+        Duration::from_secs_f64(seconds.unwrap_or_else(|| panic!("{metrics}")))
     }
 
     /// The text that a script gives.

@@ -91,5 +91,5 @@ window.probes = (() => {
     return { shown, tip, answerPlace, rows, click, choose, overlaps };
 })();
 
-// When the page is drawn: at the second frame after all is loaded, in milliseconds after the navigation began.
-addEventListener("load", () => requestAnimationFrame(() => requestAnimationFrame(() => { window.drawn = performance.now(); })));
+// The page is drawn at the second frame after all is loaded.
+addEventListener("load", () => requestAnimationFrame(() => requestAnimationFrame(() => { window.drawn = true; })));

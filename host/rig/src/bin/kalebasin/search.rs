@@ -129,12 +129,14 @@ pub fn compare(options: &Options, out: &mut dyn Write) -> Outcome {
     use kalebasin_rig::suite::{self, Compared, Pair};
     type Part = fn(Pair) -> Compared;
     let pair: Pair = [&kalebasin_rig::proved::CALLS, &kalebasin_rig::second::CALLS];
-    let every: [(&str, Part); 6] = [
+    let every: [(&str, Part); 8] = [
         ("every list of up to four events", suite::short_lists),
         ("every three events after each part of the rehearsal", suite::rehearsal_tails),
         ("every damaged byte of some lists", suite::damaged_lists),
         ("every small byte string as a list", suite::small_list_bytes),
         ("every small message and every damaged byte", suite::messages),
+        ("messages written", suite::written_messages),
+        ("every small record of a member", suite::small_records),
         ("every small table", suite::small_tables),
     ];
     for (what, part) in every.iter().filter(|_| !options.random) {
@@ -145,6 +147,11 @@ pub fn compare(options: &Options, out: &mut dyn Write) -> Outcome {
     let lists = options.lists as usize;
     let trees = suite::random_trees(pair, options.seed, lists / 5);
     if !same("random trees", trees, out)? {
+        return status(false);
+    }
+    // fewer members than these may leave a number out, which is taken for a fault of the comparison
+    let members = suite::random_members(pair, options.seed, (lists / 5).max(2_000));
+    if !same("random members", members, out)? {
         return status(false);
     }
     let mut reporter = Reporter::new(options.lists);

@@ -1,0 +1,336 @@
+//! An office whose members run each on its own: a thread, a record and a UDP socket on 127.0.0.1 for each. A shim in front of
+//! each socket loses, repeats and holds back datagrams. A member sends its last message to all and its last
+//! answer to a leader again and again, and starts the next round that it leads where no message that it can use comes in for
+//! a while.
+//!
+//!     machines [MEMBERS [SEED [LOST]]]     3, 5 or 7 members; a seed; so many of a hundred datagrams are lost, at most 90
+//!
+//! Decisions are made by leaders. How the others learn of one is no part of the protocol: a member that knows one tells the
+//! sender of each message that comes in, and a leader that decides tells all, by a datagram of this program's own (`KNOWN`, a
+//! round and a value), which is believed. The run ends when all know, or at a limit of time and of datagrams. It prints who
+//! decided what and how each member came to know, and fails where not all know, or where two values differ.
+//!
+//! The seed fixes what becomes of the k-th datagram of each member, and not the order in which threads run.
+
+use kalebasin::{read_message, Made, Member, MemberRecord, Message, Refusal, Round};
+use kalebasin_rig::random::Random;
+use std::collections::BTreeSet;
+use std::io::{Error, ErrorKind, Write};
+use std::net::{SocketAddr, UdpSocket};
+use std::process::ExitCode;
+use std::sync::atomic::{AtomicUsize, Ordering};
+use std::time::{Duration, Instant};
+
+/// A run ends after this time at the latest, and after so many datagrams.
+pub const LONGEST_RUN: Duration = Duration::from_secs(20);
+const MOST_DATAGRAMS: usize = 100_000;
+
+/// The first word of a datagram that tells a decision; no message of the protocol has this kind.
+const KNOWN: [u8; 4] = *b"KNOW";
+
+/// A decided round and its value.
+type Decision = (Round, u64);
+
+/// What all members share: addresses, and counts by which they know when to end.
+struct Office {
+    addresses: Vec<SocketAddr>,
+    seed: u64,
+    lost: usize,
+    until: Instant,
+    datagrams: AtomicUsize,
+    knowing: AtomicUsize,
+}
+
+impl Office {
+    fn members(&self) -> u32 {
+        self.addresses.len() as u32
+    }
+
+    fn is_over(&self) -> bool {
+        let all_know = self.knowing.load(Ordering::SeqCst) == self.addresses.len();
+        all_know || Instant::now() > self.until || self.datagrams.load(Ordering::SeqCst) >= MOST_DATAGRAMS
+    }
+}
+
+/// What the shim did to datagrams.
+#[derive(Clone, Copy, Default)]
+struct Weather {
+    sent: usize,
+    lost: usize,
+    repeated: usize,
+    held_back: usize,
+}
+
+/// A socket, and what is held back in front of it with the time it leaves.
+struct Shim<'a> {
+    office: &'a Office,
+    socket: UdpSocket,
+    random: Random,
+    held: Vec<(Instant, Member, Vec<u8>)>,
+    weather: Weather,
+}
+
+impl Shim<'_> {
+    fn send(&mut self, to: Member, bytes: &[u8]) -> Result<(), Error> {
+        let copies = if self.random.chance(15) { 2 } else { 1 };
+        self.weather.repeated += copies - 1;
+        for _ in 0..copies {
+            if self.random.chance(self.office.lost) {
+                self.weather.lost += 1;
+            } else if self.random.chance(30) {
+                self.weather.held_back += 1;
+                let wait = Duration::from_millis(self.random.between(1, 40) as u64);
+                self.held.push((Instant::now() + wait, to, bytes.to_vec()));
+            } else {
+                self.put(to, bytes)?;
+            }
+        }
+        Ok(())
+    }
+
+    fn send_to_all(&mut self, bytes: &[u8]) -> Result<(), Error> {
+        (0..self.office.members()).try_for_each(|to| self.send(Member(to), bytes))
+    }
+
+    /// Sends what has been held back long enough.
+    fn release(&mut self) -> Result<(), Error> {
+        let now = Instant::now();
+        let (due, held) = std::mem::take(&mut self.held).into_iter().partition(|(leaves, ..)| *leaves <= now);
+        self.held = held;
+        let due: Vec<_> = due;
+        due.iter().try_for_each(|(_, to, bytes)| self.put(*to, bytes))
+    }
+
+    fn put(&mut self, to: Member, bytes: &[u8]) -> Result<(), Error> {
+        if self.office.datagrams.fetch_add(1, Ordering::SeqCst) < MOST_DATAGRAMS {
+            self.weather.sent += 1;
+            self.socket.send_to(bytes, self.office.addresses[to.0 as usize])?;
+        }
+        Ok(())
+    }
+}
+
+/// One member's machine.
+struct Machine<'a> {
+    number: Member,
+    record: MemberRecord,
+    shim: Shim<'a>,
+    /// What it sent last, to all and to a leader, and when it sends that again.
+    to_all: Vec<u8>,
+    to_leader: Option<(Member, Vec<u8>)>,
+    again_at: Instant,
+    /// When it starts a round of its own, if no message that it can use comes in before.
+    start_at: Instant,
+    decided: Vec<Decision>,
+    known: Option<(Decision, Member)>,
+    refused: usize,
+}
+
+impl<'a> Machine<'a> {
+    fn new(office: &'a Office, number: Member, socket: UdpSocket) -> Result<Machine<'a>, Refusal> {
+        let random = Random::of(office.seed, u64::from(number.0));
+        let shim = Shim { office, socket, random, held: Vec::new(), weather: Weather::default() };
+        let record = MemberRecord::fresh(number, office.members())?;
+        let now = Instant::now();
+        let mut machine = Machine {
+            number,
+            record,
+            shim,
+            to_all: Vec::new(),
+            to_leader: None,
+            again_at: now,
+            start_at: now,
+            decided: Vec::new(),
+            known: None,
+            refused: 0,
+        };
+        machine.wait();
+        Ok(machine)
+    }
+
+    /// Puts the next start off, seldom for as long as another member does.
+    fn wait(&mut self) {
+        self.start_at = Instant::now() + Duration::from_millis(self.shim.random.between(30, 300) as u64);
+    }
+
+    fn say_again(&mut self) -> Result<(), Error> {
+        self.again_at = Instant::now() + Duration::from_millis(10);
+        if !self.to_all.is_empty() {
+            self.shim.send_to_all(&self.to_all)?;
+        }
+        match &self.to_leader {
+            Some((leader, bytes)) => self.shim.send(*leader, bytes),
+            None => Ok(()),
+        }
+    }
+
+    fn run(&mut self) -> Result<(), Error> {
+        self.shim.socket.set_read_timeout(Some(Duration::from_millis(2)))?;
+        let mut datagram = [0; 64];
+        while !self.shim.office.is_over() {
+            match self.shim.socket.recv_from(&mut datagram) {
+                Ok((length, from)) => self.hear(&datagram[..length], from)?,
+                Err(error) if matches!(error.kind(), ErrorKind::WouldBlock | ErrorKind::TimedOut) => (),
+                Err(error) => return Err(error),
+            }
+            self.shim.release()?;
+            let now = Instant::now();
+            if self.known.is_none() && now >= self.start_at {
+                self.start()?;
+            } else if self.known.is_none() && now >= self.again_at {
+                self.say_again()?;
+            }
+        }
+        Ok(())
+    }
+
+    /// Starts the first round that it leads above all that it has joined or led, and offers 70 and its number.
+    fn start(&mut self) -> Result<(), Error> {
+        let (fields, members) = (self.record.fields(), self.shim.office.members());
+        let above = fields.joined.max(fields.led).0 + 1;
+        let round = (above..).map(Round).find(|round| round.leader(members) == Some(self.number));
+        let mut reply = [0; Message::LONGEST];
+        let started = self.record.start(round.unwrap_or(Round::ROOT), 70 + u64::from(self.number.0), &mut reply);
+        self.wait();
+        match started {
+            Ok(report) => self.pass_on(&reply[..report.sent]),
+            Err(refusal) => Err(Error::other(format!("member {} can't start: {refusal}", self.number))),
+        }
+    }
+
+    fn hear(&mut self, datagram: &[u8], from: SocketAddr) -> Result<(), Error> {
+        let Some(sender) = self.shim.office.addresses.iter().position(|address| *address == from) else {
+            return Ok(());
+        };
+        let sender = Member(sender as u32);
+        if let Some(decision) = told(datagram) {
+            self.learn(decision, sender);
+            return Ok(());
+        }
+        let mut reply = [0; Message::LONGEST];
+        match self.record.deliver(datagram, &mut reply) {
+            Ok(report) => {
+                self.wait();
+                if report.sent > 0 {
+                    self.pass_on(&reply[..report.sent])?;
+                }
+                if let Some(Made::Decision { round, value }) = report.made {
+                    self.decided.push((round, value));
+                    self.learn((round, value), self.number);
+                    self.shim.send_to_all(&telling((round, value)))?;
+                }
+            }
+            Err(_) => self.refused += 1,
+        }
+        match self.known {
+            Some((decision, _)) if sender != self.number => self.shim.send(sender, &telling(decision)),
+            _ => Ok(()),
+        }
+    }
+
+    /// JOIN and VOTE go to the leader of their round, the leader's messages to all. The last of each is kept.
+    fn pass_on(&mut self, bytes: &[u8]) -> Result<(), Error> {
+        match read_message(bytes) {
+            Ok(Message::Join { round, .. } | Message::Vote { round, .. }) => {
+                self.to_leader = round.leader(self.shim.office.members()).map(|leader| (leader, bytes.to_vec()));
+                self.to_leader.iter().try_for_each(|(leader, bytes)| self.shim.send(*leader, bytes))
+            }
+            Ok(_) => {
+                self.to_all = bytes.to_vec();
+                self.shim.send_to_all(bytes)
+            }
+            Err(refusal) => Err(Error::other(format!("member {} sent what can't be read: {refusal}", self.number))),
+        }
+    }
+
+    fn learn(&mut self, decision: Decision, from: Member) {
+        if self.known.is_none() {
+            self.known = Some((decision, from));
+            self.shim.office.knowing.fetch_add(1, Ordering::SeqCst);
+        }
+    }
+}
+
+/// The datagram that tells a decision.
+fn telling((round, value): Decision) -> Vec<u8> {
+    [&KNOWN[..], &round.0.to_be_bytes(), &value.to_be_bytes()].concat()
+}
+
+/// The decision that a datagram tells.
+fn told(datagram: &[u8]) -> Option<Decision> {
+    let rest = datagram.strip_prefix(&KNOWN)?;
+    let (round, value) = rest.split_at_checked(4)?;
+    Some((Round(u32::from_be_bytes(round.try_into().ok()?)), u64::from_be_bytes(value.try_into().ok()?)))
+}
+
+/// The arguments: members, seed, loss.
+pub fn asked(arguments: impl Iterator<Item = String>) -> Option<(u32, u64, usize)> {
+    let words: Vec<u64> = arguments.map(|word| word.parse().ok()).collect::<Option<_>>()?;
+    let word = |at: usize, otherwise: u64| words.get(at).copied().unwrap_or(otherwise);
+    let (members, seed, lost) = (word(0, 5), word(1, 1), word(2, 20));
+    (words.len() <= 3 && matches!(members, 3 | 5 | 7) && lost <= 90).then_some((members as u32, seed, lost as usize))
+}
+
+/// Runs the office; what it prints, and whether all know the same value.
+pub fn run(members: u32, seed: u64, lost: usize, longest: Duration) -> Result<(String, bool), Error> {
+    let sockets = (0..members).map(|_| UdpSocket::bind("127.0.0.1:0")).collect::<Result<Vec<_>, _>>()?;
+    let addresses = sockets.iter().map(UdpSocket::local_addr).collect::<Result<Vec<_>, _>>()?;
+    let until = Instant::now() + longest;
+    let (datagrams, knowing) = (AtomicUsize::new(0), AtomicUsize::new(0));
+    let office = Office { addresses, seed, lost, until, datagrams, knowing };
+    let machines = sockets.into_iter().zip(0..).map(|(socket, number)| Machine::new(&office, Member(number), socket));
+    let mut machines = machines.collect::<Result<Vec<_>, _>>().map_err(|refusal| Error::other(refusal.to_string()))?;
+    std::thread::scope(|scope| {
+        let running: Vec<_> = machines.iter_mut().map(|machine| scope.spawn(|| machine.run())).collect();
+        running
+            .into_iter()
+            .try_for_each(|thread| thread.join().unwrap_or_else(|_| Err(Error::other("a member fell over"))))
+    })?;
+    Ok(told_of(&machines))
+}
+
+fn told_of(machines: &[Machine]) -> (String, bool) {
+    let (mut text, mut values, mut weather) = (String::new(), BTreeSet::new(), Weather::default());
+    for machine in machines {
+        for (round, value) in &machine.decided {
+            text += &format!("member {} decided {value} in round {round}\n", machine.number);
+            values.insert(*value);
+        }
+        text += &match machine.known {
+            Some(((_, value), from)) if from == machine.number => format!("member {from} knows {value}\n"),
+            Some(((_, value), from)) => format!("member {} knows {value}: member {from} told it\n", machine.number),
+            None => format!("member {} knows of no decision\n", machine.number),
+        };
+        values.extend(machine.known.map(|((_, value), _)| value));
+        let Weather { sent, lost, repeated, held_back } = machine.shim.weather;
+        weather.sent += sent;
+        weather.lost += lost;
+        weather.repeated += repeated;
+        weather.held_back += held_back;
+    }
+    let Weather { sent, lost, repeated, held_back } = weather;
+    let refused: usize = machines.iter().map(|machine| machine.refused).sum();
+    text += &format!("{sent} datagrams: {lost} more were lost, {repeated} repeated, {held_back} held back; {refused} messages refused\n");
+    let offered = |value: &u64| (70..70 + machines.len() as u64).contains(value);
+    let all_know = machines.iter().all(|machine| machine.known.is_some());
+    let agreed = all_know && values.len() == 1 && values.iter().all(offered);
+    text += if agreed { "all know the same value\n" } else { "NOT all know the same value\n" };
+    (text, agreed)
+}
+
+fn main() -> ExitCode {
+    let Some((members, seed, lost)) = asked(std::env::args().skip(1)) else {
+        eprintln!("machines [MEMBERS [SEED [LOST]]]: 3, 5 or 7 members, a seed, 0 to 90 of a hundred datagrams lost");
+        return ExitCode::from(2);
+    };
+    match run(members, seed, lost, LONGEST_RUN) {
+        Ok((text, agreed)) => match std::io::stdout().write_all(text.as_bytes()) {
+            Ok(()) if agreed => ExitCode::SUCCESS,
+            _ => ExitCode::FAILURE,
+        },
+        Err(error) => {
+            eprintln!("machines: {error}");
+            ExitCode::from(2)
+        }
+    }
+}
