@@ -24,7 +24,7 @@ use Rattle.play_effects.specs.Effects.{counted, refused-event, accepted-event}
 use Rattle.play_office.specs.Represents.{RecordAt, Represents, StepBefore, StepAfter, ModelStep, RefusedWith, after-event}
 
 -- a record put back where it was
-set-same : (ms : List MemberState) (i : ℕ) (m : MemberState) → RecordAt ms i m → set ms i m ≡ ms
+pub set-same : (ms : List MemberState) (i : ℕ) (m : MemberState) → RecordAt ms i m → set ms i m ≡ ms
 set-same [] i m h = absurd (omega (arith, h .within))
 set-same (x ∷ ms) zero m h = ap (λ y. y ∷ ms) (sym (h .is m))
 set-same (x ∷ ms) (suc i) m h = ap (λ l. x ∷ l) (set-same ms i m (record { within = omega (arith, h .within); is = h .is }))
