@@ -1,3 +1,4 @@
 -- Laws of the member steps.
 pub mod Checks
+pub mod ByRow
 pub mod Keeping

@@ -1,4 +1,5 @@
 -- The meanings of the member steps.
 pub mod Table
+pub mod ByRow
 pub mod Answers
 pub mod Kept

@@ -26,6 +26,7 @@ ghost use Prim.Native.Nat.{_≤_, _<_};
 ghost use Rattle.member_rules.specs.Causes.{start-call-causes, START-causes, count-causes, PROPOSE-causes};
 ghost use Rattle.member.specs.Table.{refused, sends, unless, start-call-row, START-row, complete, proposes, decides, completes};
 ghost use Rattle.member.specs.Table.{count-row, PROPOSE-row, delivers, sound-step};
+ghost use Rattle.member.specs.ByRow.{row-of, taking};
 ghost use Rattle.member.specs.Answers.{MoveIs};
 
 // A refusal leaves the record as it was.
@@ -180,25 +181,101 @@ fn on_propose(m: MemberState, r: Round, s: Member, v: u64) -> Move
     )
 }
 
-// Any message.
-pub fn on_message(m: MemberState, g: Message) -> Move
-    requires { ⌜ (1 ≤ m .who .n) × (m .who .n ≤ 7) ⌝ }
-    ensures { λ t. ⌜ MoveIs (sound-step m (delivers g)) t ⌝ }
+// A message's row: JOIN and VOTE have one, each counted in its phase.
+enum MessageRow {
+    StartRow {
+        round: Round,
+        sender: Member,
+    },
+    CountRow {
+        phase: u32,
+        round: Round,
+        sender: Member,
+    },
+    ProposeRow {
+        round: Round,
+        sender: Member,
+        value: u64,
+    },
+}
+
+// The row of a message.
+fn row_of(g: Message) -> MessageRow
+    ensures { λ w. ⌜ w ≡ row-of g ⌝ }
 {
     match g {
-        Message::Start { round, sender } => on_start(m, round, sender),
-        Message::Join { round, sender } => on_count(COLLECTING, m, m, round, sender),
+        Message::Start { round, sender } => MessageRow::StartRow { round, sender },
+        Message::Join { round, sender } => MessageRow::CountRow {
+            phase: COLLECTING,
+            round,
+            sender,
+        },
         Message::JoinVoted {
             round,
             sender,
-            voted,
-            value,
-        } => on_count(COLLECTING, m, adopting(m, voted, value), round, sender),
+            voted: _,
+            value: _,
+        } => MessageRow::CountRow {
+            phase: COLLECTING,
+            round,
+            sender,
+        },
         Message::Propose {
             round,
             sender,
             value,
+        } => MessageRow::ProposeRow {
+            round,
+            sender,
+            value,
+        },
+        Message::Vote { round, sender } => MessageRow::CountRow {
+            phase: PROPOSED,
+            round,
+            sender,
+        },
+    }
+}
+
+// The record in which a message is counted: with the vote that a JOIN carries.
+fn taking(m: MemberState, g: Message) -> MemberState
+    ensures { λ t. ⌜ t ≡ taking m g ⌝ }
+{
+    match g {
+        Message::Start { round: _, sender: _ } => m,
+        Message::Join { round: _, sender: _ } => m,
+        Message::JoinVoted {
+            round: _,
+            sender: _,
+            voted,
+            value,
+        } => adopting(m, voted, value),
+        Message::Propose {
+            round: _,
+            sender: _,
+            value: _,
+        } => m,
+        Message::Vote { round: _, sender: _ } => m,
+    }
+}
+
+// Any message, by its row.
+pub fn on_message(m: MemberState, g: Message) -> Move
+    requires { ⌜ (1 ≤ m .who .n) × (m .who .n ≤ 7) ⌝ }
+    ensures { λ t. ⌜ MoveIs (sound-step m (delivers g)) t ⌝ }
+{
+    let row = row_of(g);
+    match row {
+        MessageRow::StartRow { round, sender } => on_start(m, round, sender),
+        MessageRow::CountRow {
+            phase,
+            round,
+            sender,
+        } => on_count(phase, m, taking(m, g), round, sender),
+        MessageRow::ProposeRow {
+            round,
+            sender,
+            value,
         } => on_propose(m, round, sender, value),
-        Message::Vote { round, sender } => on_count(PROPOSED, m, m, round, sender),
     }
 }

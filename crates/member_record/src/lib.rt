@@ -42,15 +42,15 @@ pub struct Durable {
     pub led: Round,
 }
 
-// What belongs to leading the round last led.
+// What belongs to leading the round last led. In this order it takes the least room.
 #[repr(C)]
 pub struct Lead {
     // IDLE, COLLECTING, PROPOSED or DECIDED.
     pub phase: u32,
+    // B, the round that the value came from.
+    pub source: Round,
     // X, the value to propose.
     pub value: u64,
-    // B, the round it came from.
-    pub source: Round,
     // One for each member counted.
     pub flags: [bool; 7],
 }

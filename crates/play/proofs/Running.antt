@@ -1,14 +1,16 @@
 -- The events one after another: after k of them the memory represents the model's state, and the answers are the model's. Assumes nothing.
 use mathlib.Core.Path.{_≡_, refl, sym, ap, subst, _∙_}
 use mathlib.Core.Bool.{true, _&&_}
+use mathlib.Core.Logic.{_⊎_, ⊎-elim}
 use mathlib.Core.List.{List, [], _∷_, _++_, append-assoc, List·Memᴰ·head as here, List·Memᴰ·tail as there}
 use Prim.Native.Nat.{ℕ, zero, suc, _+_, _-_, _≤_, _<_}
 use native.Mathlib.Omega.{arith}
+use native.Mathlib.Nat.{add-zero}
 use native.Mathlib.Numerals.{add-one}
 use lib.ListN.{length, getD, set, take, drop, length-drop, length-set}
 use lib.Seq.{drop-cons, set-at, drop-drop}
 use lib.Dec.{leb, eqb}
-use borrow.Author.Tests.{leb-true}
+use borrow.Author.Tests.{leb-true, eq-eqb, ne-eqb}
 use Rattle.laws.specs.Tests.{by-test, and-left, and-right}
 use Rattle.numbers.specs.Numbers.{OK}
 use Rattle.xdr.specs.Words.{AllBytes}
@@ -29,11 +31,12 @@ use Rattle.play_events.specs.List.{HEAD-BYTES, members-of, count-of, head-of, b
 use Rattle.play_events.specs.Value.{model-event, ReadsEvent}
 use Rattle.play_events.proofs.Events.{events-suc, behind-suc, length-events, due-stands, offers-small, bytes-left}
 use Rattle.play_store.specs.Rows.{most-rows, store-rows, store-sized, stored}
-use Rattle.play_effects.specs.declared.AfterEvent.{AfterEvent}
+use Rattle.play_effects.specs.declared.EventEffect.{EventEffect}
 use Rattle.play_effects.specs.declared.Tally.{Tally}
 use Rattle.play_effects.specs.Memory.{Memory}
 use Rattle.play_office.specs.declared.PlayedOffice.{PlayedOffice}
-use Rattle.play_office.specs.Represents.{MemorySizes, Represents, StepBefore, StepAfter, EventBefore, EventWorked, fresh-office, place-of}
+use Rattle.play_office.specs.Represents.{AfterEvent, MemorySizes, Represents, StepBefore, StepAfter, EventBefore, EventWorked, after-event, fresh-office, place-of}
+use Rattle.play_office.proofs.Settling.{set-same}
 use Rattle.play_office.proofs.Before.{default, place-below, allowed-seven, sent-few, proposals-few, decisions-few}
 use Rattle.play.specs.Lent.{Lent}
 use Rattle.play.specs.Promise.{sizes-of, one, Ready, Ran}
@@ -55,7 +58,7 @@ zeros-one : (n : ℕ) → zeros (n ∷ []) ≡ one n
 unfolding zeros
 zeros-one n = by-test (eqb n OK) (λ t. rw t refl) (λ t. rw t refl)
 
-pub one-most : (n : ℕ) → one n ≤ 1
+one-most : (n : ℕ) → one n ≤ 1
 one-most n = by-test (eqb n OK) (λ t. rw t (omega arith)) (λ t. rw t (omega arith))
 
 same-sized : (s t : List ℕ) → length s ≡ length t → store-sized s ≡ true → store-sized t ≡ true
@@ -220,10 +223,10 @@ module _ {list : List ℕ} {L₀ : Lent} {count : ℕ} {L : Lent} {members : Lis
     answer-small = worked .small
 
     -- the next event
-    after-event : k < count → e ≡ event-at (drop at list) → length (M′ .store) ≡ length (L .memory .store) → length (M′ .table) ≡ length (L .memory .table) →
+    after-event-worked : k < count → e ≡ event-at (drop at list) → length (M′ .store) ≡ length (L .memory .store) → length (M′ .table) ≡ length (L .memory .table) →
         Running list L₀ count (record { memory = M′; answers = set (L .answers) k (w .number) }) (set members i (w .state)) (w .tally)
         (accepted + one (w .number)) (at + event-size (drop at list)) (k + 1)
-    after-event h ee ls lw =
+    after-event-worked h ee ls lw =
         let z = sizes-of list (L₀ .memory) in
         let o = first-office (members-of list) in
         let es = events-in k (body list) in
@@ -262,16 +265,24 @@ module _ {list : List ℕ} {L₀ : Lent} {count : ℕ} {L : Lent} {members : Lis
           few = omega (arith, G .few, one-most n);
         }
 
-  -- the same of what the turn read, and of its 1 or 0
+  -- the same of what the turn read, and of the records and the count that its number left
   pub running-next : k < count → {s : List ℕ} → s ≡ drop at list → {r : EventRead} → ReadsEvent s r →
-      {i : ℕ} → i ≡ place-of (at-member (model-event (r .event))) → (d : MemberState) {w : AfterEvent} {M′ : Memory} {n : ℕ} → n ≡ one (w .number) →
+      {i : ℕ} → i ≡ place-of (at-member (model-event (r .event))) → (d m : MemberState) {w : EventEffect} {M′ : Memory} →
       length (M′ .store) ≡ length (L .memory .store) → length (M′ .table) ≡ length (L .memory .table) →
-      EventWorked t (getD members i d) (model-event (r .event)) (L .memory) w M′ →
-      Running list L₀ count (record { memory = M′; answers = set (L .answers) k (w .number) }) (set members i (w .state)) (w .tally)
-      (accepted + n) (at + r .size) (k + 1)
-  running-next h es {r} R ei d en ls lw W =
+      EventWorked t (getD members i d) (model-event (r .event)) (L .memory) (after-event (getD members i d) m w) M′ → {ms : List MemberState} {n : ℕ} →
+      ((w .number ≡ OK) × (ms ≡ set members i m) × (n ≡ accepted + 1)) ⊎ ((w .number ≡ OK → ⊥) × (ms ≡ members) × (n ≡ accepted)) →
+      Running list L₀ count (record { memory = M′; answers = set (L .answers) k (w .number) }) ms (w .tally) n (at + r .size) (k + 1)
+  unfolding event-before
+  running-next h es {r} R {i} ei d m {w} ls lw W =
+      let e = model-event (r .event) in
+      let was = event-before e i d ei .record-at in
       let size : r .size ≡ event-size (drop at list) = R .size-is ∙ ap event-size es in
-      rw (en, size) (after-event ei d W h (R .event-is ∙ ap event-at es) ls lw)
+      let next = after-event-worked ei d W h (R .event-is ∙ ap event-at es) ls lw in
+      ⊎-elim
+      (λ c. rw (size, c .1, c .2) (rw (eq-eqb (w .number) OK (c .0)) at next))
+      (λ c.
+      let same : set members i (getD members i d) ≡ members = ap (λ j. set members j (getD members i d)) ei ∙ set-same members _ _ was in
+      rw (size, c .1, c .2) (rw (ne-eqb (w .number) OK (c .0), same, add-zero accepted) at next))
 
   pub counts-small : (t .sent ≤ most-rows) × (t .proposals < 256) × (t .decisions < 256)
   counts-small = (sent-few before, proposals-few before, decisions-few before)

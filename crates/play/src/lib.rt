@@ -1,7 +1,7 @@
 // Play (01, "Play"): a list of events over a whole office, in lent memory.
 ghost use mathlib.Core.Path.{_≡_};
 ghost use Rattle.play.specs.Lent.{as-lent};
-ghost use Rattle.play.specs.Promise.{one, refused-list, Ready, Ran, Given};
+ghost use Rattle.play.specs.Promise.{refused-list, Ready, Ran, Given};
 
 // The number of a list, and what its events came to; with a refusal each count is 0.
 pub struct PlayAnswer {
@@ -25,16 +25,6 @@ fn refused_list(number: u32) -> PlayAnswer
     }
 }
 
-// 1 for an accepted event.
-fn one_if_accepted(number: u32) -> u32
-    ensures { λ n. ⌜ n ≡ one number ⌝ }
-{
-    if number == numbers::OK {
-        return 1;
-    }
-    0
-}
-
 // Works the events one after another, on a cleared store and a fresh table; the rest of the list is handed on from where each event ends.
 fn run(list: &[u8], messages: &mut [u8], nodes: &mut [u64], answered: &mut [u8]) -> PlayAnswer
     requires { ⌜ Ready (now list) (as-lent (now messages) (now nodes) (now answered)) ⌝ }
@@ -55,12 +45,16 @@ fn run(list: &[u8], messages: &mut [u8], nodes: &mut [u64], answered: &mut [u8])
         let e = r.event;
         let i = play_office::event::place(e);
         let m = members[i];
-        let w = play_office::event::work(tally, m, e, messages, nodes);
-        let state = w.state;
-        members[i] = state;
+        let s = play_office::event::step(tally, m, e, messages);
+        let a = s.answer;
+        let w = play_office::settle(tally, a, messages, nodes);
+        if w.number == numbers::OK {
+            let state = s.state;
+            members[i] = state;
+            accepted += 1;
+        }
         tally = w.tally;
         answered[k] = w.number as u8;
-        accepted += one_if_accepted(w.number);
         k += 1;
     }
     PlayAnswer {

@@ -9,11 +9,10 @@ use Rattle.numbers.specs.Numbers.{OK, NO-FREE-ROW, STORE-FULL, no-row-left}
 use Rattle.tree_theory.specs.Machine.{Call}
 use Rattle.tree_theory.specs.Table.{rows}
 use Rattle.message.specs.declared.Message.{Message}
-use Rattle.member_record.specs.declared.MemberState.{MemberState}
 use Rattle.tree.specs.Promises.{stepped-table}
 use Rattle.play_store.specs.Rows.{store-rows, put-row}
 use Rattle.play_effects.specs.declared.Tally.{Tally}
-use Rattle.play_effects.specs.declared.AfterEvent.{AfterEvent}
+use Rattle.play_effects.specs.declared.EventEffect.{EventEffect}
 use Rattle.play_effects.specs.Memory.{Memory}
 
 -- the counts of an office that play works: no store or table has as many rows
@@ -26,13 +25,13 @@ pub record CountsFit (t : Tally) : Type 0 where
 abbrev pub counted : Tally → ℕ → ℕ → ℕ → Tally
 counted t a b c = record { n = t .n; sent = t .sent + a; proposals = t .proposals + b; decisions = t .decisions + c }
 
--- a refused event leaves the record and the tally
-abbrev pub refused-event : MemberState → Tally → ℕ → AfterEvent
-refused-event m t number = record { state = m; tally = t; number = number }
+-- a refused event leaves the tally
+abbrev pub refused-event : Tally → ℕ → EventEffect
+refused-event t number = record { tally = t; number = number }
 
--- an accepted one gives both
-abbrev pub accepted-event : MemberState → Tally → AfterEvent
-accepted-event m t = record { state = m; tally = t; number = OK }
+-- an accepted one gives it
+abbrev pub accepted-event : Tally → EventEffect
+accepted-event t = record { tally = t; number = OK }
 
 -- the messages sent fill the store
 abbrev pub no-room-to-send : Tally → List ℕ → Bool
@@ -42,9 +41,9 @@ no-room-to-send t store = no-row-left (store-rows store) (t .sent)
 abbrev pub no-room-to-propose : Tally → List ℕ → Bool
 no-room-to-propose t ws = no-row-left (rows ws) (t .proposals + 1)
 
--- a step from record m to m′ that sends g; the table isn't lent to it
-pub record SendEffect (t : Tally) (m m′ : MemberState) (g : Message) (store : List ℕ) (w : AfterEvent) (store′ : List ℕ) : Type 0 where
-  pub result-is : w ≡ cond (no-room-to-send t store) (refused-event m t STORE-FULL) (accepted-event m′ (counted t 1 0 0))
+-- a step that sends g; the table isn't lent to it
+pub record SendEffect (t : Tally) (g : Message) (store : List ℕ) (w : EventEffect) (store′ : List ℕ) : Type 0 where
+  pub result-is : w ≡ cond (no-room-to-send t store) (refused-event t STORE-FULL) (accepted-event (counted t 1 0 0))
   pub store-is : store′ ≡ cond (no-room-to-send t store) store (put-row store (t .sent) g)
 
 -- the row "last" of the place table, where a message would be sent and a proposal made
@@ -56,13 +55,13 @@ proposal-causes t M =
 abbrev pub proposal-number : Tally → Memory → ℕ
 proposal-number t M = first (proposal-causes t M)
 
--- a step from record m to m′ that sends g and names c
-pub record ProposalEffect (t : Tally) (m m′ : MemberState) (g : Message) (c : Call) (M : Memory) (w : AfterEvent) (M′ : Memory) : Type 0 where
-  pub result-is : w ≡ cond (eqb (proposal-number t M) OK) (accepted-event m′ (counted t 1 1 0)) (refused-event m t (proposal-number t M))
+-- a step that sends g and names c
+pub record ProposalEffect (t : Tally) (g : Message) (c : Call) (M : Memory) (w : EventEffect) (M′ : Memory) : Type 0 where
+  pub result-is : w ≡ cond (eqb (proposal-number t M) OK) (accepted-event (counted t 1 1 0)) (refused-event t (proposal-number t M))
   pub store-is : M′ .store ≡ cond (eqb (proposal-number t M) OK) (put-row (M .store) (t .sent) g) (M .store)
   pub table-is : M′ .table ≡ cond (eqb (proposal-number t M) OK) (stepped-table true (M .table) c) (M .table)
 
--- a step to record m′ that names c and sends nothing; the store isn't lent to it
-pub record DecisionEffect (t : Tally) (m′ : MemberState) (c : Call) (ws : List ℕ) (w : AfterEvent) (ws′ : List ℕ) : Type 0 where
-  pub result-is : w ≡ accepted-event m′ (counted t 0 0 1)
+-- a step that names c and sends nothing; the store isn't lent to it
+pub record DecisionEffect (t : Tally) (c : Call) (ws : List ℕ) (w : EventEffect) (ws′ : List ℕ) : Type 0 where
+  pub result-is : w ≡ accepted-event (counted t 0 0 1)
   pub table-is : ws′ ≡ stepped-table true ws c

@@ -1,7 +1,6 @@
 // What the answer of a member's step does to the store, to the table and to what an office counts (01, "Play"): a message goes behind the
 // others, a proposal is added to the table, a decision committed.
 use ids::Round;
-use member_record::MemberState;
 use message::Message;
 ghost use mathlib.Core.Path.{_≡_};
 ghost use mathlib.Core.Bool.{true};
@@ -21,9 +20,8 @@ pub struct Tally {
     pub decisions: usize,
 }
 
-// The member's record and the tally after an event, and the event's number.
-pub struct AfterEvent {
-    pub state: MemberState,
+// An event's number, and the tally after it. What becomes of the member's record goes by the number: whoever holds the records sees to it.
+pub struct EventEffect {
     pub tally: Tally,
     pub number: u32,
 }
@@ -41,15 +39,11 @@ fn counted(tally: Tally, sent: usize, proposals: usize, decisions: usize) -> Tal
     }
 }
 
-// A refused event leaves the record and the tally.
-pub fn refused_event(m: MemberState, tally: Tally, number: u32) -> AfterEvent
-    ensures { λ w. ⌜ w ≡ refused-event m tally number ⌝ }
+// A refused event leaves the tally.
+pub fn refused_event(tally: Tally, number: u32) -> EventEffect
+    ensures { λ w. ⌜ w ≡ refused-event tally number ⌝ }
 {
-    AfterEvent {
-        state: m,
-        tally,
-        number,
-    }
+    EventEffect { tally, number }
 }
 
 // Whether the messages sent fill the store.
@@ -83,65 +77,54 @@ fn proposal_number(tally: Tally, messages: &[u8], nodes: &[u64]) -> u32
     numbers::OK
 }
 
-// A step from the record m to the record next that sends g.
-pub fn send(
-    messages: &mut [u8],
-    tally: Tally,
-    m: MemberState,
-    next: MemberState,
-    g: Message,
-) -> AfterEvent
+// A step that sends g.
+pub fn send(messages: &mut [u8], tally: Tally, g: Message) -> EventEffect
     requires { ⌜ CountsFit tally × (in-range g ≡ true) ⌝ }
-    ensures { λ w. ⌜ SendEffect tally m next g (now (messages .entry)) w (now (messages .exit)) ⌝ }
+    ensures { λ w. ⌜ SendEffect tally g (now (messages .entry)) w (now (messages .exit)) ⌝ }
 {
     if no_room_to_send(tally, messages) {
-        return refused_event(m, tally, numbers::STORE_FULL);
+        return refused_event(tally, numbers::STORE_FULL);
     }
     play_store::store_message(messages, tally.sent, g);
-    AfterEvent {
-        state: next,
+    EventEffect {
         tally: counted(tally, 1, 0, 0),
         number: numbers::OK,
     }
 }
 
-// A step from the record m to the record next that sends `sent` and names add(round, value, parent).
+// A step that sends `sent` and names add(round, value, parent).
 pub fn propose(
     messages: &mut [u8],
     nodes: &mut [u64],
     tally: Tally,
-    m: MemberState,
-    next: MemberState,
     sent: Message,
     round: Round,
     value: u64,
     parent: Round,
-) -> AfterEvent
+) -> EventEffect
     requires { ⌜ CountsFit tally × (in-range sent ≡ true) × (sized (now nodes) ≡ true) × Tree true (now nodes) ⌝ }
-    ensures { λ w. ⌜ ProposalEffect tally m next sent (add (round .0) value (parent .0)) (in-memory (now (messages .entry)) (now (nodes .entry))) w
+    ensures { λ w. ⌜ ProposalEffect tally sent (add (round .0) value (parent .0)) (in-memory (now (messages .entry)) (now (nodes .entry))) w
         (in-memory (now (messages .exit)) (now (nodes .exit))) ⌝ }
 {
     let number = proposal_number(tally, messages, nodes);
     if number != numbers::OK {
-        return refused_event(m, tally, number);
+        return refused_event(tally, number);
     }
     play_store::store_message(messages, tally.sent, sent);
     tree::add_in_tree(nodes, round, value, parent);
-    AfterEvent {
-        state: next,
+    EventEffect {
         tally: counted(tally, 1, 1, 0),
         number: numbers::OK,
     }
 }
 
-// A step to the record next that names commit(round).
-pub fn decide(nodes: &mut [u64], tally: Tally, next: MemberState, round: Round) -> AfterEvent
+// A step that names commit(round).
+pub fn decide(nodes: &mut [u64], tally: Tally, round: Round) -> EventEffect
     requires { ⌜ CountsFit tally × (sized (now nodes) ≡ true) × Tree true (now nodes) ⌝ }
-    ensures { λ w. ⌜ DecisionEffect tally next (commit (round .0)) (now (nodes .entry)) w (now (nodes .exit)) ⌝ }
+    ensures { λ w. ⌜ DecisionEffect tally (commit (round .0)) (now (nodes .entry)) w (now (nodes .exit)) ⌝ }
 {
     tree::commit_in_tree(nodes, round);
-    AfterEvent {
-        state: next,
+    EventEffect {
         tally: counted(tally, 0, 0, 1),
         number: numbers::OK,
     }

@@ -16,11 +16,11 @@ use Rattle.tree_theory.specs.Table.{rows, table}
 use Rattle.message.specs.declared.Message.{Message}
 use Rattle.member_record.specs.declared.MemberState.{MemberState}
 use Rattle.member.specs.declared.StepAnswer.{StepAnswer}
-use Rattle.member.specs.declared.StepAnswer.the-variants.{Sent, Proposed}
-use Rattle.member.specs.declared.MemberStep.{MemberStep}
-use Rattle.member.specs.Answers.{answer-outcome, step-outcome}
+use Rattle.member.specs.declared.StepAnswer.the-variants.{Refused, Sent, Done, Proposed, Decided}
+use Rattle.member.specs.Answers.{answer-outcome, numbered-answer}
 use Rattle.member.specs.Kept.{Kept}
-use Rattle.member.specs.Table.{Outcome, refused, sends, silent, nothing, proposal, decision}
+use Rattle.member.specs.Table.{Outcome, sends, nothing, proposal}
+use Rattle.member.proofs.Checks.{refused-some}
 use Rattle.member.proofs.Keeping.{step-kept}
 use Rattle.model.specs.Model.{Sizes, Event, Office, at-member, event-of, member-at, sends-one, event-outcome, proposals, taken}
 use Rattle.model.specs.Counts.{made-tree, decisions}
@@ -29,45 +29,45 @@ use Rattle.model.proofs.Tree.{tree-nothing, tree-proposal, tree-decision}
 use Rattle.play_store.specs.Rows.{store-rows, stored, put-row}
 use Rattle.play_store.proofs.Stored.{put-stored}
 use Rattle.tree.specs.Promises.{stepped-table}
-use Rattle.play_effects.specs.declared.AfterEvent.{AfterEvent}
+use Rattle.play_effects.specs.declared.EventEffect.{EventEffect}
 use Rattle.play_effects.specs.declared.Tally.{Tally}
 use Rattle.play_effects.specs.Memory.{Memory, in-memory}
 use Rattle.play_effects.specs.Effects.{counted, refused-event, accepted-event, no-room-to-send, no-room-to-propose, SendEffect, ProposalEffect, DecisionEffect}
-use Rattle.play_office.specs.Represents.{RecordAt, StepBefore, StepAfter, ModelStep, OutcomeBefore}
+use Rattle.play_office.specs.Represents.{RecordAt, StepBefore, StepAfter, ModelStep, RefusedWith, AnswerIs, AnswerBefore, after-event}
 use Rattle.play_office.proofs.Before.{nodes-held}
 use Rattle.play_office.proofs.Settling.{refused-step, no-store-row, no-table-row, sent-one, proposed-one, silent-one}
 use Rattle.play_office.proofs.Settling.{as-result, refused-after, accepted-after}
 
--- what a step that proposes, or decides, comes to
-abbrev pub proposing : MemberState → Message → ℕ → ℕ → ℕ → Outcome
+-- what a step that proposes comes to
+abbrev proposing : MemberState → Message → ℕ → ℕ → ℕ → Outcome
 proposing m g r x b = record { number = 0; state = m; sent = g ∷ []; named = proposal r x b }
 
-abbrev pub deciding : MemberState → ℕ → ℕ → Outcome
-deciding m r x = record { number = 0; state = m; sent = []; named = decision r x }
+-- what is known of an answer, by the arm that it takes
+pub by-answer : {t : Tally} {a b : StepAnswer} {M : Memory} (F : AnswerBefore t a M) → a ≡ b → AnswerIs (F .before .z) (F .before .o) (F .e) (F .i) (F .m) b
+by-answer F q = subst (AnswerIs (F .before .z) (F .before .o) (F .e) (F .i) (F .m)) q (F .is)
 
--- the step taken, by its answer
-pub by-answer : {z : Sizes} {o : Office} {e : Event} {i : ℕ} (s : MemberStep) {b : StepAnswer} → s .answer ≡ b →
-    ModelStep z o e i (step-outcome s) → ModelStep z o e i (answer-outcome (s .state) b)
-by-answer {z} {o} {e} {i} s q T = subst (λ b. ModelStep z o e i (answer-outcome (s .state) b)) q T
+-- a step of the model as an answer, whose refusal has a number
+pub answer-is : {z : Sizes} {o : Office} {e : Event} {i : ℕ} (m : MemberState) (a : StepAnswer) → ModelStep z o e i (answer-outcome m a) →
+    numbered-answer a ≡ true → Kept (answer-outcome m a) → AnswerIs z o e i m a
+unfolding AnswerIs
+answer-is m (Refused k) T n K =
+    let some = refused-some refl n in
+    record { number-is = refused-step T some; some = some; small = K .number-byte }
+answer-is m (Sent g) T n K = T
+answer-is m Done T n K = T
+answer-is m (Proposed g r x b) T n K = T
+answer-is m (Decided r x) T n K = T
 
--- what a step sends is within its ranges, and its number is a byte
-pub step-keeps : {t : Tally} {m : MemberState} {u : Outcome} {M : Memory} → OutcomeBefore t m u M → Kept u
-step-keeps F =
-    let z = F .before .z in
-    let o = F .before .o in
-    let K = F .before .sound in
-    let T = F .step in
-    let k = at-member (F .e) in
+-- what a step sends is within its ranges
+pub step-keeps : {t : Tally} {M : Memory} (B : StepBefore t M) {e : Event} {i : ℕ} {u : Outcome} → ModelStep (B .z) (B .o) e i u → Kept u
+step-keeps B {e} T =
+    let z = B .z in
+    let o = B .o in
+    let K = B .sound in
+    let k = at-member e in
     let was = K .each k (T .member) in
-    let same = T .equals ∙ step-is-sound z o (K .ranged) (F .e) (was .is-sound) (T .there) in
-    rw same (step-kept (member-at z o k) (event-of o (F .e)) (was .seven) (was .is-sound) (event-fits z o (K .ranged) (F .e) (T .there)))
-
--- the message of an answer that sends one
-pub answers-sent : (m : MemberState) {a : StepAnswer} {g : Message} → a ≡ Sent g → g ∈ answer-outcome m a .sent
-answers-sent m {a} {g} q = subst (λ b. g ∈ answer-outcome m b .sent) (sym q) (here refl)
-
-pub answers-proposed : (m : MemberState) {a : StepAnswer} {g : Message} {r : Round} {x : ℕ} {b : Round} → a ≡ Proposed g r x b → g ∈ answer-outcome m a .sent
-answers-proposed m {a} {g} q = subst (λ d. g ∈ answer-outcome m d .sent) (sym q) (here refl)
+    let same = T .equals ∙ step-is-sound z o (K .ranged) e (was .is-sound) (T .there) in
+    rw same (step-kept (member-at z o k) (event-of o e) (was .seven) (was .is-sound) (event-fits z o (K .ranged) e (T .there)))
 
 -- what the model's step names
 named-by : {z : Sizes} {o : Office} {e : Event} {i : ℕ} {u : Outcome} → ModelStep z o e i u → event-outcome z o e .named ≡ u .named
@@ -104,82 +104,96 @@ module _ {t : Tally} {M : Memory} (B : StepBefore t M) where
       q ∙ ap (λ ks. table (length (M .table)) (step true (rows (M .table)) ks c)) (nodes-held B) ∙
       ap (λ n. table (length (M .table)) (step true n ns c)) (sym (B .sizes .table-is)) ∙ ap (λ n. table n (step true (B .z .table) ns c)) (sym l)
 
-module _ {t : Tally} {M : Memory} (B : StepBefore t M) {e : Event} {i : ℕ} where
+module _ {t : Tally} {M : Memory} (B : StepBefore t M) {e : Event} {i : ℕ} (was : MemberState) where
   -- nothing is sent and nothing is named
-  pub goes-silent : {m : MemberState} → ModelStep (B .z) (B .o) e i (silent m) → StepAfter B e i (accepted-event m t) M
-  unfolding proposals decisions
-  goes-silent {m} T =
-      subst (λ k. StepAfter B e i (accepted-event m k) M) (nothing-more t)
-      (accepted-after B M 0 0 0 T (silent-one T refl refl refl) refl refl refl (same-messages B) (same-nodes B e (named-by T)))
+  pub goes-silent : (m : MemberState) → AnswerIs (B .z) (B .o) e i m Done → StepAfter B e i (after-event was m (accepted-event t)) M
+  unfolding AnswerIs proposals decisions
+  goes-silent m T =
+      subst (λ k. StepAfter B e i (after-event was m (accepted-event k)) M) (nothing-more t)
+      (accepted-after B was M 0 0 0 T (silent-one T refl refl refl) refl refl refl (same-messages B) (same-nodes B e (named-by T)))
 
   -- a message is sent and nothing is named
   goes-sent : {m : MemberState} {g : Message} (store′ : List ℕ) → ModelStep (B .z) (B .o) e i (sends m g) → t .sent < store-rows (M .store) →
       length store′ ≡ length (M .store) → store′ ≡ put-row (M .store) (t .sent) g →
-      StepAfter B e i (accepted-event m (counted t 1 0 0)) (in-memory store′ (M .table))
+      StepAfter B e i (after-event was m (accepted-event (counted t 1 0 0))) (in-memory store′ (M .table))
   unfolding proposals decisions
   goes-sent {m} {g} store′ T h l w =
-      accepted-after B (in-memory store′ (M .table)) 1 0 0 T (sent-one T refl refl (free B h) refl) refl refl refl (put-behind B g store′ h l w)
+      accepted-after B was (in-memory store′ (M .table)) 1 0 0 T (sent-one T refl refl (free B h) refl) refl refl refl (put-behind B g store′ h l w)
       (same-nodes B e (named-by T))
 
   -- the proposal is sent and added
   goes-proposed : {m : MemberState} {g : Message} {r x b : ℕ} (M′ : Memory) → ModelStep (B .z) (B .o) e i (proposing m g r x b) →
       t .sent < store-rows (M .store) → t .proposals + 1 < rows (M .table) → length (M′ .store) ≡ length (M .store) →
       M′ .store ≡ put-row (M .store) (t .sent) g → length (M′ .table) ≡ length (M .table) → M′ .table ≡ stepped-table true (M .table) (add r x b) →
-      StepAfter B e i (accepted-event m (counted t 1 1 0)) M′
+      StepAfter B e i (after-event was m (accepted-event (counted t 1 1 0))) M′
   unfolding proposals decisions
   goes-proposed {m} {g} {r} {x} {b} M′ T h f l w l′ q =
-      accepted-after B M′ 1 1 0 T
+      accepted-after B was M′ 1 1 0 T
       (proposed-one T refl refl (free B h) refl (omega (arith, B .sizes .table-is, B .represents .slot .proposed))) refl refl refl
       (put-behind B g (M′ .store) h l w)
       (stepped B (add r x b) (M′ .table) q l′ ∙ ap (table (length (M′ .table))) (sym (tree-proposal (B .z) (B .o) e r x b (named-by T))))
 
   -- the decision is committed
-  pub decides-go : {m : MemberState} {r x : ℕ} {w : AfterEvent} {ws′ : List ℕ} → ModelStep (B .z) (B .o) e i (deciding m r x) →
-      DecisionEffect t m (commit r) (M .table) w ws′ → length ws′ ≡ length (M .table) → StepAfter B e i w (in-memory (M .store) ws′)
-  unfolding proposals decisions
-  decides-go {m} {r} {x} {w} {ws′} T P l =
-      as-result B w (P .result-is)
-      (accepted-after B (in-memory (M .store) ws′) 0 0 1 T (silent-one T refl refl refl) refl refl refl (same-messages B)
-      (stepped B (commit r) ws′ (P .table-is) l ∙ ap (table (length ws′)) (sym (tree-decision (B .z) (B .o) e r x (named-by T)))))
+  pub decides-go : (m : MemberState) {r : Round} (x : ℕ) {w : EventEffect} {ws′ : List ℕ} → AnswerIs (B .z) (B .o) e i m (Decided r x) →
+      DecisionEffect t (commit (r .0)) (M .table) w ws′ → length ws′ ≡ length (M .table) → StepAfter B e i (after-event was m w) (in-memory (M .store) ws′)
+  unfolding AnswerIs proposals decisions
+  decides-go m {r} x {w} {ws′} T P l =
+      as-result B was m w (P .result-is)
+      (accepted-after B was (in-memory (M .store) ws′) 0 0 1 T (silent-one T refl refl refl) refl refl refl (same-messages B)
+      (stepped B (commit (r .0)) ws′ (P .table-is) l ∙ ap (table (length ws′)) (sym (tree-decision (B .z) (B .o) e (r .0) x (named-by T)))))
 
-  module _ {was : MemberState} (H : RecordAt (B .members) i was) where
+  module _ (H : RecordAt (B .members) i was) where
     -- a refusal leaves the record
-    pub refuses : {n : ℕ} {m : MemberState} → ModelStep (B .z) (B .o) e i (refused n m) → (n ≡ 0 → ⊥) → n < 256 → StepAfter B e i (refused-event was t n) M
-    refuses T h small = refused-after B H (refused-step T h) h small
+    pub refuses : (m : MemberState) {k : ℕ} → AnswerIs (B .z) (B .o) e i m (Refused k) → StepAfter B e i (after-event was m (refused-event t k)) M
+    unfolding AnswerIs
+    refuses m R = refused-after B was m H R
 
     -- no row of the store is free
-    fills : {u : Outcome} → ModelStep (B .z) (B .o) e i u → u .number ≡ 0 → sends-one (u .sent) ≡ true → store-rows (M .store) ≤ t .sent →
-        StepAfter B e i (refused-event was t STORE-FULL) M
-    fills T n s h =
-        refused-after B H (no-store-row T n s (omega (arith, B .sizes .store-is, B .represents .shared .sent-count))) (λ q. omega arith) (omega arith)
+    fills : (m : MemberState) {u : Outcome} → ModelStep (B .z) (B .o) e i u → u .number ≡ 0 → sends-one (u .sent) ≡ true → store-rows (M .store) ≤ t .sent →
+        StepAfter B e i (after-event was m (refused-event t STORE-FULL)) M
+    fills m T n s h =
+        refused-after B was m H
+        (record {
+          number-is = no-store-row T n s (omega (arith, B .sizes .store-is, B .represents .shared .sent-count));
+          some = λ q. omega arith;
+          small = omega arith;
+        })
 
     -- no row of the table is free
     has-no-row : {m : MemberState} {g : Message} {r x b : ℕ} → ModelStep (B .z) (B .o) e i (proposing m g r x b) → t .sent < store-rows (M .store) →
-        rows (M .table) ≤ t .proposals + 1 → StepAfter B e i (refused-event was t NO-FREE-ROW) M
-    has-no-row T h f =
-        refused-after B H (no-table-row T refl refl (free B h) refl (omega (arith, B .sizes .table-is, B .represents .slot .proposed)))
-        (λ q. omega arith) (omega arith)
+        rows (M .table) ≤ t .proposals + 1 → StepAfter B e i (after-event was m (refused-event t NO-FREE-ROW)) M
+    has-no-row {m} T h f =
+        refused-after B was m H
+        (record {
+          number-is = no-table-row T refl refl (free B h) refl (omega (arith, B .sizes .table-is, B .represents .slot .proposed));
+          some = λ q. omega arith;
+          small = omega arith;
+        })
 
-    pub sends-go : {m : MemberState} {g : Message} {w : AfterEvent} {store′ : List ℕ} → ModelStep (B .z) (B .o) e i (sends m g) →
-        SendEffect t was m g (M .store) w store′ → length store′ ≡ length (M .store) → StepAfter B e i w (in-memory store′ (M .table))
-    sends-go {m} {g} {w} {store′} T P l =
+    pub sends-go : (m : MemberState) {g : Message} {w : EventEffect} {store′ : List ℕ} → AnswerIs (B .z) (B .o) e i m (Sent g) →
+        SendEffect t g (M .store) w store′ → length store′ ≡ length (M .store) → StepAfter B e i (after-event was m w) (in-memory store′ (M .table))
+    unfolding AnswerIs
+    sends-go m {g} {w} {store′} T P l =
         by-test (no-room-to-send t (M .store))
         (λ f.
         let s : store′ ≡ M .store = rw f at (P .store-is) in
-        rw s (as-result B w (rw f at (P .result-is)) (fills T refl refl (leb-true _ _ f))))
-        (λ f. as-result B w (rw f at (P .result-is)) (goes-sent store′ T (leb-false _ _ f) l (rw f at (P .store-is))))
+        rw s (as-result B was m w (rw f at (P .result-is)) (fills m T refl refl (leb-true _ _ f))))
+        (λ f. as-result B was m w (rw f at (P .result-is)) (goes-sent store′ T (leb-false _ _ f) l (rw f at (P .store-is))))
 
-    pub proposes-go : {m : MemberState} {g : Message} {r x b : ℕ} {w : AfterEvent} {M′ : Memory} → ModelStep (B .z) (B .o) e i (proposing m g r x b) →
-        ProposalEffect t was m g (add r x b) M w M′ → length (M′ .store) ≡ length (M .store) → length (M′ .table) ≡ length (M .table) → StepAfter B e i w M′
-    proposes-go {m} {g} {r} {x} {b} {w} {M′} T P l l′ =
+    pub proposes-go : (m : MemberState) {g : Message} {r : Round} {x : ℕ} {b : Round} {w : EventEffect} {M′ : Memory} →
+        AnswerIs (B .z) (B .o) e i m (Proposed g r x b) → ProposalEffect t g (add (r .0) x (b .0)) M w M′ →
+        length (M′ .store) ≡ length (M .store) → length (M′ .table) ≡ length (M .table) → StepAfter B e i (after-event was m w) M′
+    unfolding AnswerIs
+    proposes-go m {w = w} {M′} T P l l′ =
         by-test (no-room-to-send t (M .store))
-        (λ f. left (rw f at (P .store-is)) (rw f at (P .table-is)) (rw f at (P .result-is)) (fills T refl refl (leb-true _ _ f)))
+        (λ f. left (rw f at (P .store-is)) (rw f at (P .table-is)) (rw f at (P .result-is)) (fills m T refl refl (leb-true _ _ f)))
         (λ f. by-test (no-room-to-propose t (M .table))
         (λ h. left (rw (f, h) at (P .store-is)) (rw (f, h) at (P .table-is)) (rw (f, h) at (P .result-is)) (has-no-row T (leb-false _ _ f) (leb-true _ _ h)))
         (λ h.
-        as-result B w (rw (f, h) at (P .result-is))
+        as-result B was m w (rw (f, h) at (P .result-is))
         (goes-proposed M′ T (leb-false _ _ f) (leb-false _ _ h) l (rw (f, h) at (P .store-is)) l′ (rw (f, h) at (P .table-is)))))
       where
         -- a refused proposal leaves the memory
-        left : {v : AfterEvent} → M′ .store ≡ M .store → M′ .table ≡ M .table → w ≡ v → StepAfter B e i v M → StepAfter B e i w M′
-        left s q v A = let same : M′ ≡ M = λ j. in-memory (s j) (q j) in rw same (as-result B w v A)
+        left : {v : EventEffect} → M′ .store ≡ M .store → M′ .table ≡ M .table → w ≡ v → StepAfter B e i (after-event was m v) M →
+            StepAfter B e i (after-event was m w) M′
+        left s q v A = let same : M′ ≡ M = λ j. in-memory (s j) (q j) in rw same (as-result B was m w v A)

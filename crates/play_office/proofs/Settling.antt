@@ -9,7 +9,7 @@ use lib.Seq.{take-set-lt}
 use lib.Dec.{eqb}
 use borrow.Author.Tests.{eq-eqb, ne-eqb, le-leb, lt-leb}
 use Rattle.laws.specs.First.{first, _gives_}
-use Rattle.numbers.specs.Numbers.{NO-FREE-ROW, STORE-FULL, no-row-left}
+use Rattle.numbers.specs.Numbers.{OK, NO-FREE-ROW, STORE-FULL, no-row-left}
 use Rattle.tree_theory.specs.Table.{table}
 use Rattle.member_record.specs.declared.MemberState.{MemberState}
 use Rattle.member.specs.Table.{Outcome}
@@ -17,14 +17,14 @@ use Rattle.model.specs.Model.{Sizes, Event, Office, at-member, sends-one, propo
 use Rattle.model.specs.Counts.{made-tree, decisions}
 use Rattle.model.proofs.Made.{proposals-append, decisions-append}
 use Rattle.play_store.specs.Rows.{stored}
-use Rattle.play_effects.specs.declared.AfterEvent.{AfterEvent}
+use Rattle.play_effects.specs.declared.EventEffect.{EventEffect}
 use Rattle.play_effects.specs.declared.Tally.{Tally}
 use Rattle.play_effects.specs.Memory.{Memory}
 use Rattle.play_effects.specs.Effects.{counted, refused-event, accepted-event}
-use Rattle.play_office.specs.Represents.{RecordAt, Represents, StepBefore, StepAfter, ModelStep}
+use Rattle.play_office.specs.Represents.{RecordAt, Represents, StepBefore, StepAfter, ModelStep, RefusedWith, after-event}
 
 -- a record put back where it was
-set-same : (ms : List MemberState) (i : ℕ) (m : MemberState) → RecordAt ms i m → set ms i m ≡ ms
+pub set-same : (ms : List MemberState) (i : ℕ) (m : MemberState) → RecordAt ms i m → set ms i m ≡ ms
 set-same [] i m h = absurd (omega (arith, h .within))
 set-same (x ∷ ms) zero m h = ap (λ y. y ∷ ms) (sym (h .is m))
 set-same (x ∷ ms) (suc i) m h = ap (λ l. x ∷ l) (set-same ms i m (record { within = omega (arith, h .within); is = h .is }))
@@ -61,25 +61,27 @@ module _ {z : Sizes} {o : Office} {e : Event} {i : ℕ} {u : Outcome} (T : Model
 
 module _ {t : Tally} {M : Memory} (B : StepBefore t M) {e : Event} {i : ℕ} where
   -- what the code hands back
-  pub as-result : {M′ : Memory} (w : AfterEvent) {v : AfterEvent} → w ≡ v → StepAfter B e i v M′ → StepAfter B e i w M′
-  as-result {M′} w q A = subst (λ (v : AfterEvent). StepAfter B e i v M′) (sym q) A
+  pub as-result : (was m : MemberState) {M′ : Memory} (w : EventEffect) {v : EventEffect} → w ≡ v → StepAfter B e i (after-event was m v) M′ →
+      StepAfter B e i (after-event was m w) M′
+  as-result was m {M′} w q A = subst (λ (v : EventEffect). StepAfter B e i (after-event was m v) M′) (sym q) A
 
-  -- a refused event changes nothing, and its record is put back
-  pub refused-after : {m : MemberState} {number : ℕ} → RecordAt (B .members) i m → event-answer (B .z) (B .o) e ≡ number → (number ≡ 0 → ⊥) → number < 256 →
-      StepAfter B e i (refused-event m t number) M
+  -- a refused event changes nothing
+  pub refused-after : (was m : MemberState) {k : ℕ} → RecordAt (B .members) i was → RefusedWith (B .z) (B .o) e k →
+      StepAfter B e i (after-event was m (refused-event t k)) M
   unfolding next
-  refused-after {m} H a n small =
-      let r : eqb (event-answer (B .z) (B .o) e) 0 ≡ false = ne-eqb (event-answer (B .z) (B .o) e) 0 (λ q. n (sym a ∙ q)) in
-      record { number-is = sym a; small = small; represents = rw (r, set-same (B .members) i m H) (B .represents) }
+  refused-after was m {k} H R =
+      let r : eqb (event-answer (B .z) (B .o) e) 0 ≡ false = ne-eqb (event-answer (B .z) (B .o) e) 0 (λ q. R .some (sym (R .number-is) ∙ q)) in
+      let n : eqb k OK ≡ false = ne-eqb k OK (R .some) in
+      record { number-is = sym (R .number-is); small = R .small; represents = rw (r, n, set-same (B .members) i was H) (B .represents) }
 
   -- an accepted one takes its step
-  pub accepted-after : {u : Outcome} (M′ : Memory) (a b c : ℕ) → ModelStep (B .z) (B .o) e i u → event-answer (B .z) (B .o) e ≡ 0 →
+  pub accepted-after : (was : MemberState) {u : Outcome} (M′ : Memory) (a b c : ℕ) → ModelStep (B .z) (B .o) e i u → event-answer (B .z) (B .o) e ≡ 0 →
       length (u .sent) ≡ a → proposals (made-by (u .named)) ≡ b → decisions (made-by (u .named)) ≡ c →
       M′ .store ≡ stored (length (M′ .store)) (B .o .sent ++ u .sent) →
       M′ .table ≡ table (length (M′ .table)) (made-tree (B .z) (taken (B .z) (B .o) e)) →
-      StepAfter B e i (accepted-event (u .state) (counted t a b c)) M′
+      StepAfter B e i (after-event was (u .state) (accepted-event (counted t a b c))) M′
   unfolding next taken
-  accepted-after {u} M′ a b c T zero-answer ea eb ec es en =
+  accepted-after was {u} M′ a b c T zero-answer ea eb ec es en =
       let z = B .z in
       let o = B .o in
       let R = B .represents in

@@ -13,26 +13,31 @@ use Rattle.member.specs.declared.MemberStep.{MemberStep}
 use Rattle.member_record.specs.Record.{sound, round-number}
 use Rattle.member.specs.Answers.{step-outcome}
 use Rattle.member.specs.Kept.{StepOf}
-use Rattle.member.specs.Table.{Outcome, sound-step}
+use Rattle.member.specs.Table.{sound-step}
 use Rattle.member.specs.Table.{MemberEvent, starts, delivers}
 use Rattle.model.specs.Model.{Event, start, deliver, at-member, unsent, absent, event-of, message-at, member-at, event-causes, event-answer}
 use Rattle.model.proofs.Kept.{step-is-sound, message-in}
 use Rattle.play_store.specs.Rows.{HasRow, fetched}
 use Rattle.play_store.proofs.Stored.{fetch-stored}
 use Rattle.play_effects.specs.declared.Tally.{Tally}
+use Rattle.play_effects.specs.declared.EventEffect.{EventEffect}
 use Rattle.play_effects.specs.Memory.{Memory}
-use Rattle.play_effects.specs.Effects.{refused-event}
-use Rattle.play_office.specs.Represents.{StepAfter, EventBefore, ModelStep, OutcomeBefore, place-of}
+use Rattle.play_office.specs.Represents.{EventBefore, ModelStep, RefusedWith, AnswerIs, EventWorked, AnswerTo, StepTaken, AnswerSettled, place-of, after-event, missed-step}
 use Rattle.play_office.proofs.Before.{allowed-seven, member-held}
-use Rattle.play_office.proofs.Settling.{refused-after}
+use Rattle.play_office.proofs.Arms.{answer-is}
 
 module _ {t : Tally} {m : MemberState} {e : Event} {M : Memory} (E : EventBefore t m e M) where
   -- 29: no such member, or no such message
-  pub no-such : absent (E .before .z) (E .before .o) e ≡ true → StepAfter (E .before) e (place-of (at-member e)) (refused-event m t NO-MEMBER-OR-MESSAGE) M
+  missed : absent (E .before .z) (E .before .o) e ≡ true → RefusedWith (E .before .z) (E .before .o) e NO-MEMBER-OR-MESSAGE
   unfolding event-answer event-causes
-  no-such h = refused-after (E .before) (E .record-at) (rw h refl) (λ q. omega arith) (omega arith)
+  missed h = record { number-is = rw h refl; some = λ q. omega arith; small = omega arith }
 
-  pub no-member : t .n ≤ at-member e → StepAfter (E .before) e (place-of (at-member e)) (refused-event m t NO-MEMBER-OR-MESSAGE) M
+  -- the step that the code gives then
+  pub no-such : absent (E .before .z) (E .before .o) e ≡ true → {s : MemberStep} → s ≡ missed-step m → AnswerTo E s
+  unfolding AnswerIs
+  no-such h q = rw q (missed h)
+
+  pub no-member : t .n ≤ at-member e → {s : MemberStep} → s ≡ missed-step m → AnswerTo E s
   no-member h = no-such (rw (le-leb (E .before .z .n) (at-member e) (omega (arith, E .before .represents .slot .size))) refl)
 
   module _ (h : at-member e < t .n) where
@@ -54,11 +59,11 @@ module _ {t : Tally} {m : MemberState} {e : Event} {M : Memory} (E : EventBefore
     sound-member = subst (λ r. sound r ≡ true) (sym record-held) model-sound
 
     -- the member's step at an event of the model
-    step-at : {v : MemberEvent} {s : MemberStep} → unsent (E .before .o) e ≡ false → v ≡ event-of (E .before .o) e → StepOf m v s →
-        ModelStep (E .before .z) (E .before .o) e (place-of (at-member e)) (step-outcome s)
-    step-at {v} u q P =
+    step-at : {v : MemberEvent} {s : MemberStep} → unsent (E .before .o) e ≡ false → v ≡ event-of (E .before .o) e → StepOf m v s → AnswerTo E s
+    step-at {v} {s} u q P =
         let z = E .before .z in
         let o = E .before .o in
+        let T : ModelStep z o e (place-of (at-member e)) (step-outcome s) =
         record {
           at = in-place;
           member = within;
@@ -66,19 +71,15 @@ module _ {t : Tally} {m : MemberState} {e : Event} {M : Memory} (E : EventBefore
           equals =
               P .equals ∙ ap (λ r. sound-step r v) record-held ∙ ap (sound-step (member-at z o (at-member e))) q ∙
               sym (step-is-sound z o (E .before .sound .ranged) e model-sound u);
-        }
-
--- what a step taken at an event comes to, to be settled
-abbrev pub to-settle : {t : Tally} {m : MemberState} {e : Event} {M : Memory} {u : Outcome} (E : EventBefore t m e M) →
-    ModelStep (E .before .z) (E .before .o) e (place-of (at-member e)) u → OutcomeBefore t m u M
-to-settle {e = e} E T = record { before = E .before; i = place-of (at-member e); record-at = E .record-at; e = e; step = T }
+        } in
+        answer-is (s .state) (s .answer) T (P .numbered) (P .kept)
 
 pub step-start : {t : Tally} {m : MemberState} {k r x : ℕ} {M : Memory} {s : MemberStep} (E : EventBefore t m (start k r x) M) → k < t .n →
-    StepOf m (starts (round-number r) x) s → ModelStep (E .before .z) (E .before .o) (start k r x) (place-of k) (step-outcome s)
+    StepOf m (starts (round-number r) x) s → AnswerTo E s
 step-start E h P = step-at E h refl refl P
 
 module _ {t : Tally} {m : MemberState} {row k : ℕ} {M : Memory} (E : EventBefore t m (deliver row k) M) where
-  pub no-message : k < t .n → t .sent ≤ row → StepAfter (E .before) (deliver row k) (place-of k) (refused-event m t NO-MEMBER-OR-MESSAGE) M
+  pub no-message : k < t .n → t .sent ≤ row → {s : MemberStep} → s ≡ missed-step m → AnswerTo E s
   no-message a h =
       let R = E .before .represents in
       let member = lt-leb (E .before .z .n) k (omega (arith, R .slot .size)) in
@@ -103,6 +104,11 @@ module _ {t : Tally} {m : MemberState} {row k : ℕ} {M : Memory} (E : EventBefo
     pub row-ranged : {g : Message} → g ≡ fetched (M .store) row → in-range g ≡ true
     row-ranged e = rw (e ∙ row-reads) (E .before .sound .ranged (message-at (E .before .o) row) (message-in (E .before .o) row k there))
 
-    pub step-deliver : {g : Message} {s : MemberStep} → k < t .n → g ≡ fetched (M .store) row → StepOf m (delivers g) s →
-        ModelStep (E .before .z) (E .before .o) (deliver row k) (place-of k) (step-outcome s)
+    pub step-deliver : {g : Message} {s : MemberStep} → k < t .n → g ≡ fetched (M .store) row → StepOf m (delivers g) s → AnswerTo E s
     step-deliver a e P = step-at E a there (ap delivers (e ∙ row-reads)) P
+
+-- a step taken and settled is an event worked
+pub worked : {t : Tally} {m : MemberState} {e : Event} {M M′ : Memory} (s : MemberStep) {w : EventEffect} → StepTaken t m e (M .store) s →
+    AnswerSettled t (s .answer) M w M′ → EventWorked t m e M (after-event m (s .state) w) M′
+worked {e = e} {M} s T A E =
+    A (record { before = E .before; e = e; i = place-of (at-member e); m = s .state; is = T (M .table) E }) _ (E .record-at)

@@ -4,19 +4,24 @@ use mathlib.Core.Bool.{true, false, cond}
 use mathlib.Core.List.{List}
 use Prim.Native.Nat.{ℕ, _<_}
 use lib.ListN.{length, getD, set, take}
-use lib.Dec.{ltb}
+use lib.Dec.{ltb, eqb}
+use Rattle.numbers.specs.Numbers.{OK, NO-MEMBER-OR-MESSAGE}
 use Rattle.tree_theory.specs.Table.{rows, sized, table}
 use Rattle.message.specs.declared.Message.{Message}
 use Rattle.member_record.specs.declared.MemberState.{MemberState}
 use Rattle.member_record.specs.Record.{allowed}
+use Rattle.member.specs.declared.StepAnswer.{StepAnswer}
+use Rattle.member.specs.declared.StepAnswer.the-variants.{Refused, Sent, Done, Proposed, Decided}
+use Rattle.member.specs.declared.MemberStep.{MemberStep}
+use Rattle.member.specs.Answers.{answer-outcome}
 use Rattle.member.specs.Table.{Outcome}
 use Rattle.model.specs.Model.{Sizes, Event, Office, fresh-members, event-answer, next, event-outcome, at-member, unsent, proposals}
 use Rattle.model.specs.Counts.{made-tree, decisions}
 use Rattle.model.specs.Sound.{SoundOffice}
 use Rattle.play_store.specs.Rows.{store-rows, store-sized, stored}
-use Rattle.play_effects.specs.declared.AfterEvent.{AfterEvent}
+use Rattle.play_effects.specs.declared.EventEffect.{EventEffect}
 use Rattle.play_effects.specs.declared.Tally.{Tally}
-use Rattle.play_effects.specs.Memory.{Memory}
+use Rattle.play_effects.specs.Memory.{Memory, in-memory}
 use Rattle.play_office.specs.declared.PlayedOffice.{PlayedOffice}
 
 -- the office at first; its array has seven records
@@ -69,6 +74,16 @@ pub record StepBefore (t : Tally) (M : Memory) : Type 0 where
   pub sound : SoundOffice z o
   pub represents : Represents z o t members M
 
+-- what an event leaves: the member's record, the tally, its number
+pub record AfterEvent : Type 0 where
+  pub state : MemberState
+  pub tally : Tally
+  pub number : ℕ
+
+-- a refused event leaves the record m, an accepted one has taken the step to m′
+abbrev pub after-event : MemberState → MemberState → EventEffect → AfterEvent
+after-event m m′ w = record { state = cond (eqb (w .number) OK) m′ m; tally = w .tally; number = w .number }
+
 -- after the step of the event e at the record of place i: the model's number, and the memory represents the model's next state
 pub record StepAfter {t : Tally} {M : Memory} (B : StepBefore t M) (e : Event) (i : ℕ) (w : AfterEvent) (M′ : Memory) : Type 0 where
   pub number-is : w .number ≡ event-answer (B .z) (B .o) e
@@ -92,14 +107,54 @@ pub record ModelStep (z : Sizes) (o : Office) (e : Event) (i : ℕ) (u : Outcome
   pub there : unsent o e ≡ false
   pub equals : u ≡ event-outcome z o e
 
--- before a step is settled: it was taken by the member with record m, at some event, and comes to u
-pub record OutcomeBefore (t : Tally) (m : MemberState) (u : Outcome) (M : Memory) : Type 0 where
-  pub before : StepBefore t M
-  pub i : ℕ
-  pub record-at : RecordAt (before .members) i m
-  pub e : Event
-  pub step : ModelStep (before .z) (before .o) e i u
+-- the event e is refused with k
+pub record RefusedWith (z : Sizes) (o : Office) (e : Event) (k : ℕ) : Type 0 where
+  pub number-is : event-answer z o e ≡ k
+  pub some : k ≡ OK → ⊥
+  pub small : k < 256
 
--- a step was settled: whatever the memory represented before, and whatever the event was
-abbrev pub OutcomeSettled : Tally → MemberState → Outcome → Memory → AfterEvent → Memory → Type 0
-OutcomeSettled t m u M w M′ = (F : OutcomeBefore t m u M) → StepAfter (F .before) (F .e) (F .i) w M′
+-- what an answer to the event e says of the model: its refusal, or a step of its member to the record m
+unfoldable pub AnswerIs : Sizes → Office → Event → ℕ → MemberState → StepAnswer → Type 0
+AnswerIs z o e i m (Refused k) = RefusedWith z o e k
+AnswerIs z o e i m (Sent g) = ModelStep z o e i (answer-outcome m (Sent g))
+AnswerIs z o e i m Done = ModelStep z o e i (answer-outcome m Done)
+AnswerIs z o e i m (Proposed g r x b) = ModelStep z o e i (answer-outcome m (Proposed g r x b))
+AnswerIs z o e i m (Decided r x) = ModelStep z o e i (answer-outcome m (Decided r x))
+
+-- 29: no such member or message
+abbrev pub missed-step : MemberState → MemberStep
+missed-step m = record { state = m; answer = Refused NO-MEMBER-OR-MESSAGE; lasting = false }
+
+-- before the step of an event, which is lent the store alone; that of a start isn't lent even that
+pub record StepDue (t : Tally) (m : MemberState) (e : Event) (store : List ℕ) : Type 0 where
+  pub table : List ℕ
+  pub event : EventBefore t m e (in-memory store table)
+
+pub record StartDue (t : Tally) (m : MemberState) (e : Event) : Type 0 where
+  pub memory : Memory
+  pub event : EventBefore t m e memory
+
+-- the step is an answer to the event
+abbrev pub AnswerTo : {t : Tally} {m : MemberState} {e : Event} {M : Memory} → EventBefore t m e M → MemberStep → Type 0
+AnswerTo {e = e} E s = AnswerIs (E .before .z) (E .before .o) e (place-of (at-member e)) (s .state) (s .answer)
+
+-- the step was taken: whatever the memory represented
+abbrev pub StepTaken : Tally → MemberState → Event → List ℕ → MemberStep → Type 0
+StepTaken t m e store s = (table : List ℕ) (E : EventBefore t m e (in-memory store table)) → AnswerTo E s
+
+abbrev pub StartTaken : Tally → MemberState → Event → MemberStep → Type 0
+StartTaken t m e s = (M : Memory) (E : EventBefore t m e M) → AnswerTo E s
+
+-- before an answer takes effect: it was given to the event e, and its step leads to the record m
+pub record AnswerBefore (t : Tally) (a : StepAnswer) (M : Memory) : Type 0 where
+  pub before : StepBefore t M
+  pub e : Event
+  pub i : ℕ
+  pub m : MemberState
+  pub is : AnswerIs (before .z) (before .o) e i m a
+
+-- the answer took effect: whatever the memory represented before, and whatever the event and its member's record were
+abbrev pub AnswerSettled : Tally → StepAnswer → Memory → EventEffect → Memory → Type 0
+AnswerSettled t a M w M′ =
+    (F : AnswerBefore t a M) (was : MemberState) → RecordAt (F .before .members) (F .i) was →
+    StepAfter (F .before) (F .e) (F .i) (after-event was (F .m) w) M′

@@ -1,18 +1,16 @@
-// One event of an office: a member step on what the event before it left (01, "Play"). An event takes the record of its member and how much
-// the office has sent, proposed and decided, and gives both back.
-use crate::settle;
+// The step of an event: that of its member, on what the event before it left (01, "Play"). It takes the member's record and how much the office
+// has sent, and writes nothing.
 use ids::Member;
 use ids::Round;
+use member::MemberStep;
+use member::StepAnswer;
 use member_record::MemberState;
-use play_effects::AfterEvent;
 use play_effects::Tally;
-use play_effects::refused_event;
 use play_events::PlayEvent;
 ghost use mathlib.Core.Path.{_≡_};
 ghost use Rattle.model.specs.Model.{at-member, start, deliver};
 ghost use Rattle.play_events.specs.Value.{model-event};
-ghost use Rattle.play_effects.specs.Memory.{in-memory};
-ghost use Rattle.play_office.specs.Represents.{EventBefore, EventWorked, place-of};
+ghost use Rattle.play_office.specs.Represents.{StartDue, StartTaken, StepDue, StepTaken, missed-step, place-of};
 
 // The place of a member's record.
 fn place_of(member: Member) -> usize
@@ -38,77 +36,55 @@ pub fn place(e: PlayEvent) -> usize
     }
 }
 
+// No such member or message: the record stays.
+fn no_such(m: MemberState) -> MemberStep
+    ensures { λ s. ⌜ s ≡ missed-step m ⌝ }
+{
+    MemberStep {
+        state: m,
+        answer: StepAnswer::Refused(numbers::NO_MEMBER_OR_MESSAGE),
+        lasting: false,
+    }
+}
+
 // A start: 29, or the member's step.
-fn work_start(
-    tally: Tally,
-    m: MemberState,
-    member: Member,
-    round: Round,
-    offer: u64,
-    messages: &mut [u8],
-    nodes: &mut [u64],
-) -> AfterEvent
-    requires { ⌜ EventBefore tally m (start (member .0) (round .0) offer) (in-memory (now messages) (now nodes)) ⌝ }
-    ensures { λ w. ⌜ EventWorked tally m (start (member .0) (round .0) offer) (in-memory (now (messages .entry)) (now (nodes .entry))) w
-        (in-memory (now (messages .exit)) (now (nodes .exit))) ⌝ }
+fn step_start(tally: Tally, m: MemberState, member: Member, round: Round, offer: u64) -> MemberStep
+    requires { ⌜ StartDue tally m (start (member .0) (round .0) offer) ⌝ }
+    ensures { λ s. ⌜ StartTaken tally m (start (member .0) (round .0) offer) s ⌝ }
 {
     if tally.n <= member.0 {
-        return refused_event(m, tally, numbers::NO_MEMBER_OR_MESSAGE);
+        return no_such(m);
     }
-    let s = member::start_sound(m, round, offer);
-    settle(tally, m, s, messages, nodes)
+    member::start_sound(m, round, offer)
 }
 
 // A delivery: 29, or the member's step at the message of that row.
-fn work_deliver(
-    tally: Tally,
-    m: MemberState,
-    message: u32,
-    member: Member,
-    messages: &mut [u8],
-    nodes: &mut [u64],
-) -> AfterEvent
-    requires { ⌜ EventBefore tally m (deliver message (member .0)) (in-memory (now messages) (now nodes)) ⌝ }
-    ensures { λ w. ⌜ EventWorked tally m (deliver message (member .0)) (in-memory (now (messages .entry)) (now (nodes .entry))) w
-        (in-memory (now (messages .exit)) (now (nodes .exit))) ⌝ }
+fn step_deliver(tally: Tally, m: MemberState, message: u32, member: Member, messages: &[u8]) -> MemberStep
+    requires { ⌜ StepDue tally m (deliver message (member .0)) (now messages) ⌝ }
+    ensures { λ s. ⌜ StepTaken tally m (deliver message (member .0)) (now (messages .entry)) s ⌝ }
 {
     if tally.n <= member.0 {
-        return refused_event(m, tally, numbers::NO_MEMBER_OR_MESSAGE);
+        return no_such(m);
     }
     let row = message as usize;
     if tally.sent <= row {
-        return refused_event(m, tally, numbers::NO_MEMBER_OR_MESSAGE);
+        return no_such(m);
     }
     let g = play_store::fetch(messages, row);
-    let s = member::deliver_sound(m, g);
-    settle(tally, m, s, messages, nodes)
+    member::deliver_sound(m, g)
 }
 
-// One event, at its member's record.
-pub fn work(
-    tally: Tally,
-    m: MemberState,
-    e: PlayEvent,
-    messages: &mut [u8],
-    nodes: &mut [u64],
-) -> AfterEvent
-    requires { ⌜ EventBefore tally m (model-event e) (in-memory (now messages) (now nodes)) ⌝ }
-    ensures { λ w. ⌜ EventWorked tally m (model-event e) (in-memory (now (messages .entry)) (now (nodes .entry))) w
-        (in-memory (now (messages .exit)) (now (nodes .exit))) ⌝ }
+// The step of an event's member.
+pub fn step(tally: Tally, m: MemberState, e: PlayEvent, messages: &[u8]) -> MemberStep
+    requires { ⌜ StepDue tally m (model-event e) (now messages) ⌝ }
+    ensures { λ s. ⌜ StepTaken tally m (model-event e) (now (messages .entry)) s ⌝ }
 {
     match e {
         PlayEvent::Start {
             member,
             round,
             offer,
-        } => work_start(tally, m, member, round, offer, messages, nodes),
-        PlayEvent::Deliver { message, member } => work_deliver(
-            tally,
-            m,
-            message,
-            member,
-            messages,
-            nodes,
-        ),
+        } => step_start(tally, m, member, round, offer),
+        PlayEvent::Deliver { message, member } => step_deliver(tally, m, message, member, messages),
     }
 }

@@ -1,24 +1,21 @@
-// An office in play: its members by value, what it counts, and what becomes of a member's step (01, "Play").
+// An office in play: its members by value, what it counts, and what the answer of a member's step comes to (01, "Play").
 pub mod event;
 
 use ids::Member;
-use member::MemberStep;
 use member::StepAnswer;
 use member_record::MemberState;
 use member_record::fresh_record;
-use play_effects::AfterEvent;
+use play_effects::EventEffect;
 use play_effects::Tally;
 use play_effects::decide;
 use play_effects::propose;
 use play_effects::refused_event;
 use play_effects::send;
 ghost use mathlib.Core.Path.{_≡_};
-ghost use mathlib.Core.Bool.{true};
 ghost use Rattle.member_record.specs.Record.{fresh-record};
-ghost use Rattle.member.specs.Answers.{step-outcome, numbered-answer};
 ghost use Rattle.model.specs.Model.{member-number};
 ghost use Rattle.play_effects.specs.Memory.{in-memory};
-ghost use Rattle.play_office.specs.Represents.{OutcomeBefore, OutcomeSettled, fresh-office};
+ghost use Rattle.play_office.specs.Represents.{AnswerBefore, AnswerSettled, fresh-office};
 
 pub struct PlayedOffice {
     pub tally: Tally,
@@ -57,34 +54,25 @@ pub fn fresh_office(n: u32) -> PlayedOffice
     }
 }
 
-// What becomes of a step of the member with record m: its number, or what it sends and names.
-pub fn settle(
-    tally: Tally,
-    m: MemberState,
-    s: MemberStep,
-    messages: &mut [u8],
-    nodes: &mut [u64],
-) -> AfterEvent
-    requires { ⌜ OutcomeBefore tally m (step-outcome s) (in-memory (now messages) (now nodes)) × (numbered-answer (s .answer) ≡ true) ⌝ }
-    ensures { λ w. ⌜ OutcomeSettled tally m (step-outcome s) (in-memory (now (messages .entry)) (now (nodes .entry))) w
+// What the answer of a member's step comes to: its number, or what it sends and names.
+pub fn settle(tally: Tally, a: StepAnswer, messages: &mut [u8], nodes: &mut [u64]) -> EventEffect
+    requires { ⌜ AnswerBefore tally a (in-memory (now messages) (now nodes)) ⌝ }
+    ensures { λ w. ⌜ AnswerSettled tally a (in-memory (now (messages .entry)) (now (nodes .entry))) w
         (in-memory (now (messages .exit)) (now (nodes .exit))) ⌝ }
 {
-    let state = s.state;
-    let a = s.answer;
     match a {
-        StepAnswer::Refused(k) => refused_event(m, tally, k),
-        StepAnswer::Done => AfterEvent {
-            state,
+        StepAnswer::Refused(k) => refused_event(tally, k),
+        StepAnswer::Done => EventEffect {
             tally,
             number: numbers::OK,
         },
-        StepAnswer::Sent(g) => send(messages, tally, m, state, g),
+        StepAnswer::Sent(g) => send(messages, tally, g),
         StepAnswer::Proposed {
             sent,
             round,
             value,
             parent,
-        } => propose(messages, nodes, tally, m, state, sent, round, value, parent),
-        StepAnswer::Decided { round, value: _ } => decide(nodes, tally, state, round),
+        } => propose(messages, nodes, tally, sent, round, value, parent),
+        StepAnswer::Decided { round, value: _ } => decide(nodes, tally, round),
     }
 }

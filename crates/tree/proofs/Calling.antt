@@ -17,8 +17,8 @@ use Rattle.tree_theory.proofs.Steps.{step-tree, tree-number, tree-table, table-
 use Rattle.tree_steps.specs.Planned.{call-written, Planned}
 use Rattle.tree.specs.Promises.{stepped-table, CalledOnTable, CalledOnTree}
 
-module _ {valued : Bool} {ws : List ℕ} (h : sized ws ≡ true) (T : Tree valued ws) {c : Call} {number row status : ℕ}
-    (P : Planned valued ws c number row status) where
+module _ {valued : Bool} {ws : List ℕ} (h : sized ws ≡ true) (T : Tree valued ws) {c : Call} {number row status : ℕ} {strikes : Bool}
+    (P : Planned valued ws c number row status strikes) where
   -- a refused call leaves the table
   pub refused : (number ≡ OK → ⊥) → CalledOnTree valued ws c number ws
   refused z =

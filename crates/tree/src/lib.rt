@@ -34,7 +34,7 @@ fn call_on_tree(valued: bool, t: &mut [u64], call: TreeCall) -> u32
 {
     let plan = tree_steps::call::plan_call(valued, t, call);
     if plan.number == numbers::OK {
-        tree_steps::call::write_call(t, call, plan.row, plan.status);
+        tree_steps::call::write_call(t, call, plan.row, plan.status, plan.strikes);
     }
     plan.number
 }

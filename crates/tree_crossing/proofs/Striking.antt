@@ -1,12 +1,14 @@
--- One turn of the pass that strikes. Assumes nothing.
-use mathlib.Core.Path.{_≡_, refl, subst}
-use mathlib.Core.Bool.{cond}
-use mathlib.Core.List.{List}
+-- One turn of the pass that strikes, and where it has nothing to strike. Assumes nothing.
+use mathlib.Core.Path.{_≡_, refl, sym, ap, subst, _∙_}
+use mathlib.Core.Bool.{Bool, false, cond}
+use mathlib.Core.List.{List, [], _∷_, _++_, map}
 use Prim.Native.Nat.{ℕ, _+_, _*_, _≤_}
-use lib.ListN.{length, set}
-use Rattle.laws.specs.Tests.{by-test}
-use Rattle.tree_theory.specs.Machine.{ADDED, GHOST, crossed-with, strike-crossed}
-use Rattle.tree_theory.specs.Table.{row}
+use lib.ListN.{length, set, drop}
+use Rattle.laws.specs.Tests.{by-test, or-left, or-right}
+use Rattle.laws.specs.Lists.{any}
+use Rattle.tree_theory.specs.Machine.{Node, ADDED, GHOST, crossed-with, strike-crossed}
+use Rattle.tree_theory.specs.Table.{row, rows-of, words}
+use Rattle.tree_theory.proofs.Words.{words-rows}
 use Rattle.tree_table.proofs.Rows.{PassedRows, pass-row, pass-keep, pass-set}
 
 pub struck-more : (r p : ℕ) (t₀ : List ℕ) (i : ℕ) (t t′ : List ℕ) → PassedRows (strike-crossed r p) t₀ i t → 4 * i + 4 ≤ length t₀ →
@@ -18,3 +20,16 @@ struck-more r p t₀ i t t′ P h e =
     by-test (crossed-with ADDED r p (row t₀ i))
     (λ y. rw (rw y at e′) (pass-set (strike-crossed r p) t₀ i t GHOST P h (rw y refl)))
     (λ y. rw (rw y at e′) (pass-keep (strike-crossed r p) t₀ i t P h (rw y refl)))
+
+-- where no node is crossed, none is struck
+strike-none : (r p : ℕ) (ns : List Node) → any (crossed-with ADDED r p) ns ≡ false → map (strike-crossed r p) ns ≡ ns
+strike-none r p [] h = refl
+strike-none r p (n ∷ ns) h =
+    let P = crossed-with ADDED r p in
+    let here : P n ≡ false = or-left (P n) (any P ns) h in
+    rw here (ap (λ l. n ∷ l) (strike-none r p ns (or-right (P n) (any P ns) h)))
+
+-- and the table stays
+pub struck-none : (r p : ℕ) (ws : List ℕ) (n : ℕ) → 4 * n ≤ length ws → {b : Bool} → b ≡ any (crossed-with ADDED r p) (rows-of ws n) → b ≡ false →
+    ws ≡ words (map (strike-crossed r p) (rows-of ws n)) ++ drop (4 * n) ws
+struck-none r p ws n h e off = rw (strike-none r p (rows-of ws n) (sym e ∙ off)) (sym (words-rows ws n h))

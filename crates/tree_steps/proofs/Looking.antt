@@ -1,16 +1,18 @@
 -- One walk over the rows: how it goes on, where it ends, and what it says of the nodes. Assumes nothing.
 use mathlib.Core.Path.{_≡_, refl, sym, ap, subst, _∙_}
-use mathlib.Core.Bool.{true, false}
+use mathlib.Core.Bool.{Bool, true, false, _&&_, _||_, or-false, and-false, and-true}
 use mathlib.Core.List.{List}
 use Prim.Native.Nat.{ℕ, _+_, _-_, _*_, _≤_, _<_}
 use native.Mathlib.Omega.{arith}
 use lib.ListN.{length}
+use lib.Dec.{ltb, eqb}
+use borrow.Author.Tests.{le-ltb, lt-ltb, ne-eqb}
 use Rattle.laws.specs.Lists.{any}
-use Rattle.tree_theory.specs.Machine.{FREE, present, find, above, blocks}
+use Rattle.tree_theory.specs.Machine.{Node, FREE, ADDED, COMMITTED, has-round, present, find, above, blocks, crosses, crossed-with}
 use Rattle.tree_theory.specs.Table.{row, rows, rows-of, used-from, used, nodes}
 use Rattle.tree_theory.proofs.Words.{length-rows, used-rows}
 use Rattle.tree_table.specs.Rows.{row-index}
-use Rattle.tree_table.proofs.Rows.{used-stop, used-go, used-end, found-there, found-none, found-at}
+use Rattle.tree_table.proofs.Rows.{any-more, used-stop, used-go, used-end, found-there, found-none, found-at}
 use Rattle.tree_steps.specs.declared.look.Look.{Look}
 use Rattle.tree_steps.specs.Looked.{look-of}
 
@@ -20,7 +22,7 @@ pub record Walked (ws : List ℕ) (r p : ℕ) (l : Look) : Type 0 where
   pub within : l .used ≤ rows ws
   pub rest : used ws ≡ used-from ws (rows ws - l .used) (l .used)
 
-pub walk-start : (ws : List ℕ) (r p : ℕ) → Walked ws r p (record { used = 0; row = 0; parent = 0; above = false; blocked = false })
+pub walk-start : (ws : List ℕ) (r p : ℕ) → Walked ws r p (record { used = 0; present = false; parent = 0; above = false; blocked = false; strikes = false })
 unfolding rows-of row-index
 walk-start ws r p =
     let e : rows ws - 0 ≡ rows ws = omega arith in
@@ -49,6 +51,96 @@ module _ {ws : List ℕ} {r p : ℕ} {l : Look} (W : Walked ws r p l) where
   pub walk-end : rows ws ≤ l .used → l ≡ look-of r p (nodes ws)
   walk-end h = ended (W .rest ∙ used-end ws (rows ws) (l .used) h)
 
+-- one row more: each part goes by the row, which is above r, at r, between p and r, or not above p
+pub record LookedTo (ws : List ℕ) (r p : ℕ) (l : Look) : Type 0 where
+  pub is : l ≡ look-of r p (rows-of ws (l .used))
+
+module _ {ws : List ℕ} {r p : ℕ} {l : Look} (L : LookedTo ws r p l) where
+  abbrev more : Look
+  more = look-of r p (rows-of ws (l .used + 1))
+
+  -- a part that the row adds nothing to, and one that it does
+  part : (P : Node → Bool) {b c : Bool} → b ≡ any P (rows-of ws (l .used)) → c ≡ P (row ws (l .used)) → (b || c) ≡ any P (rows-of ws (l .used + 1))
+  part P eb ec = (λ j. eb j || ec j) ∙ sym (any-more P ws (l .used))
+
+  kept : (P : Node → Bool) {b : Bool} → b ≡ any P (rows-of ws (l .used)) → P (row ws (l .used)) ≡ false → b ≡ any P (rows-of ws (l .used + 1))
+  kept P {b} eb off = sym (or-false b) ∙ part P eb (sym off)
+
+  -- what was said so far
+  was-present : l .present ≡ present r (rows-of ws (l .used))
+  was-present = ap (λ (k : Look). k .present) (L .is)
+
+  was-above : l .above ≡ any (above r) (rows-of ws (l .used))
+  was-above = ap (λ (k : Look). k .above) (L .is)
+
+  was-blocked : l .blocked ≡ any (blocks r p) (rows-of ws (l .used))
+  was-blocked = ap (λ (k : Look). k .blocked) (L .is)
+
+  was-striking : l .strikes ≡ any (crossed-with ADDED r p) (rows-of ws (l .used))
+  was-striking = ap (λ (k : Look). k .strikes) (L .is)
+
+  -- not crossed, whatever its status
+  uncrossed : crosses r p (row ws (l .used) .round) ≡ false → (s : ℕ) → crossed-with s r p (row ws (l .used)) ≡ false
+  uncrossed off s = rw off (and-false (eqb (row ws (l .used) .status) s))
+
+  module _ {round parent : ℕ} (at : round ≡ row ws (l .used) .round) (found : parent ≡ row-index p (rows-of ws (l .used + 1))) where
+    count : l .used + 1 ≡ length (rows-of ws (l .used + 1))
+    count = sym (length-rows ws (l .used + 1))
+
+    pub look-beyond : r ≤ round →
+        record {
+          used = l .used + 1;
+          present = l .present || eqb round r;
+          parent = parent;
+          above = l .above || ltb r round;
+          blocked = l .blocked;
+          strikes = l .strikes;
+        } ≡ more
+    look-beyond h =
+        let off : crosses r p (row ws (l .used) .round) ≡ false = rw (← at) (rw (le-ltb round r h) (and-false (ltb p round))) in
+        let here = part (has-round r) was-present (ap (λ n. eqb n r) at) in
+        let over = part (above r) was-above (ap (ltb r) at) in
+        let block = kept (blocks r p) was-blocked (uncrossed off COMMITTED) in
+        let strike = kept (crossed-with ADDED r p) was-striking (uncrossed off ADDED) in
+        λ j. record { used = count j; present = here j; parent = found j; above = over j; blocked = block j; strikes = strike j }
+
+    -- a round below r
+    module _ (below : round < r) where
+      not-here : has-round r (row ws (l .used)) ≡ false
+      not-here = rw (← at) (ne-eqb round r (λ q. omega arith))
+
+      not-over : above r (row ws (l .used)) ≡ false
+      not-over = rw (← at) (le-ltb r round (omega arith))
+
+      pub look-before : round ≤ p →
+          record { used = l .used + 1; present = l .present; parent = parent; above = l .above; blocked = l .blocked; strikes = l .strikes } ≡ more
+      look-before h =
+          let off : crosses r p (row ws (l .used) .round) ≡ false = rw (← at) (rw (le-ltb p round h) refl) in
+          let here = kept (has-round r) was-present not-here in
+          let over = kept (above r) was-above not-over in
+          let block = kept (blocks r p) was-blocked (uncrossed off COMMITTED) in
+          let strike = kept (crossed-with ADDED r p) was-striking (uncrossed off ADDED) in
+          λ j. record { used = count j; present = here j; parent = found j; above = over j; blocked = block j; strikes = strike j }
+
+      pub look-crossed : p < round → {status : ℕ} → status ≡ row ws (l .used) .status →
+          record {
+            used = l .used + 1;
+            present = l .present;
+            parent = parent;
+            above = l .above;
+            blocked = l .blocked || eqb status COMMITTED;
+            strikes = l .strikes || eqb status ADDED;
+          } ≡ more
+      look-crossed h {status} es =
+          let on : crosses r p (row ws (l .used) .round) ≡ true = rw (← at) (rw (lt-ltb p round h, lt-ltb round r below) refl) in
+          let crossed : (s : ℕ) → eqb status s ≡ crossed-with s r p (row ws (l .used)) =
+          λ s. rw on (ap (λ n. eqb n s) es ∙ sym (and-true (eqb (row ws (l .used) .status) s))) in
+          let here = kept (has-round r) was-present not-here in
+          let over = kept (above r) was-above not-over in
+          let block = part (blocks r p) was-blocked (crossed COMMITTED) in
+          let strike = part (crossed-with ADDED r p) was-striking (crossed ADDED) in
+          λ j. record { used = count j; present = here j; parent = found j; above = over j; blocked = block j; strikes = strike j }
+
 -- what it says of the nodes
 pub record LookedAt (ws : List ℕ) (r p : ℕ) (l : Look) : Type 0 where
   pub is : l ≡ look-of r p (nodes ws)
@@ -57,8 +149,8 @@ module _ {ws : List ℕ} {r p : ℕ} {l : Look} (L : LookedAt ws r p l) where
   pub used-is : l .used ≡ used ws
   used-is = ap (λ (k : Look). k .used) (L .is) ∙ length-rows ws (used ws)
 
-  row-is : l .row ≡ row-index r (nodes ws)
-  row-is = ap (λ (k : Look). k .row) (L .is)
+  pub present-is : l .present ≡ present r (nodes ws)
+  present-is = ap (λ (k : Look). k .present) (L .is)
 
   parent-is : l .parent ≡ row-index p (nodes ws)
   parent-is = ap (λ (k : Look). k .parent) (L .is)
@@ -69,11 +161,9 @@ module _ {ws : List ℕ} {r p : ℕ} {l : Look} (L : LookedAt ws r p l) where
   pub blocked-is : l .blocked ≡ any (blocks r p) (nodes ws)
   blocked-is = ap (λ (k : Look). k .blocked) (L .is)
 
-  pub round-present : l .row < l .used → present r (nodes ws) ≡ true
-  round-present h = found-there ws (used ws) r row-is (omega (arith, used-is))
-
-  pub round-absent : l .used ≤ l .row → present r (nodes ws) ≡ false
-  round-absent h = found-none ws (used ws) r row-is (omega (arith, used-is))
+  -- the rows before that of the new node are the used ones
+  pub strikes-is : {n : ℕ} → n ≡ used ws → l .strikes ≡ any (crossed-with ADDED r p) (rows-of ws n)
+  strikes-is e = ap (λ (k : Look). k .strikes) (L .is) ∙ ap (λ n. any (crossed-with ADDED r p) (rows-of ws n)) (sym e)
 
   pub parent-present : l .parent < l .used → present p (nodes ws) ≡ true
   parent-present h = found-there ws (used ws) p parent-is (omega (arith, used-is))

@@ -14,7 +14,7 @@ use Rattle.laws.specs.Lists.{any, any-append, any-intro}
 use Rattle.laws.specs.First.{passed}
 use Rattle.ids.specs.Ranges.{out-of-range, above-range}
 use Rattle.numbers.specs.Numbers.{OK}
-use Rattle.tree_theory.specs.Machine.{Node, add, commit, ADDED, GHOST, COMMITTED, has-round, present, above, causes, answer}
+use Rattle.tree_theory.specs.Machine.{Node, add, commit, ADDED, GHOST, COMMITTED, has-round, present, above, crossed-with, causes, answer}
 use Rattle.tree_theory.specs.Machine.{struck, strike-crossed, commit-node, new-node, change}
 use Rattle.tree_theory.specs.Table.{row, rows, rows-of, used, nodes, words, sized, table, Tree}
 use Rattle.tree_theory.proofs.Words.{length-words, length-rows, used-rows, row-in, free-word}
@@ -74,15 +74,17 @@ module _ (valued : Bool) (ws : List ℕ) (h : sized ws ≡ true) (T : Tree value
       rw (same, free 4, m) refl
 
   pub add-planned : (r v p : ℕ) {number row status : ℕ} → number ≡ answer valued (rows ws) (nodes ws) (add r v p) → row ≡ used ws →
-      status ≡ cond (any (above r) (nodes ws)) GHOST ADDED → Planned valued ws (add r v p) number row status
+      status ≡ cond (any (above r) (nodes ws)) GHOST ADDED → {strikes : Bool} → strikes ≡ any (crossed-with ADDED r p) (rows-of ws row) →
+      Planned valued ws (add r v p) number row status strikes
   unfolding answer new-node
-  add-planned r v p e er es =
+  add-planned r v p e er es {strikes} ek =
       record {
         number-is = e;
         fits = λ z.
             let (a3, (a4, (a5, (a6, (a7, (a8, (a9, _))))))) = passed (causes valued (rows ws) (nodes ws) (add r v p)) refl (sym e ∙ z) in
             omega (arith, er, leb-false (rows ws) (length (nodes ws)) a9, length-rows ws (used ws));
         makes = λ z. rw (er, es) (inserted r v p (sym e ∙ z));
+        strikes-is = ek;
       }
 
   -- ---- commit
@@ -166,10 +168,11 @@ module _ (valued : Bool) (ws : List ℕ) (h : sized ws ≡ true) (T : Tree value
         let a : k < used ws = ltb-true k (used ws) (index-there ws (used ws) r ek′ ∙ there) in
         (a, ap (λ (n : Node). n .round) (sym (found-at ws (used ws) r ek′ a)) ∙ find-round r (nodes ws) there)
 
-    pub commit-planned : {status : ℕ} → status ≡ COMMITTED → Planned valued ws (commit r) number k status
+    pub commit-planned : {status : ℕ} → status ≡ COMMITTED → Planned valued ws (commit r) number k status false
     commit-planned es =
         record {
           number-is = answered;
           fits = λ z. omega (arith, accepted-row z .0, used-rows ws);
           makes = λ z. rw es (committed-row r k (accepted-row z .0) (accepted-row z .1));
+          strikes-is = refl;
         }

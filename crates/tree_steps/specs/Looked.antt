@@ -3,10 +3,17 @@ use mathlib.Core.List.{List}
 use Prim.Native.Nat.{ℕ}
 use lib.ListN.{length}
 use Rattle.laws.specs.Lists.{any}
-use Rattle.tree_theory.specs.Machine.{Node, above, blocks}
+use Rattle.tree_theory.specs.Machine.{Node, ADDED, present, above, blocks, crossed-with}
 use Rattle.tree_table.specs.Rows.{row-index}
 use Rattle.tree_steps.specs.declared.look.Look.{Look}
 
 abbrev pub look-of : ℕ → ℕ → List Node → Look
 look-of r p ns =
-    record { used = length ns; row = row-index r ns; parent = row-index p ns; above = any (above r) ns; blocked = any (blocks r p) ns }
+    record {
+      used = length ns;
+      present = present r ns;
+      parent = row-index p ns;
+      above = any (above r) ns;
+      blocked = any (blocks r p) ns;
+      strikes = any (crossed-with ADDED r p) ns;
+    }

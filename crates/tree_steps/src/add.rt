@@ -17,7 +17,7 @@ fn add_number(valued: bool, t: &[u64], l: Look, r: Round, v: u64, p: Round) -> u
     if !ids::in_range(r) {
         return numbers::ROUND_RANGE;
     }
-    if l.row < l.used {
+    if l.present {
         return numbers::ROUND_PRESENT;
     }
     let absent = l.used <= l.parent;
@@ -53,12 +53,13 @@ fn new_status(above: bool) -> u64
 // The node takes the first free row.
 pub fn plan_add(valued: bool, t: &[u64], r: Round, v: u64, p: Round) -> Plan
     requires { ⌜ (sized (now t) ≡ true) × Tree valued (now t) ⌝ }
-    ensures { λ q. ⌜ Planned valued (now (t .entry)) (add (r .0) v (p .0)) (q .number) (q .row) (q .status) ⌝ }
+    ensures { λ q. ⌜ Planned valued (now (t .entry)) (add (r .0) v (p .0)) (q .number) (q .row) (q .status) (q .strikes) ⌝ }
 {
     let l = crate::look::look_over(t, r.0 as u64, p.0 as u64);
     Plan {
         number: add_number(valued, t, l, r, v, p),
         row: l.used,
         status: new_status(l.above),
+        strikes: l.strikes,
     }
 }

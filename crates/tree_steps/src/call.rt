@@ -5,7 +5,7 @@ ghost use mathlib.Core.Bool.{true};
 ghost use Prim.Native.Nat.{_+_, _*_, _≤_};
 ghost use lib.ListN.{length};
 ghost use Rattle.tree_theory.specs.Table.{sized, Tree};
-ghost use Rattle.tree_steps.specs.Planned.{call-of, call-written, Planned};
+ghost use Rattle.tree_steps.specs.Planned.{call-of, call-written, call-strikes, Planned};
 
 pub enum TreeCall {
     Add {
@@ -18,17 +18,18 @@ pub enum TreeCall {
     },
 }
 
-// What a call comes to: its number and, where that is OK, the row that it writes and the status that it writes there.
+// What a call comes to: its number and, where that is OK, the row that it writes, the status that it writes there, and whether it strikes others.
 pub struct Plan {
     pub number: u32,
     pub row: usize,
     pub status: u64,
+    pub strikes: bool,
 }
 
 // `valued` says whether the tree's values are compared.
 pub fn plan_call(valued: bool, t: &[u64], call: TreeCall) -> Plan
     requires { ⌜ (sized (now t) ≡ true) × Tree valued (now t) ⌝ }
-    ensures { λ q. ⌜ Planned valued (now (t .entry)) (call-of call) (q .number) (q .row) (q .status) ⌝ }
+    ensures { λ q. ⌜ Planned valued (now (t .entry)) (call-of call) (q .number) (q .row) (q .status) (q .strikes) ⌝ }
 {
     match call {
         TreeCall::Add {
@@ -41,8 +42,8 @@ pub fn plan_call(valued: bool, t: &[u64], call: TreeCall) -> Plan
 }
 
 // Writes an accepted call into its row: an add puts its node there behind the rows that its edge strikes, a commit sets the status.
-pub fn write_call(t: &mut [u64], call: TreeCall, row: usize, status: u64)
-    requires { ⌜ 4 * row + 4 ≤ length (now t) ⌝ }
+pub fn write_call(t: &mut [u64], call: TreeCall, row: usize, status: u64, strikes: bool)
+    requires { ⌜ (4 * row + 4 ≤ length (now t)) × (strikes ≡ call-strikes (now t) (call-of call) row) ⌝ }
     ensures { λ _. ⌜ now (t .exit) ≡ call-written (now (t .entry)) (call-of call) row status ⌝ }
 {
     match call {
@@ -51,7 +52,7 @@ pub fn write_call(t: &mut [u64], call: TreeCall, row: usize, status: u64)
             value,
             parent,
         } => {
-            tree_crossing::strike(t, row, round.0 as u64, parent.0 as u64);
+            tree_crossing::strike_if(t, row, round.0 as u64, parent.0 as u64, strikes);
             tree_table::put_row(t, row, round.0 as u64, parent.0 as u64, value, status);
         }
         TreeCall::Commit { round: _ } => {

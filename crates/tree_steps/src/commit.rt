@@ -32,12 +32,13 @@ fn commit_number(t: &[u64], k: usize, r: Round) -> u32
 // Free rows have round 0, so that a search over all rows finds a used one. `valued` only says of which kind the tree is.
 pub fn plan_commit(valued: bool, t: &[u64], r: Round) -> Plan
     requires { ⌜ (sized (now t) ≡ true) × Tree valued (now t) ⌝ }
-    ensures { λ q. ⌜ Planned valued (now (t .entry)) (commit (r .0)) (q .number) (q .row) (q .status) ⌝ }
+    ensures { λ q. ⌜ Planned valued (now (t .entry)) (commit (r .0)) (q .number) (q .row) (q .status) (q .strikes) ⌝ }
 {
     let k = tree_table::find_row(t, t.len() / 4, r.0 as u64);
     Plan {
         number: commit_number(t, k, r),
         row: k,
         status: tree_table::COMMITTED,
+        strikes: false,
     }
 }

@@ -5,30 +5,48 @@ ghost use lib.ListN.{length};
 ghost use Rattle.tree_theory.specs.Table.{rows-of, nodes};
 ghost use Rattle.tree_steps.specs.Looked.{look-of};
 
-// What the rows say of an edge (r, p): how many they are, the first that has round r and the first that has round p (as many as they are
-// where none has), whether one has a round above r, whether the edge crosses a COMMITTED one.
+// What the rows say of an edge (r, p): how many they are, whether one has round r, the first that has round p (as many as they are where none
+// has), whether one has a round above r, whether the edge crosses a COMMITTED one, and whether it crosses an ADDED one.
 pub struct Look {
     pub used: usize,
-    pub row: usize,
+    pub present: bool,
     pub parent: usize,
     pub above: bool,
     pub blocked: bool,
+    pub strikes: bool,
 }
 
-// One row more.
+// One row more. An edge crosses rounds between p and r alone, and of the others most are passed with two comparisons.
 fn look_on(l: Look, t: &[u64], r: u64, p: u64) -> Look
     requires { ⌜ (4 * l .used + 4 ≤ length (now t)) × (l ≡ look-of r p (rows-of (now t) (l .used))) ⌝ }
     ensures { λ m. ⌜ m ≡ look-of r p (rows-of (now (t .entry)) (l .used + 1)) ⌝ }
 {
     let i = l.used;
-    let row = tree_table::find_row_more(t, i, r, l.row);
+    let round = tree_table::round_at(t, i);
     let parent = tree_table::find_row_more(t, i, p, l.parent);
+    if r <= round {
+        return Look {
+            used: i + 1,
+            parent,
+            present: l.present | (round == r),
+            above: l.above | (r < round),
+            ..l
+        };
+    }
+    if round <= p {
+        return Look {
+            used: i + 1,
+            parent,
+            ..l
+        };
+    }
+    let status = tree_table::status_at(t, i);
     Look {
         used: i + 1,
-        row,
         parent,
-        above: l.above | (r < tree_table::round_at(t, i)),
-        blocked: l.blocked | tree_crossing::crossed_at(t, i, tree_table::COMMITTED, r, p),
+        blocked: l.blocked | (status == tree_table::COMMITTED),
+        strikes: l.strikes | (status == tree_table::ADDED),
+        ..l
     }
 }
 
@@ -39,10 +57,11 @@ pub fn look_over(t: &[u64], r: u64, p: u64) -> Look
     let rows = t.len() / 4;
     let mut l = Look {
         used: 0,
-        row: 0,
+        present: false,
         parent: 0,
         above: false,
         blocked: false,
+        strikes: false,
     };
     while l.used < rows {
         if tree_table::status_at(t, l.used) == tree_table::FREE {

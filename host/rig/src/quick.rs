@@ -3,12 +3,23 @@
 //! It goes once over the nodes for a proposal and once for a decision. It is play alone, in one piece, without proofs; a test
 //! compares it with the second implementation, lent memory included. The office's host program calls the core, not this.
 
-use crate::second;
+use crate::second::{self, play::TreeSteps};
 use crate::Calls;
 use kalebasin::{EventList, Member, Played, Refusal, Round, STORE_ROW, STORE_ROWS, TABLE_ROW};
 
 /// The second implementation with the quick play in place of its own.
 pub const CALLS: Calls = Calls { name: "the quick play", play, ..second::CALLS };
+
+/// The second implementation with the quick play's tree: one walk for a proposal, one for a decision.
+pub const ONE_WALK: Calls = Calls { name: "the same with one walk", play: one_walk, ..second::CALLS };
+
+fn one_walk(list: &[u8], store: &mut [u8], table: &mut [u64], answers: &mut [u8]) -> Result<Played, Refusal> {
+    let steps = TreeSteps {
+        add: |words, nodes, r, v, p| Tree { words, used: nodes * TABLE_ROW }.add(r, v, p),
+        commit: |words, r| Tree { words, used: 0 }.commit(r),
+    };
+    second::play::play_by(&steps, list, store, table, answers)
+}
 
 /// Runs the list, with the messages in the store, the tree in the table and one answer byte for each event.
 pub fn play(list: &[u8], store: &mut [u8], table: &mut [u64], answers: &mut [u8]) -> Result<Played, Refusal> {
@@ -190,7 +201,7 @@ impl Office<'_> {
                 if self.store.is_full() {
                     return Err(Refusal::StoreFull);
                 }
-                self.tree.add(round, x, b)?;
+                self.tree.add(round.0.into(), x, b.0.into())?;
                 let propose = self.store.send(PROPOSE, round, member)?;
                 put_double(propose, 12, x);
                 *record = Record { phase: Phase::Proposed, x, b, flags: 0, ..*record };
@@ -218,7 +229,7 @@ impl Office<'_> {
                     record.flags = flags;
                     return Ok(Made::Nothing);
                 }
-                self.tree.commit(round)?;
+                self.tree.commit(round.0.into())?;
                 *record = Record { phase: Phase::Decided, flags, ..*record };
                 Ok(Made::Decision)
             }
@@ -295,8 +306,7 @@ struct Tree<'a> {
 impl Tree<'_> {
     /// add(r, v, p) with p < r. One walk looks for the causes of a refusal and strikes: play never meets a cause but
     /// the missing row, so nothing struck has to be undone.
-    fn add(&mut self, r: Round, v: u64, p: Round) -> Result<(), Refusal> {
-        let (r, p) = (u64::from(r.0), u64::from(p.0));
+    fn add(&mut self, r: u64, v: u64, p: u64) -> Result<(), Refusal> {
         let (nodes, free) = self.words.split_at_mut_checked(self.used).ok_or(Refusal::NoFreeRow)?;
         let free: &mut [u64; TABLE_ROW] = free.first_chunk_mut().ok_or(Refusal::NoFreeRow)?;
         let (mut present, mut parent, mut blocked, mut above) = (false, None, false, false);
@@ -332,10 +342,10 @@ impl Tree<'_> {
     }
 
     /// commit(r).
-    fn commit(&mut self, r: Round) -> Result<(), Refusal> {
+    fn commit(&mut self, r: u64) -> Result<(), Refusal> {
         for node in self.words.chunks_exact_mut(TABLE_ROW) {
             let [round, _, _, status] = node else { break };
-            if *round == u64::from(r.0) {
+            if *round == r {
                 return match *status {
                     COMMITTED => Err(Refusal::IsCommitted),
                     GHOST => Err(Refusal::IsGhost),

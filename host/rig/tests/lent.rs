@@ -31,8 +31,8 @@ mod ffi {
     #[derive(Clone, Copy, Debug, PartialEq, Eq)]
     pub struct Lead {
         pub phase: u32,
-        pub value: u64,
         pub source: u32,
+        pub value: u64,
         pub flags: [bool; 7],
     }
 
@@ -90,8 +90,8 @@ fn record_of(fields: &MemberFields) -> Option<ffi::MemberState> {
         durable: ffi::Durable { joined: fields.joined.0, voted: fields.voted.0, vote: fields.vote, led: fields.led.0 },
         lead: ffi::Lead {
             phase: fields.phase,
-            value: fields.value,
             source: fields.source.0,
+            value: fields.value,
             flags: std::array::from_fn(|at| fields.flags >> at & 1 == 1),
         },
     })

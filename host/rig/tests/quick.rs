@@ -1,4 +1,4 @@
-//! The quick play against the second implementation, lent memory included.
+//! The quick play, and the second implementation with the quick play's tree, against the second implementation, lent memory included.
 
 mod compared;
 
@@ -31,4 +31,9 @@ fn every_small_byte_string_as_a_list() {
 #[test]
 fn random_lists() {
     same("random lists", suite::random_lists(PAIR, seed(), 120_000, &mut |_| ()));
+}
+
+#[test]
+fn random_lists_with_one_walk() {
+    same("random lists", suite::random_lists([&quick::ONE_WALK, &second::CALLS], seed(), 120_000, &mut |_| ()));
 }

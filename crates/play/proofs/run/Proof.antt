@@ -1,5 +1,6 @@
 -- `play::run` meets its contract: after k turns the memory represents the model after k events. Assumes nothing.
 use mathlib.Core.Path.{sym, ap, _∙_}
+use mathlib.Core.Logic.{⊎-elim, inl, inr}
 use Prim.Native.Nat.{_-_, _<_}
 use native.Mathlib.Omega.{arith}
 use borrow.Author.Needs.{needs}
@@ -9,9 +10,10 @@ use Rattle.play_events.specs.List.{event-size}
 use Rattle.play_events.specs.Value.{model-event}
 use Rattle.model.specs.Model.{at-member}
 use Rattle.play_office.proofs.Before.{place-below}
+use Rattle.play_office.proofs.Working.{worked}
 use Rattle.play.specs.Lent.{as-lent}
 use Rattle.play.proofs.Running.{Running, list-parts, bytes-of, running-first, event-before, due, at-next, few-events}
-use Rattle.play.proofs.Running.{answer-room, answer-small, running-next, counts-small, one-most, ran}
+use Rattle.play.proofs.Running.{answer-room, answer-small, running-next, counts-small, ran}
 use Rattle.play.proofs.run.Statement.{statement}
 use Rattle.play.proofs.run.Tie as tie
 
@@ -33,21 +35,25 @@ made-fresh c = c .before .before
 abbrev head : tie.After-tally Inv-loop μ-loop → tie.After-read-head Inv-loop μ-loop
 head c = made-fresh c .before .before
 
--- a turn's start, from where its event is read; its place, from where it is worked; and these from where it is written down
+-- a turn's start, from where its event is read; the event's place, from where its step is taken; the step, from where it is settled; that from
+-- where its number is known; and that from where it is written down
 abbrev turn : tie.After-struct-known2 Inv-loop μ-loop → tie.In-loop Inv-loop μ-loop
 turn c = c .before .before .before
 
-abbrev placed : tie.After-work-arg2 Inv-loop μ-loop → tie.After-place Inv-loop μ-loop
-placed c = c .before .before .before
+abbrev placed : tie.After-step-arg Inv-loop μ-loop → tie.After-place Inv-loop μ-loop
+placed c = c .before .before
 
-abbrev worked : tie.After-state Inv-loop μ-loop → tie.After-work Inv-loop μ-loop
-worked c = c .before .before .before .before .before
+abbrev stepped : tie.After-settle-arg2 Inv-loop μ-loop → tie.After-step Inv-loop μ-loop
+stepped c = c .before .before
 
-abbrev counted : tie.After-one-if-accepted Inv-loop μ-loop → tie.After-state Inv-loop μ-loop
-counted c = c .before .before .before
+abbrev settled : tie.After-struct-known3 Inv-loop μ-loop → tie.After-settle Inv-loop μ-loop
+settled c = c .before .before .before .before .before
+
+abbrev joined : tie.After-struct-known4 Inv-loop μ-loop → tie.Joined1 Inv-loop μ-loop
+joined c = c .before .before
 
 -- the loop, from its end
-abbrev over : tie.After-struct-known6 Inv-loop μ-loop → tie.After-loop Inv-loop μ-loop
+abbrev over : tie.After-struct-known7 Inv-loop μ-loop → tie.After-loop Inv-loop μ-loop
 over c = c .before .before .before
 
 read-head-requires : tie.Need-read-head-requires Inv-loop μ-loop
@@ -107,60 +113,71 @@ mul-m c = omega (arith, in-array c)
 array-copy-out-m : tie.Need-array-copy-out-m Inv-loop μ-loop
 array-copy-out-m c = omega (arith, in-array c)
 
-work-requires : tie.Need-work-requires Inv-loop μ-loop
-work-requires c κs = event-before (turn (placed c .before) .before .loop .inv) _ _ _ (placed c .place .ensures)
+-- what the turn's event was worked on
+abbrev turn-of : tie.After-step-arg Inv-loop μ-loop → tie.In-loop Inv-loop μ-loop
+turn-of c = turn (placed c .before)
+
+step-requires : tie.Need-step-requires Inv-loop μ-loop
+step-requires c κs = record { table = _; event = event-before (turn-of c .before .loop .inv) _ _ _ (placed c .place .ensures) }
+
+settle-requires : tie.Need-settle-requires Inv-loop μ-loop
+settle-requires c κs =
+    let s = stepped c in
+    let E = event-before (turn-of (s .before) .before .loop .inv) _ _ _ (placed (s .before) .place .ensures) in
+    record { before = E .before; e = _; i = _; m = s .step .result .state; is = s .step .ensures _ E }
+
+-- the step, from where its number is known; and the turn
+abbrev step-of : tie.After-struct-known3 Inv-loop μ-loop → tie.After-step Inv-loop μ-loop
+step-of c = stepped (settled c .before)
+
+abbrev turned : tie.After-struct-known3 Inv-loop μ-loop → tie.In-loop Inv-loop μ-loop
+turned c = turn-of (step-of c .before)
 
 mul-members : tie.Need-mul-members Inv-loop μ-loop
-mul-members c = omega (arith, in-array (placed (worked c .before)))
+mul-members c = omega (arith, in-array (placed (step-of (c .before .before) .before)))
 
 array-set-from-members : tie.Need-array-set-from-members Inv-loop μ-loop
-array-set-from-members c = omega (arith, in-array (placed (worked c .before)))
+array-set-from-members c = omega (arith, in-array (placed (step-of (c .before .before) .before)))
 
--- what the turn's event was worked on
-abbrev turn-of : tie.After-state Inv-loop μ-loop → tie.In-loop Inv-loop μ-loop
-turn-of c = turn (placed (worked c .before) .before)
+add-accepted : tie.Need-add-accepted Inv-loop μ-loop
+add-accepted c = let G = turned (c .before .before) .before .loop .inv in omega (arith, few-events G, G .few, G .within)
 
 cast-answered : tie.Need-cast-answered Inv-loop μ-loop
 cast-answered c =
-    let w = worked (c .before .before) in
-    let small : w .work .result .number < 256 =
-    answer-small (turn-of (c .before .before) .before .loop .inv) (placed (w .before) .place .ensures) _ (w .work .ensures) in
+    let n = joined c .before in
+    let s = step-of n in
+    let small : settled n .settle .result .number < 256 =
+    answer-small (turned n .before .loop .inv) (placed (s .before) .place .ensures) _ (worked (s .step .result) (s .step .ensures) (settled n .settle .ensures)) in
     omega arith
 
 slice-write-answered : tie.Need-slice-write-answered Inv-loop μ-loop
-slice-write-answered c = let t = turn-of (c .before .before) in answer-room (t .before .loop .inv) (t .loop-test .taken)
-
-one-if-accepted-requires : tie.Need-one-if-accepted-requires Inv-loop μ-loop
-one-if-accepted-requires c κs = search needs
-
-add-accepted : tie.Need-add-accepted Inv-loop μ-loop
-add-accepted c =
-    let t = turn-of (counted c) in
-    let G = t .before .loop .inv in
-    omega (arith, few-events G, G .few, G .within, c .one-if-accepted .ensures, one-most (worked (counted c) .work .result .number))
+slice-write-answered c = let t = turned (joined c .before) in answer-room (t .before .loop .inv) (t .loop-test .taken)
 
 add-k : tie.Need-add-k Inv-loop μ-loop
-add-k c = let t = turn-of (counted c) in omega (arith, few-events (t .before .loop .inv), t .loop-test .taken)
+add-k c = let t = turned (joined c .before) in omega (arith, few-events (t .before .loop .inv), t .loop-test .taken)
 
 loop-less : tie.Need-loop-less Inv-loop μ-loop
-loop-less c = omega (arith, turn-of (counted c) .loop-test .taken)
+loop-less c = omega (arith, turned (joined c .before) .loop-test .taken)
 
 loop-again : tie.Need-loop-again Inv-loop μ-loop
 loop-again c =
-    let t = turn-of (counted c) in
-    let w = worked (counted c) in
-    let p = placed (w .before) in
+    let n = joined c .before in
+    let t = turned n in
+    let s = step-of n in
+    let p = placed (s .before) in
+    let w = settled n .settle in
     running-next (t .before .loop .inv) (t .loop-test .taken) (to-end (t .before .loop .at) _) (p .before .before .read-event .ensures) (p .place .ensures) _
-    (c .one-if-accepted .ensures) (w .work .kept .1 .1 .1 .0) (w .work .kept .1 .1 .1 .1 .0) (w .work .ensures)
+    (s .step .result .state) (w .kept .1 .1 .0) (w .kept .1 .1 .1 .0) (worked (s .step .result) (s .step .ensures) (w .ensures))
+    (⊎-elim (λ q. inl (q .0 .taken, q .2, q .3)) (λ q. inr (q .0 .left, q .1, q .2)) (joined c .if1 .came))
 
-cast-t36 : tie.Need-cast-t36 Inv-loop μ-loop
-cast-t36 c = omega (arith, counts-small (c .before .before .loop .inv) .0)
+cast-t40 : tie.Need-cast-t40 Inv-loop μ-loop
+cast-t40 c = omega (arith, counts-small (c .before .before .loop .inv) .0)
 
-cast-t37 : tie.Need-cast-t37 Inv-loop μ-loop
-cast-t37 c = omega (arith, counts-small (c .before .before .before .loop .inv) .1)
+cast-t41 : tie.Need-cast-t41 Inv-loop μ-loop
+cast-t41 c = omega (arith, counts-small (c .before .before .before .loop .inv) .1)
 
-cast-t38 : tie.Need-cast-t38 Inv-loop μ-loop
-cast-t38 c = omega (arith, counts-small (over c .before .loop .inv) .2)
+cast-t42 : tie.Need-cast-t42 Inv-loop μ-loop
+cast-t42 c = omega (arith, counts-small (over c .before .loop .inv) .2)
 
 same-length : tie.Need-same-length Inv-loop μ-loop
 same-length c = over c .before .loop .inv .store-long
@@ -192,19 +209,19 @@ run-spec =
     place-requires
     mul-m
     array-copy-out-m
-    work-requires
+    step-requires
+    settle-requires
     mul-members
     array-set-from-members
+    add-accepted
     cast-answered
     slice-write-answered
-    one-if-accepted-requires
-    add-accepted
     add-k
     loop-less
     loop-again
-    cast-t36
-    cast-t37
-    cast-t38
+    cast-t40
+    cast-t41
+    cast-t42
     same-length
     same-length-2
     same-length-3

@@ -16,7 +16,7 @@ same-length : tie.Need-same-length
 same-length c = search needs
 
 returns : tie.Need-returns
-returns c = record { result-is = ap (accepted-event _) (c .counted .ensures); table-is = c .before .before .before .commit-in-tree .ensures .table-is }
+returns c = record { result-is = ap accepted-event (c .counted .ensures); table-is = c .before .before .before .commit-in-tree .ensures .table-is }
 
 pub decide-spec : {M : Type 1} → statement M
 decide-spec = tie.close (tie.spec commit-in-tree-requires counted-requires same-length returns)

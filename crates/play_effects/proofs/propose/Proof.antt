@@ -58,7 +58,7 @@ returns c =
     let a = entry (c .before .before) .args in
     let n = refusing (c .before) in
     record {
-      result-is = rw n (c .refused-event .ensures ∙ ap (refused-event (a .m) (a .tally)) (number-is (c .before .before)));
+      result-is = rw n (c .refused-event .ensures ∙ ap (refused-event (a .tally)) (number-is (c .before .before)));
       store-is = rw n refl;
       table-is = rw n refl;
     }
@@ -89,7 +89,7 @@ returns-2 c =
     let test = to-put put in
     let n : eqb (number-at (entry (test .before))) OK ≡ true = eq-eqb _ _ (free test) in
     record {
-      result-is = rw n (ap (accepted-event _) (c .counted .ensures));
+      result-is = rw n (ap accepted-event (c .counted .ensures));
       store-is = rw n (put .store-message .ensures);
       table-is = rw n (added .add-in-tree .ensures .table-is);
     }

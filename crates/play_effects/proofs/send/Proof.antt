@@ -48,7 +48,7 @@ returns-2 : tie.Need-returns-2
 returns-2 c =
     let put = c .before .before .before in
     let row = free (tested put) in
-    record { result-is = rw row (ap (accepted-event _) (c .counted .ensures)); store-is = rw row (put .store-message .ensures) }
+    record { result-is = rw row (ap accepted-event (c .counted .ensures)); store-is = rw row (put .store-message .ensures) }
 
 pub send-spec : {M : Type 1} → statement M
 send-spec =

@@ -1,16 +1,17 @@
 -- `play_office::settle` meets its contract: each answer of the member is one arm, and each arm one law. Assumes nothing.
-use Rattle.member.proofs.Checks.{refused-byte, refused-some}
+use mathlib.Core.Path.{refl}
+use mathlib.Core.List.{List·Memᴰ·head as here}
+use Rattle.play_office.specs.Represents.{AnswerIs}
 use Rattle.play_office.proofs.Before.{counts-fit, is-a-tree}
 use Rattle.play_office.proofs.Settling.{as-result}
-use Rattle.play_office.proofs.Arms.{by-answer, step-keeps, answers-sent, answers-proposed}
-use Rattle.play_office.proofs.Arms.{refuses, goes-silent, sends-go, proposes-go, decides-go}
+use Rattle.play_office.proofs.Arms.{by-answer, step-keeps, refuses, goes-silent, sends-go, proposes-go, decides-go}
 use borrow.Author.Needs.{needs}
 use Rattle.play_office.proofs.settle.Statement.{statement}
 use Rattle.play_office.proofs.settle.Tie as tie
 
--- the entry, from where the answer is matched
-abbrev entry : tie.After-state → tie.Start
-entry c = c .before .before .before
+-- the entry, from the match
+abbrev entry : tie.After-slice-known2 → tie.Start
+entry c = c .before .before
 
 -- the answer of each arm, from where its effect is called; and that from the end
 abbrev refused-arm : tie.After-refused-event → tie.After-a
@@ -47,17 +48,19 @@ enum-known-a-2 : tie.Need-enum-known-a-2
 enum-known-a-2 c = search needs
 
 send-requires : tie.Need-send-requires
+unfolding AnswerIs
 send-requires c κs =
-    let F = entry (sent-arm c .before .before) .pre .0 in
-    (counts-fit (F .before), step-keeps F .sent-in-range _ (answers-sent _ (sent-arm c .a2 .given .1)))
+    let F = entry (sent-arm c .before .before) .pre in
+    (counts-fit (F .before), step-keeps (F .before) (by-answer F (sent-arm c .a2 .given .1)) .sent-in-range _ (here refl))
 
 enum-known-a-3 : tie.Need-enum-known-a-3
 enum-known-a-3 c = search needs
 
 propose-requires : tie.Need-propose-requires
+unfolding AnswerIs
 propose-requires c κs =
-    let F = entry (proposed-arm c .before .before) .pre .0 in
-    let ranged = step-keeps F .sent-in-range _ (answers-proposed _ (proposed-arm c .a3 .given .1)) in
+    let F = entry (proposed-arm c .before .before) .pre in
+    let ranged = step-keeps (F .before) (by-answer F (proposed-arm c .a3 .given .1)) .sent-in-range _ (here refl) in
     (counts-fit (F .before), ranged, F .before .sizes .table-length, is-a-tree (F .before))
 
 enum-known-a-4 : tie.Need-enum-known-a-4
@@ -65,32 +68,26 @@ enum-known-a-4 c = search needs
 
 decide-requires : tie.Need-decide-requires
 decide-requires c κs =
-    let F = entry (decided-arm c .before .before) .pre .0 in
+    let F = entry (decided-arm c .before .before) .pre in
     (counts-fit (F .before), F .before .sizes .table-length, is-a-tree (F .before))
 
 returns : tie.Need-returns
 returns c =
-    λ F.
-    let arm = refused-arm c in
-    let is = arm .a .given .1 in
-    let start = entry (arm .before .before) in
-    let s = start .args .s in
-    as-result (F .before) _ (c .refused-event .ensures)
-    (refuses (F .before) (F .record-at) (by-answer s is (F .step)) (refused-some is (start .pre .1)) (refused-byte (s .state) is (step-keeps F)))
+    λ F was H.
+    as-result (F .before) was (F .m) _ (c .refused-event .ensures)
+    (refuses (F .before) was H (F .m) (by-answer F (refused-arm c .a .given .1)))
 
 returns-2 : tie.Need-returns-2
-returns-2 c =
-    λ F. goes-silent (F .before) (by-answer (entry (c .before .before) .args .s) (c .enum-told .given .1) (F .step))
+returns-2 c = λ F was H. goes-silent (F .before) was (F .m) (by-answer F (c .enum-told .given .1))
 
 same-length : tie.Need-same-length
 same-length c = search needs
 
 returns-3 : tie.Need-returns-3
 returns-3 c =
-    λ F.
+    λ F was H.
     let arm = sent-arm (sent c .before) in
-    let s = entry (arm .before .before) .args .s in
-    sends-go (F .before) (F .record-at) (by-answer s (arm .a2 .given .1) (F .step)) (sent c .send .ensures) (sent c .send .kept .0)
+    sends-go (F .before) was H (F .m) (by-answer F (arm .a2 .given .1)) (sent c .send .ensures) (sent c .send .kept .0)
 
 same-length-2 : tie.Need-same-length-2
 same-length-2 c = search needs
@@ -100,21 +97,19 @@ same-length-3 c = search needs
 
 returns-4 : tie.Need-returns-4
 returns-4 c =
-    λ F.
+    λ F was H.
     let p = proposed c .propose in
     let arm = proposed-arm (proposed c .before) in
-    let s = entry (arm .before .before) .args .s in
-    proposes-go (F .before) (F .record-at) (by-answer s (arm .a3 .given .1) (F .step)) (p .ensures) (p .kept .0) (p .kept .1 .0)
+    proposes-go (F .before) was H (F .m) (by-answer F (arm .a3 .given .1)) (p .ensures) (p .kept .0) (p .kept .1 .0)
 
 same-length-4 : tie.Need-same-length-4
 same-length-4 c = search needs
 
 returns-5 : tie.Need-returns-5
 returns-5 c =
-    λ F.
+    λ F was H.
     let arm = decided-arm (decided c .before) in
-    let s = entry (arm .before .before) .args .s in
-    decides-go (F .before) (by-answer s (arm .a4 .given .1) (F .step)) (decided c .decide .ensures) (decided c .decide .kept .0)
+    decides-go (F .before) was (F .m) _ (by-answer F (arm .a4 .given .1)) (decided c .decide .ensures) (decided c .decide .kept .0)
 
 pub settle-spec : {M : Type 1} → statement M
 settle-spec =

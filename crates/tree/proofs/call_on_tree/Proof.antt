@@ -12,7 +12,10 @@ plan-call-requires : tie.Need-plan-call-requires
 plan-call-requires c κs = search needs
 
 write-call-requires : tie.Need-write-call-requires
-write-call-requires c κs = let b = c .before in b .before .before .plan-call .ensures .fits (b .if1 .taken)
+write-call-requires c κs =
+    let b = c .before in
+    let plan = b .before .before .plan-call .ensures in
+    (plan .fits (b .if1 .taken), plan .strikes-is)
 
 same-length : tie.Need-same-length
 same-length c = search needs

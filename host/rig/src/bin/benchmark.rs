@@ -30,9 +30,9 @@ fn implementations() -> Vec<Calls> {
     [CORE, &[second::CALLS]].concat()
 }
 
-/// The implementations of play, the same and one for speed.
+/// The implementations of play: the same, the second with one walk over the nodes for a proposal or a decision, and one written for speed.
 fn players() -> Vec<Calls> {
-    [CORE, &[second::CALLS, quick::CALLS]].concat()
+    [CORE, &[second::CALLS, quick::ONE_WALK, quick::CALLS]].concat()
 }
 
 /// What is measured of one implementation: a call that can be repeated.

@@ -9,8 +9,30 @@ const HEAD: usize = 8;
 const START: u32 = 1;
 const DELIVER: u32 = 2;
 
+/// How play enters proposals and decisions into a table.
+pub struct TreeSteps {
+    /// add, given how many nodes there are, then round, value and parent.
+    pub add: fn(&mut [u64], usize, u64, u64, u64) -> Result<(), Refusal>,
+    /// commit, given the round.
+    pub commit: fn(&mut [u64], u64) -> Result<(), Refusal>,
+}
+
+/// The machine's own, which find out how many nodes there are.
+const MACHINE: TreeSteps = TreeSteps { add: |table, _, r, v, p| tree::machine_add(table, r, v, p), commit: tree::machine_commit };
+
 /// Runs the list, with the messages in the store, the tree in the table and one answer byte for each event.
 pub fn play(list: &[u8], store: &mut [u8], table: &mut [u64], answers: &mut [u8]) -> Result<Played, Refusal> {
+    play_by(&MACHINE, list, store, table, answers)
+}
+
+/// The same with other steps of the tree.
+pub fn play_by(
+    steps: &TreeSteps,
+    list: &[u8],
+    store: &mut [u8],
+    table: &mut [u64],
+    answers: &mut [u8],
+) -> Result<Played, Refusal> {
     let count = check_list(list)?;
     let n = word(list, 0);
     if !member::size_allowed(n) {
@@ -23,7 +45,7 @@ pub fn play(list: &[u8], store: &mut [u8], table: &mut [u64], answers: &mut [u8]
     tree::fresh(table)?;
     store.fill(0);
 
-    let mut office = Office::new(n, store, table);
+    let mut office = Office::new(n, store, table, steps);
     let mut rest = &list[HEAD..];
     for answer in &mut answers[..count] {
         let length = event_length(rest).expect("the list was checked");
@@ -82,15 +104,16 @@ struct Office<'a> {
     /// The length of each message sent.
     lengths: [u8; EventList::MOST],
     table: &'a mut [u64],
+    steps: &'a TreeSteps,
     played: Played,
 }
 
 impl<'a> Office<'a> {
-    fn new(n: u32, store: &'a mut [u8], table: &'a mut [u64]) -> Office<'a> {
+    fn new(n: u32, store: &'a mut [u8], table: &'a mut [u64], steps: &'a TreeSteps) -> Office<'a> {
         // Places from n on hold a member that no event names.
         let fresh = |number| member::fresh(Member(if number < n { number } else { 0 }), n).expect("n is allowed");
         let members = [0, 1, 2, 3, 4, 5, 6].map(fresh);
-        Office { n, members, store, lengths: [0; EventList::MOST], table, played: Played::default() }
+        Office { n, members, store, lengths: [0; EventList::MOST], table, steps, played: Played::default() }
     }
 
     /// Takes one event, or changes nothing.
@@ -138,11 +161,12 @@ impl<'a> Office<'a> {
             return Err(Refusal::StoreFull);
         }
         if let Some(proposal) = step.proposal {
-            tree::machine_add(self.table, proposal.round.0.into(), proposal.value, proposal.parent.0.into())?;
+            let nodes = self.played.proposals as usize + 1;
+            (self.steps.add)(self.table, nodes, proposal.round.0.into(), proposal.value, proposal.parent.0.into())?;
             self.played.proposals += 1;
         }
         if let Some(decision) = step.decision {
-            tree::machine_commit(self.table, decision.round.0.into())?;
+            (self.steps.commit)(self.table, decision.round.0.into())?;
             self.played.decisions += 1;
         }
         if sent > 0 {

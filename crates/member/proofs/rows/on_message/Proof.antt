@@ -1,82 +1,63 @@
--- `member::rows::on_message` meets its contract: each kind has its row. Assumes nothing.
-use Rattle.member.specs.Table.{sound-step}
-use Rattle.member.proofs.Checks.{adopting-who}
+-- `member::rows::on_message` meets its contract: it goes by the message's row. Assumes nothing.
+use mathlib.Core.Path.{sym, _∙_}
+use Rattle.member.proofs.ByRow.{row-moves, taking-who}
 use borrow.Author.Needs.{needs}
 use Rattle.member.proofs.rows.on_message.Statement.{statement}
 use Rattle.member.proofs.rows.on_message.Tie as tie
 
-enum-known-g : tie.Need-enum-known-g
-enum-known-g c = search needs
+-- where the row was found, from where a message's record is taken
+abbrev found : tie.After-taking → tie.After-row-of
+found c = c .before .before .before .before
+
+row-of-requires : tie.Need-row-of-requires
+row-of-requires c κs = search needs
+
+enum-known-row : tie.Need-enum-known-row
+enum-known-row c = search needs
 
 on-start-requires : tie.Need-on-start-requires
 on-start-requires c κs = search needs
 
-enum-known-g-2 : tie.Need-enum-known-g-2
-enum-known-g-2 c = search needs
+enum-known-row-2 : tie.Need-enum-known-row-2
+enum-known-row-2 c = search needs
+
+taking-requires : tie.Need-taking-requires
+taking-requires c κs = search needs
 
 on-count-requires : tie.Need-on-count-requires
-on-count-requires c κs = search needs
+on-count-requires c κs =
+    let s = found c .before in
+    (s .pre .0, s .pre .1, rw (c .taking .ensures) (taking-who (s .args .m) (s .args .g)))
 
-enum-known-g-3 : tie.Need-enum-known-g-3
-enum-known-g-3 c = search needs
-
-adopting-requires : tie.Need-adopting-requires
-adopting-requires c κs = search needs
-
-on-count-requires-2 : tie.Need-on-count-requires-2
-on-count-requires-2 c κs =
-    let entry = c .before .before .before .before in
-    (entry .pre .0, entry .pre .1, rw (c .adopting .ensures) (adopting-who (entry .args .m) _ _))
-
-enum-known-g-4 : tie.Need-enum-known-g-4
-enum-known-g-4 c = search needs
+enum-known-row-3 : tie.Need-enum-known-row-3
+enum-known-row-3 c = search needs
 
 on-propose-requires : tie.Need-on-propose-requires
 on-propose-requires c κs = search needs
 
-enum-known-g-5 : tie.Need-enum-known-g-5
-enum-known-g-5 c = search needs
-
-on-count-requires-3 : tie.Need-on-count-requires-3
-on-count-requires-3 c κs = search needs
-
 returns : tie.Need-returns
-unfolding sound-step
-returns c = rw (c .before .before .g .given .1) (c .on-start .ensures)
+returns c = let d = c .before .before in row-moves _ _ (sym (d .row .given .1) ∙ d .before .before .row-of .ensures) (c .on-start .ensures)
 
 returns-2 : tie.Need-returns-2
-unfolding sound-step
-returns-2 c = rw (c .before .before .g2 .given .1) (c .on-count .ensures)
+returns-2 c =
+    let k = c .before in
+    row-moves _ _ (sym (k .before .before .row2 .given .1) ∙ found k .row-of .ensures) (rw (k .taking .ensures) at (c .on-count .ensures))
 
 returns-3 : tie.Need-returns-3
-unfolding sound-step
-returns-3 c = rw (c .before .before .before .g3 .given .1) (rw (c .before .adopting .ensures) at (c .on-count2 .ensures))
-
-returns-4 : tie.Need-returns-4
-unfolding sound-step
-returns-4 c = rw (c .before .before .g4 .given .1) (c .on-propose .ensures)
-
-returns-5 : tie.Need-returns-5
-unfolding sound-step
-returns-5 c = rw (c .before .before .g5 .given .1) (c .on-count3 .ensures)
+returns-3 c = let d = c .before .before in row-moves _ _ (sym (d .row3 .given .1) ∙ d .before .before .row-of .ensures) (c .on-propose .ensures)
 
 pub on-message-spec : {M : Type 1} → statement M
 on-message-spec =
     tie.close
     (tie.spec
-    enum-known-g
+    row-of-requires
+    enum-known-row
     on-start-requires
-    enum-known-g-2
+    enum-known-row-2
+    taking-requires
     on-count-requires
-    enum-known-g-3
-    adopting-requires
-    on-count-requires-2
-    enum-known-g-4
+    enum-known-row-3
     on-propose-requires
-    enum-known-g-5
-    on-count-requires-3
     returns
     returns-2
-    returns-3
-    returns-4
-    returns-5)
+    returns-3)

@@ -16,7 +16,7 @@ use Rattle.laws.specs.First.{Cause, first, _gives_}
 use Rattle.tree_theory.specs.Machine.{other-value, blocks, causes, answer, add}
 use Rattle.tree_theory.specs.Table.{rows, nodes}
 use Rattle.tree_theory.proofs.Words.{length-rows}
-use Rattle.tree_steps.proofs.Looking.{LookedAt, used-is, blocked-is, round-present, round-absent}
+use Rattle.tree_steps.proofs.Looking.{LookedAt, used-is, present-is, blocked-is}
 use Rattle.tree_steps.proofs.Looking.{parent-present, parent-absent, parent-node, parent-fits}
 use Rattle.tree_steps.proofs.Planning.{beyond, within}
 use Rattle.tree_steps.proofs.add.add_number.Statement.{statement}
@@ -50,9 +50,9 @@ abbrev begun : tie.Else1 → tie.Start
 begun c = c .before .before .before
 
 abbrev begun-2 : tie.Else2 → tie.Start
-begun-2 c = begun (c .before .before)
+begun-2 c = begun (c .before)
 
-abbrev tested : tie.After-struct-known4 → tie.Else2
+abbrev tested : tie.After-struct-known3 → tie.Else2
 tested c = c .before .before .before
 
 abbrev begun-3 : tie.Else3 → tie.Start
@@ -74,16 +74,16 @@ ranged c = within (begun c .args .r .0) (c .before .in-range .ensures) (c .if1 .
 returns-2 : tie.Need-returns-2
 unfolding answer causes
 returns-2 c =
-    let b = c .before .before in
+    let b = c .before in
     let s = begun b in
-    rw (ranged b, round-present (looked s) (c .if2 .taken)) refl
+    rw (ranged b, sym (present-is (looked s)) ∙ c .if2 .taken) refl
 
 returns-3 : tie.Need-returns-3
 unfolding answer causes
 returns-3 c =
     let b = tested (c .before) in
     let s = begun-2 b in
-    rw (ranged (b .before .before), round-absent (looked s) (b .if2 .left), parent-absent (looked s) (leb-true _ _ (c .if3 .taken))) refl
+    rw (ranged (b .before), sym (present-is (looked s)) ∙ b .if2 .left, parent-absent (looked s) (leb-true _ _ (c .if3 .taken))) refl
 
 -- the parent is one of the rows
 parent-within : (c : tie.Else3) → let l = begun-3 c .args .l in l .parent < l .used
@@ -95,7 +95,7 @@ unfolding answer causes
 parent-there c =
     let b = tested (c .before) in
     let s = begun-2 b in
-    rw (ranged (b .before .before), round-absent (looked s) (b .if2 .left), parent-present (looked s) (parent-within c)) refl
+    rw (ranged (b .before), sym (present-is (looked s)) ∙ b .if2 .left, parent-present (looked s) (parent-within c)) refl
 
 returns-4 : tie.Need-returns-4
 returns-4 c = sym (parent-there (c .before) ∙ rw (c .if4 .taken) refl)

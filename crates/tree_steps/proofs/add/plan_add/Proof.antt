@@ -4,7 +4,7 @@ use mathlib.Core.Bool.{cond}
 use borrow.Author.Needs.{needs}
 use denote.Ref.{now}
 use Rattle.tree_theory.specs.Machine.{ADDED, GHOST}
-use Rattle.tree_steps.proofs.Looking.{LookedAt, used-is, above-is}
+use Rattle.tree_steps.proofs.Looking.{LookedAt, used-is, above-is, strikes-is}
 use Rattle.tree_steps.proofs.Planning.{add-planned}
 use Rattle.tree_steps.proofs.add.plan_add.Statement.{statement}
 use Rattle.tree_steps.proofs.add.plan_add.Tie as tie
@@ -31,7 +31,7 @@ returns c =
     let a = s .args in
     let L : LookedAt (now (a .t)) (a .r .0) (a .p .0) (k .look-over .result) = record { is = k .look-over .ensures } in
     add-planned (a .valued) (now (a .t)) (s .pre .0) (s .pre .1) (a .r .0) (a .v) (a .p .0) (c .before .add-number .ensures)
-    (used-is L) (c .new-status .ensures ∙ ap (λ b. cond b GHOST ADDED) (above-is L))
+    (used-is L) (c .new-status .ensures ∙ ap (λ b. cond b GHOST ADDED) (above-is L)) (strikes-is L (used-is L))
 
 pub plan-add-spec : {M : Type 1} → statement M
 plan-add-spec =

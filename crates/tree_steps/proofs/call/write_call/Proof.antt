@@ -1,32 +1,39 @@
 -- `tree_steps::call::write_call` meets its contract: an add's node behind the struck rows, or a commit's status. Assumes nothing.
+use mathlib.Core.Path.{ap, _∙_}
+use native.Mathlib.Omega.{arith}
 use borrow.Author.Needs.{needs}
 use denote.Ref.{now}
+use Rattle.tree_steps.specs.Planned.{call-of, call-strikes}
 use Rattle.tree_steps.proofs.Inserting.{put-behind}
 use Rattle.tree_steps.proofs.call.write_call.Statement.{statement}
 use Rattle.tree_steps.proofs.call.write_call.Tie as tie
 
 -- where the call was taken apart, and where the code began
-abbrev told : tie.After-strike → tie.After-call
+abbrev told : tie.After-strike-if → tie.After-call
 told c = c .before .before .before .before .before
 
 abbrev begun : tie.After-call → tie.Start
 begun c = c .before .before .before
 
 -- the row put
-abbrev struck : tie.After-put-row → tie.After-strike
+abbrev struck : tie.After-put-row → tie.After-strike-if
 struck c = c .before .before .before .before .before .before
 
 enum-known-call : tie.Need-enum-known-call
 enum-known-call c = search needs
 
-cast-strike : tie.Need-cast-strike
-cast-strike c = search needs
+cast-strike-if : tie.Need-cast-strike-if
+cast-strike-if c = search needs
 
-cast-strike-2 : tie.Need-cast-strike-2
-cast-strike-2 c = search needs
+cast-strike-if-2 : tie.Need-cast-strike-if-2
+cast-strike-if-2 c = search needs
 
-strike-requires : tie.Need-strike-requires
-strike-requires c κs = search needs
+strike-if-requires : tie.Need-strike-if-requires
+strike-if-requires c κs =
+    let g = c .before .before .before .before in
+    let s = begun g in
+    let a = s .args in
+    (omega (arith, s .pre .0), s .pre .1 ∙ ap (λ k. call-strikes (now (a .t)) (call-of k) (a .row)) (g .call .given .1))
 
 cast-put-row : tie.Need-cast-put-row
 cast-put-row c = search needs
@@ -52,8 +59,8 @@ returns c =
     let k = struck w in
     let g = told k .call .given in
     let a = begun (told k) .args in
-    rw (g .1) (put-behind (now (a .t)) (a .row) (g .0 .0 .0) (g .0 .1 .0) (g .0 .1 .1 .0 .0) (a .status) (k .strike .last .0) (w .put-row .last .0)
-    (k .strike .ensures) (w .put-row .ensures))
+    rw (g .1) (put-behind (now (a .t)) (a .row) (g .0 .0 .0) (g .0 .1 .0) (g .0 .1 .1 .0 .0) (a .status) (k .strike-if .last .0) (w .put-row .last .0)
+    (k .strike-if .ensures) (w .put-row .ensures))
 
 same-length-2 : tie.Need-same-length-2
 same-length-2 c = search needs
@@ -68,9 +75,9 @@ write-call-spec =
     tie.close
     (tie.spec
     enum-known-call
-    cast-strike
-    cast-strike-2
-    strike-requires
+    cast-strike-if
+    cast-strike-if-2
+    strike-if-requires
     cast-put-row
     cast-put-row-2
     put-row-requires

@@ -1,66 +1,68 @@
--- `tree_steps::look::look_on` meets its contract: each part goes by the row. Assumes nothing.
-use mathlib.Core.Path.{_≡_, sym, ap, _∙_}
-use mathlib.Core.Bool.{_||_}
-use Prim.Native.Nat.{_+_}
+-- `tree_steps::look::look_on` meets its contract: the row is not below r, not above p, or crossed. Assumes nothing.
+use mathlib.Core.Path.{ap}
 use native.Mathlib.Omega.{arith}
-use lib.Dec.{ltb}
 use borrow.Author.Needs.{needs}
 use denote.Ref.{now}
-use Rattle.laws.specs.Lists.{any}
-use Rattle.tree_theory.specs.Machine.{above, blocks}
-use Rattle.tree_theory.specs.Table.{rows-of}
-use Rattle.tree_theory.proofs.Words.{length-rows}
-use Rattle.tree_table.proofs.Rows.{any-more}
 use Rattle.tree_steps.specs.declared.look.Look.{Look}
+use Rattle.tree_steps.proofs.Looking.{LookedTo, look-beyond, look-before, look-crossed}
 use Rattle.tree_steps.proofs.look.look_on.Statement.{statement}
 use Rattle.tree_steps.proofs.look.look_on.Tie as tie
 
--- where the code began
-abbrev begun : tie.After-round-at → tie.Start
-begun c = c .before .before .before .before
+-- where the code began, seen from where the parent is looked for; what the rows before said
+abbrev begun : tie.After-find-row-more → tie.Start
+begun c = c .before .before .before
 
-find-row-more-requires : tie.Need-find-row-more-requires
-find-row-more-requires c κs = (search needs, ap (λ (l : Look). l .row) (c .before .pre .1))
-
-find-row-more-requires-2 : tie.Need-find-row-more-requires-2
-find-row-more-requires-2 c κs = (search needs, ap (λ (l : Look). l .parent) (c .before .before .pre .1))
-
-add-t8 : tie.Need-add-t8
-add-t8 c = omega arith
+looked : (s : tie.Start) → LookedTo (now (s .args .t)) (s .args .r) (s .args .p) (s .args .l)
+looked s = record { is = s .pre .1 }
 
 round-at-requires : tie.Need-round-at-requires
 round-at-requires c κs = search needs
 
-crossed-at-requires : tie.Need-crossed-at-requires
-crossed-at-requires c κs = search needs
+find-row-more-requires : tie.Need-find-row-more-requires
+find-row-more-requires c κs = (search needs, ap (λ (l : Look). l .parent) (c .before .before .pre .1))
+
+add-t10 : tie.Need-add-t10
+add-t10 c = omega arith
 
 returns : tie.Need-returns
 returns c =
-    let k = c .before in
-    let o = k .before .before in
-    let s = begun o in
-    let a = s .args in
-    let ws = now (a .t) in
-    let i = a .l .used in
-    let over : (a .l .above || ltb (a .r) (o .round-at .result)) ≡ any (above (a .r)) (rows-of ws (i + 1)) =
-    (λ j. ap (λ (l : Look). l .above) (s .pre .1) j || ltb (a .r) (o .round-at .ensures j)) ∙ sym (any-more (above (a .r)) ws i) in
-    let crossed : (a .l .blocked || k .crossed-at .result) ≡ any (blocks (a .r) (a .p)) (rows-of ws (i + 1)) =
-    (λ j. ap (λ (l : Look). l .blocked) (s .pre .1) j || k .crossed-at .ensures j) ∙ sym (any-more (blocks (a .r) (a .p)) ws i) in
-    λ j. record {
-      used = sym (length-rows ws (i + 1)) j;
-      row = o .before .before .find-row-more .ensures j;
-      parent = o .before .find-row-more2 .ensures j;
-      above = over j;
-      blocked = crossed j;
-    }
+    let b = c .before .before in
+    let k = b .before in
+    look-beyond (looked (begun k)) (k .before .round-at .ensures) (k .find-row-more .ensures) (b .if1 .taken)
+
+add-t17 : tie.Need-add-t17
+add-t17 c = omega arith
+
+returns-2 : tie.Need-returns-2
+returns-2 c =
+    let b = c .before in
+    let k = b .before in
+    look-before (looked (begun k)) (k .before .round-at .ensures) (k .find-row-more .ensures) (b .if1 .left) (c .if2 .taken)
+
+status-at-requires : tie.Need-status-at-requires
+status-at-requires c κs = search needs
+
+add-t22 : tie.Need-add-t22
+add-t22 c = omega arith
+
+returns-3 : tie.Need-returns-3
+returns-3 c =
+    let s = c .before .before in
+    let d = s .before in
+    let b = d .before in
+    let k = b .before in
+    look-crossed (looked (begun k)) (k .before .round-at .ensures) (k .find-row-more .ensures) (b .if1 .left) (d .if2 .left) (s .status-at .ensures)
 
 pub look-on-spec : {M : Type 1} → statement M
 look-on-spec =
     tie.close
     (tie.spec
-    find-row-more-requires
-    find-row-more-requires-2
-    add-t8
     round-at-requires
-    crossed-at-requires
-    returns)
+    find-row-more-requires
+    add-t10
+    returns
+    add-t17
+    returns-2
+    status-at-requires
+    add-t22
+    returns-3)
