@@ -1,4 +1,2 @@
 -- What the proofs of the exports use.
-pub mod MemberFieldsKept
-pub mod MemberResults
 pub mod PathCount

@@ -1,7 +1,5 @@
-// The C functions that the host calls: play, the message reader and the calls of the tree, thin over the proved crates, and those of one
-// member in `members`. A slice passes as a pointer and a count of elements. A number is 0 for OK, else 01's refusal.
-pub mod members;
-
+// The C functions that the host calls: play, the message reader and the calls of the tree, thin over the proved crates. A slice passes as
+// a pointer and a count of elements. A number is 0 for OK, else 01's refusal.
 use ids::Member;
 use ids::Round;
 use message::JOIN_KIND;
@@ -19,6 +17,16 @@ ghost use Rattle.message.specs.Reading.{reading};
 ghost use Rattle.play.specs.Lent.{as-lent};
 ghost use Rattle.play.specs.Promise.{Given};
 ghost use Rattle.exports.specs.Results.{as-play-answer, voteless, message-result, refused-result, read-result};
+
+// The version of the C functions. It goes up with each change that a caller sees.
+const VERSION: u32 = 1;
+
+#[no_mangle]
+pub extern "C" fn kalebasin_version() -> u32
+    ensures { λ v. ⌜ v ≡ 1 ⌝ }
+{
+    VERSION
+}
 
 // With a refusal each count is 0.
 #[repr(C)]

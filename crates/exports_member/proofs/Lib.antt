@@ -1,0 +1,3 @@
+-- What the proofs of the functions of one member use.
+pub mod MemberFieldsKept
+pub mod MemberResults

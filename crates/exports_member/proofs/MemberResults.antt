@@ -1,0 +1,88 @@
+-- What the C functions of one member use: lengths that fit 32 bits, and a call's result as that of its outcome. Assumes nothing.
+use mathlib.Core.Path.{_≡_, refl, sym, ap, _∙_}
+use mathlib.Core.Bool.{Bool, true, false}
+use mathlib.Core.List.{List, [], _∷_, _++_}
+use Prim.Native.Nat.{ℕ, _≤_}
+use native.Mathlib.Omega.{arith}
+use lib.Dec.{eqb}
+use lib.ListN.{length}
+use Rattle.laws.specs.Tests.{by-test}
+use borrow.Author.Tests.{ne-eqb}
+use Rattle.laws.specs.First.{Cause, first, AllPassed, passed}
+use Rattle.message.specs.declared.Message.{Message}
+use Rattle.message.specs.declared.Message.the-variants.{Start, Join, JoinVoted, Propose, Vote}
+use Rattle.message.specs.Layout.{bytes, byte-count, longest-message}
+use Rattle.message.specs.declared.Written.{Written}
+use Rattle.message.specs.Writing.{writer-row, writing, buffer-after, WriterLeaves}
+use Rattle.message.proofs.RoundTrip.{length-bytes}
+use Rattle.member_record.specs.declared.MemberState.{MemberState}
+use Rattle.member.specs.Table.{Outcome}
+use Rattle.member_calls.specs.declared.reply.AfterCall.{AfterCall}
+use Rattle.member_calls.specs.declared.reply.Report.{Report}
+use Rattle.member_calls.specs.Reports.{reply-length, reported, LeavesReport}
+use Rattle.exports_member.specs.declared.MemberFields.{MemberFields}
+use Rattle.exports_member.specs.declared.WriteResult.{WriteResult}
+use Rattle.exports_member.specs.Members.{call-result, member-result, fields-row, fields-message, write-row, write-result, written-after}
+
+-- no message is longer than the longest-message
+count-short : (m : Message) → byte-count m ≤ longest-message
+count-short (Start r s) = omega arith
+count-short (Join r s) = omega arith
+count-short (JoinVoted r s q w) = omega arith
+count-short (Propose r s v) = omega arith
+count-short (Vote r s) = omega arith
+
+bytes-short : (m : Message) → length (bytes m) ≤ longest-message
+bytes-short m = rw (length-bytes m) (count-short m)
+
+sent-short : (gs : List Message) → reply-length gs ≤ longest-message
+sent-short [] = omega arith
+sent-short (g ∷ gs) = bytes-short g
+
+pub written-short : (m : Message) (old : List ℕ) → writing m old .length ≤ longest-message
+unfolding writing
+written-short m old =
+    by-test (eqb (first (writer-row m old)) 0)
+    (λ t. rw t (bytes-short m))
+    (λ t. rw t (omega arith))
+
+-- what a call answered, by what it promised
+module _ (f : MemberFields) (c : AfterCall) (o : Outcome) (a : LeavesReport o (c .state) (c .report)) where
+  pub report-short : c .report .sent ≤ longest-message
+  report-short = rw (ap (λ (r : Report). r .sent) (a .report)) (sent-short (o .sent))
+
+  pub same-result : call-result f c ≡ member-result f o
+  same-result =
+      ap (λ (m : MemberState). call-result f (record { state = m; report = c .report })) (a .state) ∙
+      ap (λ (r : Report). call-result f (record { state = o .state; report = r })) (a .report)
+
+-- a row of causes in front of others
+first-front : (cs ds : List Cause) → (first cs ≡ 0 → ⊥) → first (cs ++ ds) ≡ first cs
+first-front [] ds nz = absurd (nz refl)
+first-front (c ∷ cs) ds nz =
+    by-test (c .holds)
+    (λ t. rw t)
+    (λ t. rw t (first-front cs ds (λ z. nz (rw t z))))
+
+first-behind : (cs ds : List Cause) → AllPassed cs → first (cs ++ ds) ≡ first ds
+first-behind [] ds p = refl
+first-behind (c ∷ cs) ds p = rw (p .0) (first-behind cs ds (p .1))
+
+-- what is written, by the number of the fields
+module _ (k r s p q v : ℕ) (old : List ℕ) (n : ℕ) (row : n ≡ first (fields-row k p q v)) where
+  pub fields-refused : (n ≡ 0 → ⊥) → (record { number = n; length = 0 } ≡ write-result k r s p q v old) × (old ≡ written-after k r s p q v old)
+  unfolding write-result written-after write-row
+  fields-refused nz =
+      let front : first (write-row k r s p q v old) ≡ n = first-front (fields-row k p q v) (writer-row (fields-message k r s p q v) old)
+      (λ z. nz (row ∙ z)) ∙ sym row in
+      (rw (front, ne-eqb n 0 nz), rw (front, ne-eqb n 0 nz))
+
+  pub fields-written : n ≡ 0 → (w : Written) (new : List ℕ) → WriterLeaves (fields-message k r s p q v) old w new
+      → (record { number = w .number; length = w .length } ≡ write-result k r s p q v old) × (new ≡ written-after k r s p q v old)
+  unfolding write-result written-after write-row writing buffer-after fields-row
+  fields-written z w new l =
+      let behind : first (write-row k r s p q v old) ≡ first (writer-row (fields-message k r s p q v) old) =
+      first-behind (fields-row k p q v) (writer-row (fields-message k r s p q v) old) (passed (fields-row k p q v) refl (sym row ∙ z))
+      in
+      let result : Written → WriteResult = λ (x : Written). record { number = x .number; length = x .length } in
+      (rw behind (ap result (l .answer)), rw behind (l .buffer))

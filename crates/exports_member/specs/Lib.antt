@@ -1,0 +1,2 @@
+-- What the functions of one member take and answer.
+pub mod Members
