@@ -13,7 +13,7 @@ shark() {
 }
 
 captures() {
-    built && cc -std=c11 -Wall -Wextra -Werror -pedantic -Ihost/include -o "$work/packets" tests/packets.c "$archive" &&
+    built && cc -std=c11 -Wall -Wextra -Werror -pedantic -Ihost/include -o "$work/packets" tests/packets.c "${archives[@]}" &&
         "$work/packets" "$work/capture" "$work/fields" "$work/words"
 }
 

@@ -176,5 +176,6 @@ static int causes(void) {
 
 int main(void) {
     EXPECT(kalebasin_version() == KALEBASIN_VERSION);
+    EXPECT(kalebasin_member_version() == KALEBASIN_VERSION);
     return play() || read_message() || write_message() || member() || tree() || nothing(NULL) || nothing((uint64_t *)8) || odd_addresses() || causes();
 }

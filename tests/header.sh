@@ -10,12 +10,12 @@ trap 'rm -rf "$work"' EXIT
 # A C program over the header calls each function.
 fits() {
     built &&
-        cc -std=c11 -Wall -Wextra -Werror -pedantic -Ihost/include -o "$work/header" tests/header.c "$archive" && "$work/header"
+        cc -std=c11 -Wall -Wextra -Werror -pedantic -Ihost/include -o "$work/header" tests/header.c "${archives[@]}" && "$work/header"
 }
 
 # The names that the archive leaves to its host.
 asks_for_memory_functions_alone() {
-    nm -u "$archive" >"$work/asked" && awk 'NF == 2 { print $2 }' "$work/asked" >"$work/names" &&
+    nm -u "${archives[@]}" >"$work/asked" && awk 'NF == 2 { print $2 }' "$work/asked" >"$work/names" &&
         ! grep -vxE 'memcpy|memmove|memset|memcmp|bcmp' "$work/names"
 }
 

@@ -41,7 +41,7 @@ vault() {
 
 # An archive of another version ends a program at its first call.
 other_version_told() {
-    mkdir -p "$work/other" && cp "$archive" "$work/other" && (
+    mkdir -p "$work/other" && cp "${archives[@]}" "$work/other" && (
         cd "$work/other" && ar x libexports.a && objcopy --redefine-sym kalebasin_version=own_version exports.o &&
             echo 'unsigned kalebasin_version(void) { return 99; }' | cc -x c -c -o version.o - && ar rc libexports.a exports.o version.o
     ) && ! (cd host && KALEBASIN_LIB=$work/other cargo run --offline --quiet --example office) 2>"$work/told" &&
@@ -54,7 +54,7 @@ check "clippy warns of the test of the lent calls" without_archive clippy --offl
 check "clippy warns of the packages without the core" without_archive clippy --offline --all-targets --no-default-features -- -D warnings
 check "the pages can't be made without the archive" pages
 if ! built; then
-    echo "host: the archive of the exports wasn't built"
+    echo "host: an archive wasn't built"
     echo "$passed passed, $((failed + 1)) failed"
     exit 1
 fi

@@ -5,7 +5,7 @@ cd "$(dirname "$0")/.." || exit 2
 . tests/archive.bash
 . tests/cargo.bash
 if ! built; then
-    echo "page: the archive of the exports wasn't built"
+    echo "page: an archive wasn't built"
     echo "0 passed, 1 failed"
     exit 1
 fi

@@ -16,7 +16,7 @@ taken() {
 }
 
 answers() {
-    built && cc -std=c11 -Wall -Wextra -Werror -pedantic -Ihost/include -o "$work/reference" tests/reference.c "$archive" &&
+    built && cc -std=c11 -Wall -Wextra -Werror -pedantic -Ihost/include -o "$work/reference" tests/reference.c "${archives[@]}" &&
         "$work/reference" <"$work/asked" | diff "$work/want" -
 }
 

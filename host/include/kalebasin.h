@@ -1,11 +1,12 @@
-/* The C functions of the archive libexports.a: play, one member, messages and the calls of the tree, for x86-64.
+/* The C functions of two archives, for x86-64: libexports.a has play, the message reader and the calls of the tree, libexports_member.a has one member
+ * and the message writer.
  * docs/REFERENCE.md says more of each of them, of the bytes and of the numbers.
  *
- * Linking: after `rt staticlib exports`,
+ * Linking: after `rt staticlib exports` and `rt staticlib exports_member`,
  *
- *     cc -Ihost/include PROGRAM.c target/staticlib/libexports.a
+ *     cc -Ihost/include PROGRAM.c target/staticlib/libexports.a target/staticlib/libexports_member.a
  *
- * The archive asks for functions of <string.h> that copy, fill or compare memory, and for nothing else.
+ * and a program needs only the one that it calls. They ask for functions of <string.h> that copy, fill or compare memory, and for nothing else.
  *
  * A slice is a pointer and a count of elements (bytes or 64-bit words). Bytes may start at any address; table and out
  * start at a multiple of 8. Where the count is 0 the pointer isn't followed and may be null. The call then answers as it
@@ -98,10 +99,11 @@ static inline const char *kalebasin_cause(uint32_t number) {
     }
 }
 
-/* The version of the functions that this header declares, and that of the archive's. A program that starts asks that the two
+/* The version of the functions that this header declares, and that which each archive has. A program that starts asks that they
  * be equal: the version goes up with each change that a caller sees. */
 enum { KALEBASIN_VERSION = 1 };
 uint32_t kalebasin_version(void);
+uint32_t kalebasin_member_version(void);
 
 /* A row of the store in bytes, and a row of a table in words. */
 enum { KALEBASIN_STORE_ROW = 28, KALEBASIN_TABLE_ROW = 4 };

@@ -1,8 +1,11 @@
-//! Links the archive of the proved core, if the feature `core` asks for it. Where the archive is missing, what doesn't
+//! Links the archives of the proved core, if the feature `core` asks for it. Where one is missing, what doesn't
 //! link (`cargo check`, `cargo doc`) still works.
 
 use std::env;
 use std::path::PathBuf;
+
+/// The crates whose archives are linked: play, messages and trees; and one member.
+const CRATES: [&str; 2] = ["exports", "exports_member"];
 
 fn main() {
     println!("cargo:rerun-if-changed=build.rs");
@@ -11,15 +14,20 @@ fn main() {
         return;
     }
     let folder = archive_folder();
-    let archive = folder.join("libexports.a");
-    println!("cargo:rerun-if-changed={}", archive.display());
     println!("cargo:rustc-link-search=native={}", folder.display());
-    println!("cargo:rustc-link-lib=static=exports");
-    if !archive.is_file() {
-        println!("cargo:warning=the archive of the proved core isn't there, so nothing links: {}", archive.display());
-        println!("cargo:warning=build it at the repository's root with `rt staticlib exports`,");
-        println!("cargo:warning=or name the folder that holds libexports.a in KALEBASIN_LIB,");
-        println!("cargo:warning=or leave the core out with `--no-default-features`");
+    for name in CRATES {
+        let archive = folder.join(format!("lib{name}.a"));
+        println!("cargo:rerun-if-changed={}", archive.display());
+        println!("cargo:rustc-link-lib=static={name}");
+        if !archive.is_file() {
+            println!(
+                "cargo:warning=an archive of the proved core isn't there, so nothing links: {}",
+                archive.display()
+            );
+            println!("cargo:warning=build it at the repository's root with `rt staticlib {name}`,");
+            println!("cargo:warning=or name the folder that holds it in KALEBASIN_LIB,");
+            println!("cargo:warning=or leave the core out with `--no-default-features`");
+        }
     }
 }
 

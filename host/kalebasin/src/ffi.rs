@@ -1,4 +1,4 @@
-//! The C functions of the archive `libexports.a`, as `include/kalebasin.h` declares them. A slice passes as a
+//! The C functions of the archives `libexports.a` and `libexports_member.a`, as `include/kalebasin.h` declares them. A slice passes as a
 //! pointer and a count of elements. `number` is 0 for OK, else the number of a [`Refusal`](crate::Refusal).
 //!
 //! The functions at the front of the crate are safe and do the same.
@@ -110,15 +110,21 @@ pub struct WriteResult {
 }
 
 /// The version of the C functions that this crate is written for. A call of the front of this crate ends the program
-/// where the archive's [`kalebasin_version`] is another.
+/// where an archive's version ([`kalebasin_version`], [`kalebasin_member_version`]) is another.
 pub const API_VERSION: u32 = 1;
 
 extern "C" {
-    /// The archive's version of these functions.
+    /// The version of these functions that `libexports.a` has.
     ///
     /// # Safety
     /// It asks for nothing.
     pub fn kalebasin_version() -> u32;
+
+    /// The version of these functions that `libexports_member.a` has.
+    ///
+    /// # Safety
+    /// It asks for nothing.
+    pub fn kalebasin_member_version() -> u32;
 
     /// [`play`](crate::play).
     ///

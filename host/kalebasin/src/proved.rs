@@ -1,21 +1,25 @@
 //! Safe functions over the proved core. A refused call changes nothing that is lent to it. The first call of a program
-//! compares the archive's version with this crate's.
+//! compares the archives' versions with this crate's.
 
 use crate::ffi;
 use crate::{Made, Member, MemberFields, Message, Played, Refusal, Report, Round, Vote};
 use std::sync::Once;
 
-/// Ends the program where the archive is of another version, before a result of it is read wrongly.
+/// Ends the program where an archive is of another version, before a result of it is read wrongly.
 fn compare_versions() {
     static COMPARED: Once = Once::new();
     COMPARED.call_once(|| {
-        // SAFETY: the function takes nothing.
-        let archive = unsafe { ffi::kalebasin_version() };
+        // SAFETY: the functions take nothing.
+        let archives = unsafe {
+            [("libexports.a", ffi::kalebasin_version()), ("libexports_member.a", ffi::kalebasin_member_version())]
+        };
         let own = ffi::API_VERSION;
-        assert!(
-            archive == own,
-            "libexports.a has the calls of version {archive}, the crate kalebasin those of version {own}"
-        );
+        for (archive, version) in archives {
+            assert!(
+                version == own,
+                "{archive} has the calls of version {version}, the crate kalebasin those of version {own}"
+            );
+        }
     });
 }
 

@@ -15,7 +15,9 @@ pub const ONE_WALK: Calls = Calls { name: "the same with one walk", play: one_wa
 
 fn one_walk(list: &[u8], store: &mut [u8], table: &mut [u64], answers: &mut [u8]) -> Result<Played, Refusal> {
     let steps = TreeSteps {
-        add: |words, nodes, r, v, p| Tree { words, used: nodes * TABLE_ROW }.add(r, v, p),
+        add: |words, nodes, made| {
+            Tree { words, used: nodes * TABLE_ROW }.add(made.round.0.into(), made.value, made.parent.0.into())
+        },
         commit: |words, r| Tree { words, used: 0 }.commit(r),
     };
     second::play::play_by(&steps, list, store, table, answers)

@@ -539,8 +539,12 @@ fn output_that_can_not_be_written() {
     let full = || Stdio::from(std::fs::File::options().write(true).open("/dev/full").unwrap());
     let closed = || {
         let mut reader = Command::new("true").stdin(Stdio::piped()).spawn().unwrap();
-        let pipe = reader.stdin.take().unwrap();
+        let mut pipe = reader.stdin.take().unwrap();
         reader.wait().unwrap();
+        // A process that another test is just starting has the reader's end for a moment too.
+        while pipe.write(b" ").is_ok() {
+            std::thread::yield_now();
+        }
         Stdio::from(pipe)
     };
     let digits = tool(&["encode", "--hex", "-e", REHEARSAL], b"").1;

@@ -1,6 +1,6 @@
 //! Play: a list of events over a whole office.
 
-use super::member::{self, Record, Step};
+use super::member::{self, Proposal, Record, Step};
 use super::message::{double, word};
 use super::tree;
 use kalebasin::{EventList, Member, Played, Refusal, Round, STORE_ROW, STORE_ROWS};
@@ -11,14 +11,17 @@ const DELIVER: u32 = 2;
 
 /// How play enters proposals and decisions into a table.
 pub struct TreeSteps {
-    /// add, given how many nodes there are, then round, value and parent.
-    pub add: fn(&mut [u64], usize, u64, u64, u64) -> Result<(), Refusal>,
+    /// The add that a proposal names, given how many nodes there are.
+    pub add: fn(&mut [u64], usize, Proposal) -> Result<(), Refusal>,
     /// commit, given the round.
     pub commit: fn(&mut [u64], u64) -> Result<(), Refusal>,
 }
 
 /// The machine's own, which find out how many nodes there are.
-const MACHINE: TreeSteps = TreeSteps { add: |table, _, r, v, p| tree::machine_add(table, r, v, p), commit: tree::machine_commit };
+const MACHINE: TreeSteps = TreeSteps {
+    add: |table, _, made| tree::machine_add(table, made.round.0.into(), made.value, made.parent.0.into()),
+    commit: tree::machine_commit,
+};
 
 /// Runs the list, with the messages in the store, the tree in the table and one answer byte for each event.
 pub fn play(list: &[u8], store: &mut [u8], table: &mut [u64], answers: &mut [u8]) -> Result<Played, Refusal> {
@@ -162,7 +165,7 @@ impl<'a> Office<'a> {
         }
         if let Some(proposal) = step.proposal {
             let nodes = self.played.proposals as usize + 1;
-            (self.steps.add)(self.table, nodes, proposal.round.0.into(), proposal.value, proposal.parent.0.into())?;
+            (self.steps.add)(self.table, nodes, proposal)?;
             self.played.proposals += 1;
         }
         if let Some(decision) = step.decision {
