@@ -83,9 +83,9 @@ decimal-length (suc k) n h =
     by-test (ltb n 10)
     (λ t. rw (decimal-one n (omega tests)) (omega arith))
     (λ t.
-        let big : 10 ≤ n = omega tests in
-        let p : length (decimal (n / 10)) ≤ suc k = decimal-length k (n / 10) (omega (arith, pow-suc 10 (suc k))) in
-        rw (decimal-more n big, length-append (decimal (n / 10)) (digit (n % 10) ∷ [])) (omega arith))
+    let big : 10 ≤ n = omega tests in
+    let p : length (decimal (n / 10)) ≤ suc k = decimal-length k (n / 10) (omega (arith, pow-suc 10 (suc k))) in
+    rw (decimal-more n big, length-append (decimal (n / 10)) (digit (n % 10) ∷ [])) (omega arith))
 
 -- a 64-bit number has at most 20
 pub decimal-of-64-bits : (n : ℕ) → n < 18446744073709551616 → length (decimal n) ≤ 20

@@ -72,8 +72,7 @@ module _ (m : ℕ) where
       let b = c .before .before .before in
       let s = start (narrowed-one b) in
       let a = s .args in
-      let low = b .before .before .if1 .taken in
-      (
+      let low = b .before .before .if1 .taken in (
         omega (arith, put-room 1 (blanks b) (omega (arith, s .pre .1, one-length (a .width) (a .n) low, length-replicate (a .width - 1) BLANK))),
         low,
       )
@@ -92,8 +91,7 @@ module _ (m : ℕ) where
   put-decimal-in-requires c κs =
       let t = c .before in
       let s = start (t .before) in
-      let a = s .args in
-      (
+      let a = s .args in (
         omega (arith, s .pre .0, t .if1 .left),
         rw (t .before .narrower .ensures) (omega (arith, s .pre .1, more-length (a .width) (a .n) (t .if1 .left))),
       )
@@ -108,8 +106,7 @@ module _ (m : ℕ) where
   put-digit-requires-2 c κs =
       let b = c .before .before .before in
       let s = start (narrowed-more b) in
-      let a = s .args in
-      (
+      let a = s .args in (
         omega (arith, put-room 1 (others b) (omega (arith, s .pre .1, more-length (a .width) (a .n) (b .before .before .if1 .left)))),
         omega arith,
       )
