@@ -12,7 +12,7 @@ struct Input {
     count: usize,
 }
 
-// Reads standard input to its end, or until `list` is full; it has room for as much as tells what is printed (`enough`).
+// Reads standard input to its end, or until `list` is full; it has room for as much as tells what is printed (`enough-read`).
 fn read_input(list: &mut [u8]) -> Input
     requires { ⌜ ENOUGH ≤ length (now list) ⌝ }
     ensures { λ r. ⌜ r .count ≤ length (now (list .exit)) ⌝ }
@@ -49,7 +49,7 @@ fn main() {
         return;
     }
     let count = input.count;
-    let mut out = [0u8; rehearsal_output::OUTPUT_ROOM];
+    let mut out = [0u8; rehearsal_output::ROOM_FOR_OUTPUT];
     let n = rehearsal_output::rehearse(&list[0..count], &mut out);
     if !io::write_all(STDOUT_FILENO, &out[0..n]) {
         os::fail(b"rehearsal: can't write standard output");

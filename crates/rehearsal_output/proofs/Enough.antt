@@ -1,6 +1,6 @@
 -- How much of an input tells what is printed for it: a list that fits has at most 20,008 bytes, and of a longer input as many and one more give the
 -- same number as all of it. Assumes nothing.
-use mathlib.Core.Path.{_≡_, refl, sym, _∙_}
+use mathlib.Core.Path.{_≡_, refl}
 use mathlib.Core.Bool.{true, false, not}
 use mathlib.Core.List.{List, [], _∷_}
 use Prim.Native.Nat.{ℕ, zero, suc, _*_, _≤_, _<_}
@@ -9,7 +9,8 @@ use lib.ListN.{length, take, length-drop}
 use lib.Seq.{take-all, length-take-le}
 use lib.Dec.{ltb, eqb}
 use Rattle.laws.specs.Tests.{tests, by-test, clash, and-right}
-use Rattle.play_events.specs.List.{EVENT-START, EVENT-DELIVER, START-BYTES, DELIVER-BYTES, HEAD-BYTES, begins-with, body, count-of, event-size, rest, exact, list-fits}
+use Rattle.play_events.specs.List.{EVENT-START, EVENT-DELIVER, START-BYTES, DELIVER-BYTES, HEAD-BYTES, begins-with}
+use Rattle.play_events.specs.List.{body, count-of, event-size, rest, exact, list-fits}
 use Rattle.play.proofs.Running.{list-parts}
 use Rattle.rehearsal_output.specs.Output.{LONGEST-LIST, ENOUGH, rehearsal-number, rehearsal-output}
 
@@ -37,9 +38,9 @@ too-long : (list : List ℕ) → LONGEST-LIST < length list → list-fits list �
 too-long list h = by-test (list-fits list) (λ t. absurd (omega (arith, list-longest list t))) (λ t. t)
 
 -- what is printed for an input is what is printed for as much of its front
-pub enough : (k : ℕ) (input : List ℕ) → ENOUGH ≤ k → rehearsal-output (take k input) ≡ rehearsal-output input
+pub enough-read : (k : ℕ) (input : List ℕ) → ENOUGH ≤ k → rehearsal-output (take k input) ≡ rehearsal-output input
 unfolding rehearsal-output rehearsal-number
-enough k input h =
+enough-read k input h =
     by-test (ltb k (length input))
     (λ t.
     let long : length (take k input) ≡ k = length-take-le k input (omega tests) in

@@ -14,11 +14,11 @@ use Rattle.model.specs.Demand.{ended}
 use Rattle.model.specs.Counts.{made-tree}
 use Rattle.play_events.specs.List.{HEAD-BYTES, START-BYTES, members-of, list-fits, events-of}
 
-abbrev pub TABLE-ROWS : ℕ
-TABLE-ROWS = 64
+abbrev pub REHEARSAL-TABLE-ROWS : ℕ
+REHEARSAL-TABLE-ROWS = 64
 
-abbrev pub STORE-ROWS : ℕ
-STORE-ROWS = 1000
+abbrev pub REHEARSAL-STORE-ROWS : ℕ
+REHEARSAL-STORE-ROWS = 1000
 
 abbrev pub MOST-EVENTS : ℕ
 MOST-EVENTS = 1000
@@ -32,15 +32,15 @@ in-line true x = decimal x
 in-line false x = BLANK ∷ decimal x
 
 -- numbers behind the first of a line
-unfoldable pub further : List ℕ → List ℕ
-further [] = []
-further (x ∷ l) = in-line false x ++ further l
+unfoldable pub behind-blanks : List ℕ → List ℕ
+behind-blanks [] = []
+behind-blanks (x ∷ l) = in-line false x ++ behind-blanks l
 
 -- numbers with one blank between them
 unfoldable pub spaced : List ℕ → List ℕ
-unfolding further
+unfolding behind-blanks
 spaced [] = []
-spaced (x ∷ l) = in-line true x ++ further l
+spaced (x ∷ l) = in-line true x ++ behind-blanks l
 
 -- numbers on a line; an empty line for none
 unfoldable pub line : List ℕ → List ℕ
@@ -58,7 +58,7 @@ node-lines (n ∷ ns) = node-line n ++ node-lines ns
 
 -- what the model is fed
 abbrev pub rehearsal-sizes : List ℕ → Sizes
-rehearsal-sizes list = record { n = members-of list; store = STORE-ROWS; table = TABLE-ROWS }
+rehearsal-sizes list = record { n = members-of list; store = REHEARSAL-STORE-ROWS; table = REHEARSAL-TABLE-ROWS }
 
 -- the answers, then each node
 unfoldable pub run-output : Sizes → List Event → List ℕ

@@ -5,7 +5,7 @@ use Prim.Native.Nat.{ℕ, _+_, _*_, _≤_}
 use lib.ListN.{length, drop}
 use Rattle.decimal.specs.Text.{PutText}
 use Rattle.play_store.specs.Rows.{row-length}
-use Rattle.rehearsal_output.specs.Output.{TABLE-ROWS, STORE-ROWS, MOST-EVENTS, rehearsal-output}
+use Rattle.rehearsal_output.specs.Output.{REHEARSAL-TABLE-ROWS, REHEARSAL-STORE-ROWS, MOST-EVENTS, rehearsal-output}
 
 -- the output stands at the front, bytes behind it stay, and its length is answered
 pub record Printed (list old : List ℕ) (n : ℕ) (new : List ℕ) : Type 0 where
@@ -20,31 +20,31 @@ pub record PutWithin (old : List ℕ) (at : ℕ) (text : List ℕ) (next : ℕ) 
   pub within : length text ≤ most
 
 -- room for an answer: a blank, and the three digits of a byte
-abbrev pub ANSWER-ROOM : ℕ
-ANSWER-ROOM = 4
+abbrev pub ROOM-FOR-ANSWER : ℕ
+ROOM-FOR-ANSWER = 4
 
 -- room for a number of 64 bits: a blank, and its 20 digits
-abbrev pub NUMBER-ROOM : ℕ
-NUMBER-ROOM = 21
+abbrev pub ROOM-FOR-NUMBER : ℕ
+ROOM-FOR-NUMBER = 21
 
 -- room for a node: four numbers and a line feed
-abbrev pub NODE-ROOM : ℕ
-NODE-ROOM = 4 * NUMBER-ROOM + 1
+abbrev pub ROOM-FOR-NODE : ℕ
+ROOM-FOR-NODE = 4 * ROOM-FOR-NUMBER + 1
 
 -- room for any output: the answers, a line feed, the nodes
-abbrev pub OUTPUT-ROOM : ℕ
-OUTPUT-ROOM = ANSWER-ROOM * MOST-EVENTS + 1 + NODE-ROOM * TABLE-ROWS
+abbrev pub ROOM-FOR-OUTPUT : ℕ
+ROOM-FOR-OUTPUT = ROOM-FOR-ANSWER * MOST-EVENTS + 1 + ROOM-FOR-NODE * REHEARSAL-TABLE-ROWS
 
 -- 1,000 store rows, 64 table rows, an answer byte for each event, room for any output
 pub record RehearsalLent (messages nodes answered out : List ℕ) : Type 0 where
-  pub store-length : length messages ≡ row-length * STORE-ROWS
-  pub table-length : length nodes ≡ 4 * TABLE-ROWS
+  pub store-length : length messages ≡ row-length * REHEARSAL-STORE-ROWS
+  pub table-length : length nodes ≡ 4 * REHEARSAL-TABLE-ROWS
   pub answers-length : length answered ≡ MOST-EVENTS
-  pub room : OUTPUT-ROOM ≤ length out
+  pub room : ROOM-FOR-OUTPUT ≤ length out
 
 -- answers and nodes for which there is room
 pub record TakenFits (count : ℕ) (answered nodes out : List ℕ) : Type 0 where
   pub few : count ≤ MOST-EVENTS
   pub said : count ≤ length answered
-  pub rows : length nodes ≡ 4 * TABLE-ROWS
-  pub room : OUTPUT-ROOM ≤ length out
+  pub rows : length nodes ≡ 4 * REHEARSAL-TABLE-ROWS
+  pub room : ROOM-FOR-OUTPUT ≤ length out

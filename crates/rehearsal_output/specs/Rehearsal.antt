@@ -5,16 +5,15 @@ use Rattle.xdr.specs.Words.{word, hyper}
 use Rattle.play_events.specs.List.{EVENT-START, EVENT-DELIVER}
 
 -- s(member, round, offer)
-unfoldable pub s : ℕ → ℕ → ℕ → List ℕ
+abbrev s : ℕ → ℕ → ℕ → List ℕ
 s member round offer = word EVENT-START ++ word member ++ word round ++ hyper offer
 
 -- d(message, member)
-unfoldable pub d : ℕ → ℕ → List ℕ
+abbrev d : ℕ → ℕ → List ℕ
 d message member = word EVENT-DELIVER ++ word message ++ word member
 
 -- N = 3, 15 events
 unfoldable pub rehearsal-list : List ℕ
-unfolding s d
 rehearsal-list =
     word 3 ++ word 15 ++
     s 1 1 70 ++ d 0 0 ++ d 0 1 ++ d 1 1 ++ d 1 1 ++ d 2 1 ++ d 3 0 ++ s 2 2 80 ++
@@ -25,7 +24,8 @@ rehearsal-list =
 -- 0 0 0 0 25 0 0 0 0 0 0 0 0 0 0
 abbrev pub answers-line : List ℕ
 answers-line =
-    48 ∷ 32 ∷ 48 ∷ 32 ∷ 48 ∷ 32 ∷ 48 ∷ 32 ∷ 50 ∷ 53 ∷ 32 ∷ 48 ∷ 32 ∷ 48 ∷ 32 ∷ 48 ∷ 32 ∷ 48 ∷ 32 ∷ 48 ∷ 32 ∷ 48 ∷ 32 ∷ 48 ∷ 32 ∷ 48 ∷ 32 ∷ 48 ∷ 32 ∷ 48 ∷ 10 ∷ []
+    48 ∷ 32 ∷ 48 ∷ 32 ∷ 48 ∷ 32 ∷ 48 ∷ 32 ∷ 50 ∷ 53 ∷
+    32 ∷ 48 ∷ 32 ∷ 48 ∷ 32 ∷ 48 ∷ 32 ∷ 48 ∷ 32 ∷ 48 ∷ 32 ∷ 48 ∷ 32 ∷ 48 ∷ 32 ∷ 48 ∷ 32 ∷ 48 ∷ 32 ∷ 48 ∷ 10 ∷ []
 
 -- 0 0 0 3
 abbrev pub root-line : List ℕ

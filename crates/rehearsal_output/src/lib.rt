@@ -3,12 +3,11 @@ ghost use mathlib.Core.Path.{_≡_};
 ghost use mathlib.Core.List.{[], _∷_, _++_};
 ghost use Prim.Native.Nat.{_+_, _*_, _≤_, _<_};
 ghost use lib.ListN.{length, take};
-ghost use Rattle.decimal.specs.Digits.{decimal};
 ghost use Rattle.decimal.specs.Text.{PutText};
 ghost use Rattle.tree_theory.specs.Table.{row, used};
 ghost use Rattle.tree_theory.specs.Table.{nodes as nodes-of};
-ghost use Rattle.rehearsal_output.specs.Output.{LINE-FEED, in-line, line, node-line, node-lines, rehearsal-output};
-ghost use Rattle.rehearsal_output.specs.Promise.{ANSWER-ROOM, NODE-ROOM, PutWithin, Printed, RehearsalLent, TakenFits};
+ghost use Rattle.rehearsal_output.specs.Output.{LINE-FEED, in-line, line, node-line, node-lines};
+ghost use Rattle.rehearsal_output.specs.Promise.{ROOM-FOR-ANSWER, ROOM-FOR-NODE, PutWithin, Printed, RehearsalLent, TakenFits};
 
 const LINE_FEED: u8 = 10;
 
@@ -21,7 +20,7 @@ const TABLE_WORDS: usize = 256;
 const MOST_EVENTS: usize = 1000;
 
 // Room for any output.
-pub const OUTPUT_ROOM: usize = 9441;
+pub const ROOM_FOR_OUTPUT: usize = 9441;
 
 // A byte, as a wider number.
 fn wide(b: u8) -> u64
@@ -51,9 +50,9 @@ fn end_line(out: &mut [u8], at: usize) -> usize
 
 // The answers on a line; an empty line where there are none.
 fn put_answers(answered: &[u8], out: &mut [u8], at: usize) -> usize
-    requires { ⌜ at + ANSWER-ROOM * length (now answered) < length (now out) ⌝ }
+    requires { ⌜ at + ROOM-FOR-ANSWER * length (now answered) < length (now out) ⌝ }
     ensures { λ r. ⌜ PutWithin (now (out .entry)) at (line (now (answered .entry))) r (now (out .exit))
-        (ANSWER-ROOM * length (now (answered .entry)) + 1) ⌝ }
+        (ROOM-FOR-ANSWER * length (now (answered .entry)) + 1) ⌝ }
 {
     let mut next = at;
     let mut i = 0;
@@ -66,8 +65,8 @@ fn put_answers(answered: &[u8], out: &mut [u8], at: usize) -> usize
 
 // Four numbers on a line.
 fn put_four(out: &mut [u8], at: usize, a: u64, b: u64, c: u64, d: u64) -> usize
-    requires { ⌜ at + NODE-ROOM ≤ length (now out) ⌝ }
-    ensures { λ r. ⌜ PutWithin (now (out .entry)) at (line (a ∷ b ∷ c ∷ d ∷ [])) r (now (out .exit)) NODE-ROOM ⌝ }
+    requires { ⌜ at + ROOM-FOR-NODE ≤ length (now out) ⌝ }
+    ensures { λ r. ⌜ PutWithin (now (out .entry)) at (line (a ∷ b ∷ c ∷ d ∷ [])) r (now (out .exit)) ROOM-FOR-NODE ⌝ }
 {
     let a_end = put_in_line(out, at, a, true);
     let b_end = put_in_line(out, a_end, b, false);
@@ -78,8 +77,8 @@ fn put_four(out: &mut [u8], at: usize, a: u64, b: u64, c: u64, d: u64) -> usize
 
 // A node on a line.
 fn put_node(nodes: &[u64], i: usize, out: &mut [u8], at: usize) -> usize
-    requires { ⌜ (4 * i + 4 ≤ length (now nodes)) × (at + NODE-ROOM ≤ length (now out)) ⌝ }
-    ensures { λ r. ⌜ PutWithin (now (out .entry)) at (node-line (row (now (nodes .entry)) i)) r (now (out .exit)) NODE-ROOM ⌝ }
+    requires { ⌜ (4 * i + 4 ≤ length (now nodes)) × (at + ROOM-FOR-NODE ≤ length (now out)) ⌝ }
+    ensures { λ r. ⌜ PutWithin (now (out .entry)) at (node-line (row (now (nodes .entry)) i)) r (now (out .exit)) ROOM-FOR-NODE ⌝ }
 {
     let round = tree_table::round_at(nodes, i);
     let parent = tree_table::parent_at(nodes, i);
@@ -90,9 +89,9 @@ fn put_node(nodes: &[u64], i: usize, out: &mut [u8], at: usize) -> usize
 
 // A line for each node.
 fn put_nodes(nodes: &[u64], out: &mut [u8], at: usize) -> usize
-    requires { ⌜ at + NODE-ROOM * used (now nodes) ≤ length (now out) ⌝ }
+    requires { ⌜ at + ROOM-FOR-NODE * used (now nodes) ≤ length (now out) ⌝ }
     ensures { λ r. ⌜ PutWithin (now (out .entry)) at (node-lines (nodes-of (now (nodes .entry)))) r (now (out .exit))
-        (NODE-ROOM * used (now (nodes .entry))) ⌝ }
+        (ROOM-FOR-NODE * used (now (nodes .entry))) ⌝ }
 {
     let n = tree_table::used_rows(nodes);
     let mut next = at;
@@ -106,7 +105,7 @@ fn put_nodes(nodes: &[u64], out: &mut [u8], at: usize) -> usize
 
 // A line with only a number.
 fn put_refusal(out: &mut [u8], number: u32) -> usize
-    requires { ⌜ NODE-ROOM ≤ length (now out) ⌝ }
+    requires { ⌜ ROOM-FOR-NODE ≤ length (now out) ⌝ }
     ensures { λ r. ⌜ PutText (now (out .entry)) 0 (line (number ∷ [])) r (now (out .exit)) ⌝ }
 {
     let end = put_in_line(out, 0, number as u64, true);
@@ -143,7 +142,7 @@ fn put_played(
 }
 
 // Plays the list with 64 table rows and 1,000 store rows: puts what is printed at the front of `out`, and answers its length.
-pub fn rehearse(list: &[u8], out: &mut [u8; OUTPUT_ROOM]) -> usize
+pub fn rehearse(list: &[u8], out: &mut [u8; ROOM_FOR_OUTPUT]) -> usize
     ensures { λ n. ⌜ Printed (now (list .entry)) (now (out .entry)) n (now (out .exit)) ⌝ }
 {
     let mut messages = [0u8; STORE_BYTES];

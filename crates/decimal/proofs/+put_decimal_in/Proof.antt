@@ -1,16 +1,14 @@
 -- `decimal::put_decimal_in` meets its contract, by recursion to the number without its last digit: the measure is the number. Assumes nothing.
-use mathlib.Core.Path.{_≡_}
-use mathlib.Core.List.{[], _∷_}
-use Prim.Native.Nat.{ℕ, _-_, _/_, _<_, _≤_}
+use Prim.Native.Nat.{ℕ, _-_, _/_, _<_}
 use native.Mathlib.Omega.{arith}
-use lib.ListN.{length, replicate, length-replicate}
+use lib.ListN.{replicate, length-replicate}
 use borrow.Author.Needs.{needs}
 use borrow.Fn.Kinds.{In}
 use borrow.Fn.PlainCycle.{Measures, is, falls, and}
 use denote.Ref.{now}
-use Rattle.decimal.specs.Digits.{BLANK, digit, decimal-in}
+use Rattle.decimal.specs.Digits.{BLANK, decimal-in}
 use Rattle.decimal.specs.Text.{PutText}
-use Rattle.decimal.proofs.Putting.{put-room}
+use Rattle.decimal.proofs.Text.{text-room}
 use Rattle.decimal.proofs.Columns.{one-length, more-length, one-put, more-put}
 use Rattle.decimal.proofs.put_decimal_in.Reads as put-decimal-in
 use Rattle.decimal.proofs.put_decimal_in.Kinds as put-decimal-in-kinds
@@ -73,7 +71,7 @@ module _ (m : ℕ) where
       let s = start (narrowed-one b) in
       let a = s .args in
       let low = b .before .before .if1 .taken in (
-        omega (arith, put-room 1 (blanks b) (omega (arith, s .pre .1, one-length (a .width) (a .n) low, length-replicate (a .width - 1) BLANK))),
+        omega (arith, text-room 1 (blanks b) (omega (arith, s .pre .1, one-length (a .width) (a .n) low, length-replicate (a .width - 1) BLANK))),
         low,
       )
 
@@ -83,7 +81,8 @@ module _ (m : ℕ) where
   returns : lts.Need-returns callees asked put-decimal-in.Post
   returns c =
       let d = c .before .before in
-      let b = d .before .before .before .before in
+      let known = d .before .before in
+      let b = known .before .before in
       let s = start (narrowed-one b) in
       one-put (s .args .width) (s .args .n) (s .pre .1) (b .before .before .if1 .taken) (blanks b) (d .put-digit .ensures)
 
@@ -107,7 +106,7 @@ module _ (m : ℕ) where
       let b = c .before .before .before in
       let s = start (narrowed-more b) in
       let a = s .args in (
-        omega (arith, put-room 1 (others b) (omega (arith, s .pre .1, more-length (a .width) (a .n) (b .before .before .if1 .left)))),
+        omega (arith, text-room 1 (others b) (omega (arith, s .pre .1, more-length (a .width) (a .n) (b .before .before .if1 .left)))),
         omega arith,
       )
 
@@ -117,7 +116,8 @@ module _ (m : ℕ) where
   returns-2 : lts.Need-returns-2 callees asked put-decimal-in.Post
   returns-2 c =
       let d = c .before .before in
-      let b = d .before .before .before .before in
+      let known = d .before .before in
+      let b = known .before .before in
       let s = start (narrowed-more b) in
       more-put (s .args .width) (s .args .n) (s .pre .1) (b .before .before .if1 .left) (others b) (d .put-digit2 .ensures)
 

@@ -6,7 +6,7 @@ use lib.ListN.{length, replicate, length-replicate}
 use borrow.Author.Needs.{needs}
 use Rattle.decimal.specs.Digits.{BLANK}
 use Rattle.decimal.specs.Text.{PutText}
-use Rattle.decimal.proofs.Putting.{put-none, put-length, put-room}
+use Rattle.decimal.proofs.Text.{text-none, text-length, text-room}
 use Rattle.decimal.proofs.Columns.{blank-more}
 use Rattle.decimal.proofs.put_blanks.Statement.{statement}
 use Rattle.decimal.proofs.put_blanks.Tie as tie
@@ -18,12 +18,12 @@ abbrev μ-loop : tie.MeasureT-loop
 μ-loop out₀ at count next₀ i₀ out next i = count - i
 
 loop-holds : tie.Need-loop-holds Inv-loop μ-loop
-loop-holds c = (search needs, search needs, put-none _ _)
+loop-holds c = (search needs, search needs, text-none _ _)
 
 put-byte-requires : tie.Need-put-byte-requires Inv-loop μ-loop
 put-byte-requires c κs =
     let turn = c .before .before .loop in
-    omega (arith, put-room 1 (turn .inv .2) (omega (arith, length-replicate (turn .i) BLANK)))
+    omega (arith, text-room 1 (turn .inv .2) (omega (arith, length-replicate (turn .i) BLANK)))
 
 add-i : tie.Need-add-i Inv-loop μ-loop
 add-i c = omega arith
@@ -40,7 +40,7 @@ loop-again c =
 same-length : tie.Need-same-length Inv-loop μ-loop
 same-length c =
     let turn = c .before .loop in
-    put-length (turn .inv .2) (omega (arith, length-replicate (turn .i) BLANK))
+    text-length (turn .inv .2) (omega (arith, length-replicate (turn .i) BLANK))
 
 returns : tie.Need-returns Inv-loop μ-loop
 returns c =

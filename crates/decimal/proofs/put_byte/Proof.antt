@@ -1,6 +1,6 @@
 -- `decimal::put_byte` meets its contract. Assumes nothing.
 use borrow.Author.Needs.{needs}
-use Rattle.decimal.proofs.Putting.{put-one}
+use Rattle.decimal.proofs.Text.{text-one}
 use Rattle.decimal.proofs.put_byte.Statement.{statement}
 use Rattle.decimal.proofs.put_byte.Tie as tie
 
@@ -14,7 +14,7 @@ same-length : tie.Need-same-length
 same-length c = search needs
 
 returns : tie.Need-returns
-returns c = put-one _ _ _ (c .pre)
+returns c = text-one _ _ _ (c .pre)
 
 pub put-byte-spec : {M : Type 1} → statement M
 put-byte-spec = tie.close (tie.spec slice-write-out add-result same-length returns)

@@ -1,8 +1,7 @@
 -- `rehearsal::read_input` is safe and ends: each reading takes some of what is left of the bytes. Assumes nothing.
 use mathlib.Core.Path.{_≡_}
 use Prim.Native.Nat.{_-_, _≤_}
-use native.Mathlib.Omega.{arith}
-use lib.ListN.{length, length-drop, length-append, length-take}
+use lib.ListN.{length}
 use borrow.Author.Needs.{needs}
 use Rattle.rehearsal.proofs.read_input.Statement.{statement}
 use Rattle.rehearsal.proofs.read_input.Tie as tie

@@ -5,16 +5,16 @@ use lib.ListN.{length, take}
 use lib.Dec.{eqb}
 use borrow.Author.Needs.{needs}
 use denote.Ref.{now}
-use Rattle.decimal.proofs.Putting.{put-length}
+use Rattle.decimal.proofs.Text.{text-length}
 use Rattle.rehearsal_output.specs.Output.{spaced, line}
-use Rattle.rehearsal_output.specs.Promise.{ANSWER-ROOM, PutWithin}
+use Rattle.rehearsal_output.specs.Promise.{ROOM-FOR-ANSWER, PutWithin}
 use Rattle.rehearsal_output.proofs.Lines.{in-line-8, within-none, within-room, answer-more, answers-done}
 use Rattle.rehearsal_output.proofs.put_answers.Statement.{statement}
 use Rattle.rehearsal_output.proofs.put_answers.Tie as tie
 
 abbrev Inv-loop : tie.InvT-loop
 Inv-loop answered out₀ at next₀ i₀ out next i =
-    (i ≤ length answered) × (at + ANSWER-ROOM * length answered < length out₀) × PutWithin out₀ at (spaced (take i answered)) next out (ANSWER-ROOM * i)
+    (i ≤ length answered) × (at + ROOM-FOR-ANSWER * length answered < length out₀) × PutWithin out₀ at (spaced (take i answered)) next out (ROOM-FOR-ANSWER * i)
 
 abbrev μ-loop : tie.MeasureT-loop
 μ-loop answered out₀ at next₀ i₀ out next i = length answered - i
@@ -33,7 +33,7 @@ put-in-line-requires : tie.Need-put-in-line-requires Inv-loop μ-loop
 put-in-line-requires c κs =
     let turn = c .before .before .before .before .loop in
     let i = turn .i in
-    omega (arith, in-line-8 (eqb i 0) (c .wide .result) (c .wide .ensures .1), within-room (ANSWER-ROOM * i) ANSWER-ROOM (turn .inv .2) (omega arith))
+    omega (arith, in-line-8 (eqb i 0) (c .wide .result) (c .wide .ensures .1), within-room (ROOM-FOR-ANSWER * i) ROOM-FOR-ANSWER (turn .inv .2) (omega arith))
 
 add-i : tie.Need-add-i Inv-loop μ-loop
 add-i c = omega arith
@@ -46,17 +46,19 @@ loop-again c =
     let put = c .before .before in
     let byte = put .before in
     let test = byte .before .before .before in
-    let turn = test .before .loop in (
+    let turn = test .before .loop in
+    let answered = now (test .before .before .before .before .args .answered) in
+    let same = byte .wide .ensures in (
       omega arith,
       turn .inv .1,
-      answer-more (now (test .before .before .before .before .args .answered)) (turn .i) (turn .inv .1) (turn .inv .2) (byte .wide .result) (test .loop-test .taken) (byte .wide .ensures .0) (byte .wide .ensures .1)
+      answer-more answered (turn .i) (turn .inv .1) (turn .inv .2) (byte .wide .result) (test .loop-test .taken) (same .0) (same .1)
           (put .put-in-line .ensures),
     )
 
 end-line-requires : tie.Need-end-line-requires Inv-loop μ-loop
 end-line-requires c κs =
     let turn = c .before .before .loop in
-    omega (arith, within-room (ANSWER-ROOM * turn .i) 1 (turn .inv .2) (omega arith))
+    omega (arith, within-room (ROOM-FOR-ANSWER * turn .i) 1 (turn .inv .2) (omega arith))
 
 -- all answers are put, and the line is ended
 abbrev turned : tie.After-end-line Inv-loop μ-loop → tie.At-loop Inv-loop μ-loop
@@ -64,7 +66,7 @@ turned c = c .before .before .before
 
 ended : (c : tie.After-end-line Inv-loop μ-loop) →
     let a = turned c .before .before .before .args in
-    PutWithin (now (a .out)) (a .at) (line (now (a .answered))) (c .end-line .result) (c .end-line .last .0) (ANSWER-ROOM * length (now (a .answered)) + 1)
+    PutWithin (now (a .out)) (a .at) (line (now (a .answered))) (c .end-line .result) (c .end-line .last .0) (ROOM-FOR-ANSWER * length (now (a .answered)) + 1)
 ended c =
     let turn = turned c .loop in
     answers-done (now (turned c .before .before .before .args .answered)) (turn .i) (turn .inv .1) (turn .inv .2) (omega arith) (c .end-line .ensures)
@@ -72,7 +74,7 @@ ended c =
 same-length : tie.Need-same-length Inv-loop μ-loop
 same-length c =
     let put = ended (c .before .before) in
-    put-length (put .put) (omega (arith, put .within, turned (c .before .before) .loop .inv .1))
+    text-length (put .put) (omega (arith, put .within, turned (c .before .before) .loop .inv .1))
 
 returns : tie.Need-returns Inv-loop μ-loop
 returns c = ended (c .before .before)

@@ -3,7 +3,7 @@ use native.Mathlib.Omega.{arith}
 use lib.ListN.{length}
 use borrow.Author.Needs.{needs}
 use Rattle.decimal.specs.Digits.{decimal}
-use Rattle.decimal.proofs.Putting.{put-behind, put-room}
+use Rattle.decimal.proofs.Text.{text-behind, text-room}
 use Rattle.rehearsal_output.proofs.put_in_line.Statement.{statement}
 use Rattle.rehearsal_output.proofs.put_in_line.Tie as tie
 
@@ -26,7 +26,7 @@ put-decimal-requires-2 c κs =
     let blank = c .before .before .before in
     let t = blank .before .before in
     let s = t .before .before in
-    put-room (length (decimal (s .args .n))) (blank .put-byte .ensures) (omega (arith, rw (t .if1 .left) at (s .pre)))
+    text-room (length (decimal (s .args .n))) (blank .put-byte .ensures) (omega (arith, rw (t .if1 .left) at (s .pre)))
 
 same-length-2 : tie.Need-same-length-2
 same-length-2 c = search needs
@@ -36,7 +36,7 @@ returns-2 c =
     let put = c .before .before in
     let blank = put .before .before .before .before in
     let t = blank .before .before in
-    rw (t .if1 .left) (put-behind (blank .put-byte .ensures) (put .put-decimal2 .ensures) (omega (arith, rw (t .if1 .left) at (t .before .before .pre))))
+    rw (t .if1 .left) (text-behind (blank .put-byte .ensures) (put .put-decimal2 .ensures) (omega (arith, rw (t .if1 .left) at (t .before .before .pre))))
 
 pub put-in-line-spec : {M : Type 1} → statement M
 put-in-line-spec =

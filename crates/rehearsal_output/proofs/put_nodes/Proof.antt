@@ -7,16 +7,16 @@ use borrow.Author.Needs.{needs}
 use denote.Ref.{now}
 use Rattle.tree_theory.specs.Table.{rows-of, used}
 use Rattle.tree_theory.proofs.Words.{used-rows}
-use Rattle.decimal.proofs.Putting.{put-length}
+use Rattle.decimal.proofs.Text.{text-length}
 use Rattle.rehearsal_output.specs.Output.{node-lines}
-use Rattle.rehearsal_output.specs.Promise.{NODE-ROOM, PutWithin}
+use Rattle.rehearsal_output.specs.Promise.{ROOM-FOR-NODE, PutWithin}
 use Rattle.rehearsal_output.proofs.Lines.{within-none, within-room, node-more}
 use Rattle.rehearsal_output.proofs.put_nodes.Statement.{statement}
 use Rattle.rehearsal_output.proofs.put_nodes.Tie as tie
 
 abbrev Inv-loop : tie.InvT-loop
 Inv-loop nodes out₀ at n next₀ i₀ out next i =
-    (i ≤ n) × (4 * n ≤ length nodes) × (at + NODE-ROOM * n ≤ length out₀) × PutWithin out₀ at (node-lines (rows-of nodes i)) next out (NODE-ROOM * i)
+    (i ≤ n) × (4 * n ≤ length nodes) × (at + ROOM-FOR-NODE * n ≤ length out₀) × PutWithin out₀ at (node-lines (rows-of nodes i)) next out (ROOM-FOR-NODE * i)
 
 abbrev μ-loop : tie.MeasureT-loop
 μ-loop nodes out₀ at n next₀ i₀ out next i = n - i
@@ -34,7 +34,7 @@ loop-holds c =
 put-node-requires : tie.Need-put-node-requires Inv-loop μ-loop
 put-node-requires c κs =
     let turn = c .before .before .loop in
-    (omega arith, within-room (NODE-ROOM * turn .i) NODE-ROOM (turn .inv .3) (omega arith))
+    (omega arith, within-room (ROOM-FOR-NODE * turn .i) ROOM-FOR-NODE (turn .inv .3) (omega arith))
 
 add-i : tie.Need-add-i Inv-loop μ-loop
 add-i c = omega arith
@@ -47,12 +47,13 @@ loop-again c =
     let put = c .before .before in
     let head = put .before .before .before in
     let turn = head .loop in
-    (omega arith, turn .inv .1, turn .inv .2, node-more (now (head .before .before .before .before .args .nodes)) (turn .i) (turn .inv .3) (put .put-node .ensures) (omega arith))
+    let nodes = now (head .before .before .before .before .args .nodes) in
+    (omega arith, turn .inv .1, turn .inv .2, node-more nodes (turn .i) (turn .inv .3) (put .put-node .ensures) (omega arith))
 
 same-length : tie.Need-same-length Inv-loop μ-loop
 same-length c =
     let turn = c .before .loop in
-    put-length (turn .inv .3 .put) (omega (arith, turn .inv .3 .within))
+    text-length (turn .inv .3 .put) (omega (arith, turn .inv .3 .within))
 
 returns : tie.Need-returns Inv-loop μ-loop
 returns c =

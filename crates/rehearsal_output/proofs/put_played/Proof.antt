@@ -7,7 +7,7 @@ use Rattle.play_events.specs.declared.ListHead.{ListHead}
 use Rattle.play.specs.Lent.{as-lent}
 use Rattle.play.proofs.Giving.{PassedList, taken-passed}
 use Rattle.play.proofs.Running.{list-parts}
-use Rattle.rehearsal_output.proofs.Playing.{printed, refused-output, taken-output}
+use Rattle.rehearsal_output.proofs.Playing.{as-printed, refused-output, taken-output}
 use Rattle.rehearsal_output.proofs.put_played.Statement.{statement}
 use Rattle.rehearsal_output.proofs.put_played.Tie as tie
 
@@ -47,7 +47,7 @@ returns c =
     let t = put .before .before in
     let p = played (t .before) in
     let s = entry p in
-    printed (rw (refused-output (now (s .args .list)) (s .pre) (p .play .ensures) (t .if1 .taken)) (put .put-refusal .ensures))
+    as-printed (rw (refused-output (now (s .args .list)) (s .pre) (p .play .ensures) (t .if1 .taken)) (put .put-refusal .ensures))
 
 read-head-requires : tie.Need-read-head-requires
 read-head-requires c κs = list-parts (passed-list c .fits) .head
@@ -88,7 +88,7 @@ returns-2 c =
     let p = played (head .before .before) in
     let s = entry p in
     let count-is = ap (λ (h : ListHead). h .count) (head .read-head .ensures) in
-    printed (rw (taken-output (now (s .args .list)) (s .pre) (p .play .ensures) (head .before .if1 .left)) (rw count-is at (put .put-taken .ensures)))
+    as-printed (rw (taken-output (now (s .args .list)) (s .pre) (p .play .ensures) (head .before .if1 .left)) (rw count-is at (put .put-taken .ensures)))
 
 pub put-played-spec : {M : Type 1} → statement M
 put-played-spec =

@@ -2,7 +2,7 @@
 use mathlib.Core.Bool.{true}
 use native.Mathlib.Omega.{arith}
 use borrow.Author.Needs.{needs}
-use Rattle.decimal.proofs.Putting.{put-behind, put-room}
+use Rattle.decimal.proofs.Text.{text-behind, text-room}
 use Rattle.rehearsal_output.proofs.Lines.{in-line-64, line-of-one}
 use Rattle.rehearsal_output.proofs.put_refusal.Statement.{statement}
 use Rattle.rehearsal_output.proofs.put_refusal.Tie as tie
@@ -16,7 +16,7 @@ end-line-requires : tie.Need-end-line-requires
 end-line-requires c κs =
     let put = c .before .before .before in
     let s = put .before .before .before in
-    omega (arith, put-room 1 (put .put-in-line .ensures) (omega (arith, s .pre, in-line-64 true (s .args .number) (omega (arith, s .fits .number .fits)))))
+    omega (arith, text-room 1 (put .put-in-line .ensures) (omega (arith, s .pre, in-line-64 true (s .args .number) (omega (arith, s .fits .number .fits)))))
 
 same-length : tie.Need-same-length
 same-length c = search needs
@@ -27,7 +27,7 @@ returns c =
     let put = end .before .before .before .before in
     let s = put .before .before .before in
     rw (line-of-one (s .args .number))
-    (put-behind (put .put-in-line .ensures) (end .end-line .ensures)
+    (text-behind (put .put-in-line .ensures) (end .end-line .ensures)
     (omega (arith, s .pre, in-line-64 true (s .args .number) (omega (arith, s .fits .number .fits)))))
 
 pub put-refusal-spec : {M : Type 1} → statement M

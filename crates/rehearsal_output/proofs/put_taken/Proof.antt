@@ -8,9 +8,9 @@ use borrow.Author.Needs.{needs}
 use denote.Ref.{now}
 use Rattle.tree_theory.specs.Table.{used}
 use Rattle.tree_theory.proofs.Words.{used-rows}
-use Rattle.rehearsal_output.specs.Output.{TABLE-ROWS, line}
-use Rattle.rehearsal_output.specs.Promise.{ANSWER-ROOM, NODE-ROOM, PutWithin}
-use Rattle.decimal.proofs.Putting.{put-behind, put-room}
+use Rattle.rehearsal_output.specs.Output.{REHEARSAL-TABLE-ROWS, line}
+use Rattle.rehearsal_output.specs.Promise.{ROOM-FOR-ANSWER, ROOM-FOR-NODE, PutWithin}
+use Rattle.decimal.proofs.Text.{text-behind, text-room}
 use Rattle.rehearsal_output.proofs.put_taken.Statement.{statement}
 use Rattle.rehearsal_output.proofs.put_taken.Tie as tie
 
@@ -34,7 +34,7 @@ begun c = c .before .before .before .before .before .before
 answers-put : (c : tie.After-put-answers) →
     let a = begun c .args in
     PutWithin (now (a .out)) 0 (line (take (a .count) (now (a .answered)))) (c .put-answers .result) (c .put-answers .last .1 .0)
-    (ANSWER-ROOM * length (take (a .count) (now (a .answered))) + 1)
+    (ROOM-FOR-ANSWER * length (take (a .count) (now (a .answered))) + 1)
 answers-put c =
     let e : begun c .args .count - 0 ≡ begun c .args .count = omega arith in
     rw e at (c .put-answers .ensures)
@@ -42,16 +42,16 @@ answers-put c =
 -- behind them there is room for the nodes
 nodes-fit : (c : tie.After-put-answers) →
     let a = begun c .args in
-    length (line (take (a .count) (now (a .answered)))) + NODE-ROOM * used (now (a .nodes)) ≤ length (now (a .out))
+    length (line (take (a .count) (now (a .answered)))) + ROOM-FOR-NODE * used (now (a .nodes)) ≤ length (now (a .out))
 nodes-fit c =
     let s = begun c in
-    let few : used (now (s .args .nodes)) ≤ TABLE-ROWS = omega (arith, used-rows (now (s .args .nodes)), s .pre .rows) in
+    let few : used (now (s .args .nodes)) ≤ REHEARSAL-TABLE-ROWS = omega (arith, used-rows (now (s .args .nodes)), s .pre .rows) in
     omega (arith, answers-put c .within, length-take-le (s .args .count) (now (s .args .answered)) (s .pre .said), s .pre .few, s .pre .room)
 
 put-nodes-requires : tie.Need-put-nodes-requires
 put-nodes-requires c κs =
     let put = c .before .before .before in
-    put-room (NODE-ROOM * used (now (begun put .args .nodes))) (answers-put put .put) (omega (arith, nodes-fit put))
+    text-room (ROOM-FOR-NODE * used (now (begun put .args .nodes))) (answers-put put .put) (omega (arith, nodes-fit put))
 
 same-length : tie.Need-same-length
 same-length c = search needs
@@ -60,7 +60,7 @@ returns : tie.Need-returns
 returns c =
     let end = c .before .before in
     let put = end .before .before .before .before in
-    put-behind (answers-put put .put) (end .put-nodes .ensures .put) (omega (arith, nodes-fit put, end .put-nodes .ensures .within))
+    text-behind (answers-put put .put) (end .put-nodes .ensures .put) (omega (arith, nodes-fit put, end .put-nodes .ensures .within))
 
 pub put-taken-spec : {M : Type 1} → statement M
 put-taken-spec =
