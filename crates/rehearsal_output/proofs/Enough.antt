@@ -34,7 +34,7 @@ list-longest list h =
     let P = list-parts {list = list} h in
     omega (arith, exact-most (count-of list) (body list) (P .filled), length-drop HEAD-BYTES list, P .few)
 
-too-long : (list : List ℕ) → LONGEST-LIST < length list → list-fits list ≡ false
+pub too-long : (list : List ℕ) → LONGEST-LIST < length list → list-fits list ≡ false
 too-long list h = by-test (list-fits list) (λ t. absurd (omega (arith, list-longest list t))) (λ t. t)
 
 -- what is printed for an input is what is printed for as much of its front

@@ -2,4 +2,5 @@
 pub mod Lines
 pub mod Playing
 pub mod Enough
+pub mod Longest
 pub mod FourLines
