@@ -32,11 +32,17 @@ in_parts() {
     { head -c 9 crates/rehearsal/stdin; sleep 0.2; tail -c +10 crates/rehearsal/stdin; } | "$program" | cmp -s - crates/rehearsal/stdout
 }
 
+# 64 KiB beside the program's own list and output
+on_little_stack() {
+    (ulimit -s 92 && env -i "$program" <"$dir/longest" | cmp -s - "$dir/longest.out")
+}
+
 # a line on standard error that begins so, and nothing on standard output
 says() {
     [ ! -s "$dir/out" ] && [ "$(wc -l <"$dir/err")" -eq 1 ] && grep -q "^rehearsal: can't $1: ." "$dir/err"
 }
 check "an input in parts differs" in_parts
+check "64 KiB of stack aren't enough" on_little_stack
 "$program" <&- >"$dir/out" 2>"$dir/err"
 check "a closed standard input isn't named" says "read standard input"
 "$program" </ >"$dir/out" 2>"$dir/err"

@@ -41,6 +41,7 @@ fn read_input(list: &mut [u8]) -> Input
     }
 }
 
+// The longest list has 20,008 bytes; one byte more is read, so that a longer input is refused.
 fn main() {
     let mut list = [0u8; 20009];
     let input = read_input(&mut list);

@@ -7,7 +7,7 @@ ghost use Rattle.decimal.specs.Text.{PutText};
 ghost use Rattle.tree_theory.specs.Table.{row, used};
 ghost use Rattle.tree_theory.specs.Table.{nodes as nodes-of};
 ghost use Rattle.rehearsal_output.specs.Output.{LINE-FEED, in-line, line, node-line, node-lines};
-ghost use Rattle.rehearsal_output.specs.Promise.{ROOM-FOR-ANSWER, ROOM-FOR-NODE, PutWithin, Printed, RehearsalLent, TakenFits};
+ghost use Rattle.rehearsal_output.specs.Promise.{ROOM-FOR-ANSWER, ROOM-FOR-NUMBER, ROOM-FOR-NODE, PutWithin, Printed, RehearsalLent, TakenFits};
 
 const LINE_FEED: u8 = 10;
 
@@ -105,7 +105,7 @@ fn put_nodes(nodes: &[u64], out: &mut [u8], at: usize) -> usize
 
 // A line with only a number.
 fn put_refusal(out: &mut [u8], number: u32) -> usize
-    requires { ⌜ ROOM-FOR-NODE ≤ length (now out) ⌝ }
+    requires { ⌜ ROOM-FOR-NUMBER < length (now out) ⌝ }
     ensures { λ r. ⌜ PutText (now (out .entry)) 0 (line (number ∷ [])) r (now (out .exit)) ⌝ }
 {
     let end = put_in_line(out, 0, number as u64, true);
