@@ -1,0 +1,6 @@
+-- Laws of lines, of what is read of an input, and 01's rehearsal.
+pub mod Lines
+pub mod Playing
+pub mod Enough
+pub mod Longest
+pub mod FourLines

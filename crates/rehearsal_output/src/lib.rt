@@ -1,0 +1,152 @@
+// What the rehearsal prints (01, "Play" and "Cases from the rig"), put into lent bytes.
+ghost use mathlib.Core.Path.{_≡_};
+ghost use mathlib.Core.List.{[], _∷_, _++_};
+ghost use Prim.Native.Nat.{_+_, _*_, _≤_, _<_};
+ghost use lib.ListN.{length, take};
+ghost use Rattle.decimal.specs.Text.{PutText};
+ghost use Rattle.tree_theory.specs.Table.{row, used};
+ghost use Rattle.tree_theory.specs.Table.{nodes as nodes-of};
+ghost use Rattle.rehearsal_output.specs.Output.{LINE-FEED, in-line, line, node-line, node-lines};
+ghost use Rattle.rehearsal_output.specs.Promise.{ROOM-FOR-ANSWER, ROOM-FOR-NUMBER, ROOM-FOR-NODE, PutWithin, Printed, RehearsalLent, TakenFits};
+
+const LINE_FEED: u8 = 10;
+
+// The bytes of 1,000 store rows.
+const STORE_BYTES: usize = 28000;
+
+// The words of 64 table rows.
+const TABLE_WORDS: usize = 256;
+
+const MOST_EVENTS: usize = 1000;
+
+// Room for any output.
+pub const ROOM_FOR_OUTPUT: usize = 9441;
+
+// A byte, as a wider number.
+fn wide(b: u8) -> u64
+    ensures { λ n. ⌜ (n ≡ b) × (n < 256) ⌝ }
+{
+    b as u64
+}
+
+// A number of a line: the first, or behind a blank.
+fn put_in_line(out: &mut [u8], at: usize, n: u64, first: bool) -> usize
+    requires { ⌜ at + length (in-line first n) ≤ length (now out) ⌝ }
+    ensures { λ r. ⌜ PutText (now (out .entry)) at (in-line first n) r (now (out .exit)) ⌝ }
+{
+    if first {
+        return decimal::put_decimal(out, at, n);
+    }
+    let from = decimal::put_byte(out, at, decimal::BLANK);
+    decimal::put_decimal(out, from, n)
+}
+
+fn end_line(out: &mut [u8], at: usize) -> usize
+    requires { ⌜ at < length (now out) ⌝ }
+    ensures { λ r. ⌜ PutText (now (out .entry)) at (LINE-FEED ∷ []) r (now (out .exit)) ⌝ }
+{
+    decimal::put_byte(out, at, LINE_FEED)
+}
+
+// The answers on a line; an empty line where there are none.
+fn put_answers(answered: &[u8], out: &mut [u8], at: usize) -> usize
+    requires { ⌜ at + ROOM-FOR-ANSWER * length (now answered) < length (now out) ⌝ }
+    ensures { λ r. ⌜ PutWithin (now (out .entry)) at (line (now (answered .entry))) r (now (out .exit))
+        (ROOM-FOR-ANSWER * length (now (answered .entry)) + 1) ⌝ }
+{
+    let mut next = at;
+    let mut i = 0;
+    while i < answered.len() {
+        next = put_in_line(out, next, wide(answered[i]), i == 0);
+        i += 1;
+    }
+    end_line(out, next)
+}
+
+// Four numbers on a line.
+fn put_four(out: &mut [u8], at: usize, a: u64, b: u64, c: u64, d: u64) -> usize
+    requires { ⌜ at + ROOM-FOR-NODE ≤ length (now out) ⌝ }
+    ensures { λ r. ⌜ PutWithin (now (out .entry)) at (line (a ∷ b ∷ c ∷ d ∷ [])) r (now (out .exit)) ROOM-FOR-NODE ⌝ }
+{
+    let a_end = put_in_line(out, at, a, true);
+    let b_end = put_in_line(out, a_end, b, false);
+    let c_end = put_in_line(out, b_end, c, false);
+    let d_end = put_in_line(out, c_end, d, false);
+    end_line(out, d_end)
+}
+
+// A node on a line.
+fn put_node(nodes: &[u64], i: usize, out: &mut [u8], at: usize) -> usize
+    requires { ⌜ (4 * i + 4 ≤ length (now nodes)) × (at + ROOM-FOR-NODE ≤ length (now out)) ⌝ }
+    ensures { λ r. ⌜ PutWithin (now (out .entry)) at (node-line (row (now (nodes .entry)) i)) r (now (out .exit)) ROOM-FOR-NODE ⌝ }
+{
+    let round = tree_table::round_at(nodes, i);
+    let parent = tree_table::parent_at(nodes, i);
+    let value = tree_table::value_at(nodes, i);
+    let status = tree_table::status_at(nodes, i);
+    put_four(out, at, round, parent, value, status)
+}
+
+// A line for each node.
+fn put_nodes(nodes: &[u64], out: &mut [u8], at: usize) -> usize
+    requires { ⌜ at + ROOM-FOR-NODE * used (now nodes) ≤ length (now out) ⌝ }
+    ensures { λ r. ⌜ PutWithin (now (out .entry)) at (node-lines (nodes-of (now (nodes .entry)))) r (now (out .exit))
+        (ROOM-FOR-NODE * used (now (nodes .entry))) ⌝ }
+{
+    let n = tree_table::used_rows(nodes);
+    let mut next = at;
+    let mut i = 0;
+    while i < n {
+        next = put_node(nodes, i, out, next);
+        i += 1;
+    }
+    next
+}
+
+// A line with only a number.
+fn put_refusal(out: &mut [u8], number: u32) -> usize
+    requires { ⌜ ROOM-FOR-NUMBER < length (now out) ⌝ }
+    ensures { λ r. ⌜ PutText (now (out .entry)) 0 (line (number ∷ [])) r (now (out .exit)) ⌝ }
+{
+    let end = put_in_line(out, 0, number as u64, true);
+    end_line(out, end)
+}
+
+// The answers, then the nodes.
+fn put_taken(count: usize, answered: &[u8], nodes: &[u64], out: &mut [u8]) -> usize
+    requires { ⌜ TakenFits count (now answered) (now nodes) (now out) ⌝ }
+    ensures { λ n. ⌜ PutText (now (out .entry)) 0
+        (line (take count (now (answered .entry))) ++ node-lines (nodes-of (now (nodes .entry)))) n (now (out .exit)) ⌝ }
+{
+    let next = put_answers(&answered[0..count], out, 0);
+    put_nodes(nodes, out, next)
+}
+
+// Plays the list in what is lent, and puts what is printed of it.
+fn put_played(
+    list: &[u8],
+    messages: &mut [u8],
+    nodes: &mut [u64],
+    answered: &mut [u8],
+    out: &mut [u8],
+) -> usize
+    requires { ⌜ RehearsalLent (now messages) (now nodes) (now answered) (now out) ⌝ }
+    ensures { λ n. ⌜ Printed (now (list .entry)) (now (out .entry)) n (now (out .exit)) ⌝ }
+{
+    let a = play::play(list, messages, nodes, answered);
+    if a.number != numbers::OK {
+        return put_refusal(out, a.number);
+    }
+    let count = play_events::read_head(list).count as usize;
+    put_taken(count, answered, nodes, out)
+}
+
+// Plays the list with 64 table rows and 1,000 store rows: puts what is printed at the front of `out`, and answers its length.
+pub fn rehearse(list: &[u8], out: &mut [u8; ROOM_FOR_OUTPUT]) -> usize
+    ensures { λ n. ⌜ Printed (now (list .entry)) (now (out .entry)) n (now (out .exit)) ⌝ }
+{
+    let mut messages = [0u8; STORE_BYTES];
+    let mut nodes = [0u64; TABLE_WORDS];
+    let mut answered = [0u8; MOST_EVENTS];
+    put_played(list, &mut messages, &mut nodes, &mut answered, out)
+}
