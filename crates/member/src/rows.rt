@@ -241,8 +241,14 @@ fn taking(m: MemberState, g: Message) -> MemberState
     ensures { λ t. ⌜ t ≡ taking m g ⌝ }
 {
     match g {
-        Message::Start { round: _, sender: _ } => m,
-        Message::Join { round: _, sender: _ } => m,
+        Message::Start {
+            round: _,
+            sender: _,
+        } => m,
+        Message::Join {
+            round: _,
+            sender: _,
+        } => m,
         Message::JoinVoted {
             round: _,
             sender: _,
@@ -254,7 +260,10 @@ fn taking(m: MemberState, g: Message) -> MemberState
             sender: _,
             value: _,
         } => m,
-        Message::Vote { round: _, sender: _ } => m,
+        Message::Vote {
+            round: _,
+            sender: _,
+        } => m,
     }
 }
 

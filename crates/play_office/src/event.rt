@@ -59,7 +59,13 @@ fn step_start(tally: Tally, m: MemberState, member: Member, round: Round, offer:
 }
 
 // A delivery: 29, or the member's step at the message of that row.
-fn step_deliver(tally: Tally, m: MemberState, message: u32, member: Member, messages: &[u8]) -> MemberStep
+fn step_deliver(
+    tally: Tally,
+    m: MemberState,
+    message: u32,
+    member: Member,
+    messages: &[u8],
+) -> MemberStep
     requires { ⌜ StepDue tally m (deliver message (member .0)) (now messages) ⌝ }
     ensures { λ s. ⌜ StepTaken tally m (deliver message (member .0)) (now (messages .entry)) s ⌝ }
 {
