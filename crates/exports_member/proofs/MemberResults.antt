@@ -24,7 +24,7 @@ use Rattle.exports_member.specs.declared.MemberFields.{MemberFields}
 use Rattle.exports_member.specs.declared.WriteResult.{WriteResult}
 use Rattle.exports_member.specs.Members.{call-result, member-result, fields-row, fields-message, write-row, write-result, written-after}
 
--- no message is longer than the longest-message
+-- no message is longer than the longest
 count-short : (m : Message) → byte-count m ≤ longest-message
 count-short (Start r s) = omega arith
 count-short (Join r s) = omega arith

@@ -34,7 +34,7 @@ pub extern "C" fn kalebasin_member_version() -> u32
     VERSION
 }
 
-// A member record as numbers, in its order. No padding.
+// A member record as numbers, in 01's order. No byte stands between them.
 #[repr(C)]
 pub struct MemberFields {
     pub me: u32,

@@ -181,7 +181,7 @@ fn on_propose(m: MemberState, r: Round, s: Member, v: u64) -> Move
     )
 }
 
-// A message's row: JOIN and VOTE have one, each counted in its phase.
+// The row by which a message is handled. JOIN and VOTE share one, each counted in its phase, so that both are counted at one place.
 enum MessageRow {
     StartRow {
         round: Round,
@@ -199,7 +199,6 @@ enum MessageRow {
     },
 }
 
-// The row of a message.
 fn row_of(g: Message) -> MessageRow
     ensures { λ w. ⌜ w ≡ row-of g ⌝ }
 {

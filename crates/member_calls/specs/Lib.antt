@@ -1,3 +1,3 @@
--- The meaning of a call's result.
+-- What the member calls come to, and what their results say.
 pub mod Reports
 pub mod Calls

@@ -1,5 +1,5 @@
 // Makes the member calls that standard input has, with the record by value and a lent reply. The input is XDR words: how many cases, then
-// 136 bytes for each. A case is the call (0 fresh, 1 start, 2 deliver); the record, its fields in order and a word for each flag; number
+// 136 bytes for each. A case is the call (0 fresh, 1 start, 2 deliver); the record, its fields in 01's order and a word for each flag; number
 // and N for fresh; round and offer for start; the length of the reply, at most 40; the length of the message, at most 32, and 32 bytes
 // that start with it. A line for each case: the number, the sent length, the round, the value and the parent; the record after; each byte
 // of the reply after, in hex. Before a call each of these bytes is aa.

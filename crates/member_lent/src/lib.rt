@@ -1,6 +1,6 @@
 // The member calls of 01, "Members": the record is lent and altered where it sits, and what is sent stands in a lent reply buffer.
-// Each takes the record apart for a step by value, and puts back what the step left. They are C functions so that a test can lend them
-// a record; a host has the calls by value of `exports`, where no byte of a flag is anything but a Boolean.
+// Each copies the record out, makes the call by value of `member_calls`, and copies in the record that it left. They are C functions so that a
+// test can lend them a record; a host has the calls of `exports_member`, whose record is numbers alone: a flag's byte can hold what no Boolean is.
 use ids::Member;
 use ids::Round;
 use member_calls::deliver_into;

@@ -82,7 +82,7 @@ abbrev pub sound-count : Who → Lead → Bool
 sound-count w l =
     cond (eqb (l .phase) DECIDED) (eqb (flagged (l .flags)) (needed w (l .phase))) (ltb (flagged (l .flags)) (needed w (l .phase)))
 
--- else not idle, L ≤ 1,000,000, L mod N is the number, B < L
+-- else not idle, L ≤ 1,000,000, L mod N is the number, B < L, and the flags that the phase allows
 abbrev pub sound-leading : MemberState → Bool
 sound-leading m =
     not (eqb (m .lead .phase) IDLE) &&

@@ -219,7 +219,7 @@ fn count_sound(who: Who, l: Lead) -> bool
     counted < full
 }
 
-// L isn't 0: not idle, L in range and led by this member, B below L.
+// L isn't 0: not idle, L in range and led by this member, B below L, and the flags that the phase allows.
 fn leading_sound(m: MemberState) -> bool
     requires { ⌜ 1 ≤ m .who .n ⌝ }
     ensures { λ b. ⌜ b ≡ sound-leading m ⌝ }
@@ -255,7 +255,7 @@ fn lead_sound(m: MemberState) -> bool
     leading_sound(m)
 }
 
-// Whether a record is sound.
+// Sound (01, "Members"); else number 17.
 pub fn is_sound(m: MemberState) -> bool
     ensures { λ b. ⌜ b ≡ sound m ⌝ }
 {

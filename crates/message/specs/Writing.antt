@@ -28,7 +28,7 @@ writing m old = record { number = first (writer-row m old); length = cond (eqb (
 unfoldable pub in-front : Message → List ℕ → List ℕ
 in-front m old = bytes m ++ drop (length (bytes m)) old
 
--- a refusal leaves the buffer as it was
+-- the buffer after the call: a refusal leaves it as it was
 unfoldable pub buffer-after : Message → List ℕ → List ℕ
 buffer-after m old = cond (eqb (first (writer-row m old)) 0) (in-front m old) old
 

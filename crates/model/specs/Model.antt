@@ -1,4 +1,5 @@
--- The model (01, "The model"): members 0 to N−1, the messages sent, and one sequence of proposals and decisions. Nothing of the tree.
+-- The model (01, "The model"): members 0 to N−1, the messages sent, and one sequence of proposals and decisions. Of the tree it has the number of
+-- table rows alone.
 use mathlib.Core.Bool.{Bool, true, false, cond, _&&_, _||_, not}
 use mathlib.Core.List.{List, [], _∷_, _++_}
 use Prim.Native.Nat.{ℕ, zero, suc}

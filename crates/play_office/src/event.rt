@@ -22,7 +22,7 @@ fn place_of(member: Member) -> usize
     0
 }
 
-// The place of the record of an event's member. A number above 6 has none: its event takes the first, is refused, and puts it back.
+// The place of the record of an event's member. A number above 6 has none: its event is shown the first and refused, so that no record changes.
 pub fn place(e: PlayEvent) -> usize
     ensures { λ i. ⌜ i ≡ place-of (at-member (model-event e)) ⌝ }
 {

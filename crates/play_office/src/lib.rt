@@ -1,4 +1,4 @@
-// An office in play: its members by value, what it counts, and what the answer of a member's step comes to (01, "Play").
+// An office in play: its members by value, what it counts, the step of an event, and what the step's answer comes to (01, "Play").
 pub mod event;
 
 use ids::Member;
@@ -19,7 +19,7 @@ ghost use Rattle.play_office.specs.Represents.{AnswerBefore, AnswerSettl
 
 pub struct PlayedOffice {
     pub tally: Tally,
-    // Members 0 to N-1. The records behind them stay: an event of a number from N on is refused, and what it took is put back.
+    // Members 0 to N-1. The records behind them stay fresh: an event of a number from N on is refused, and a refused event changes none.
     pub members: [MemberState; 7],
 }
 

@@ -1,5 +1,5 @@
 // The quorum tree in lent memory (01, "The tree"): fresh, add, commit and path over a slice of 64-bit words, four a row. `valued` says
-// whether a tree's values are compared; the public calls only say which kind of tree they are for.
+// whether a tree's values are compared, and the public calls have it true.
 use ids::Round;
 use tree_steps::call::TreeCall;
 ghost use mathlib.Core.Path.{_≡_};

@@ -1,4 +1,4 @@
--- What the tree's calls ask of a table, decide and write.
+-- What add, commit and path ask of a table, decide and write.
 pub mod Looked
 pub mod Planned
 pub mod Climbed

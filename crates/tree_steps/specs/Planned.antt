@@ -16,7 +16,8 @@ abbrev pub call-of : TreeCall → Call
 call-of (tree-call.Add r v p) = add (r .0) v (p .0)
 call-of (tree-call.Commit r) = commit (r .0)
 
--- what a call writes into row n with status s: an add its node behind the n rows that its edge strikes, a commit the status
+-- what a call with row n and status s leaves: of an add, the ADDED ones that its edge crosses of the n rows before made GHOST, and its node; of a
+-- commit, the status
 abbrev pub call-written : List ℕ → Call → ℕ → ℕ → List ℕ
 call-written ws (add r v p) n s = words (map (strike-crossed r p) (rows-of ws n) ++ node-of r p v s ∷ []) ++ drop (4 * n + 4) ws
 call-written ws (commit r) n s = set ws (4 * n + 3) s

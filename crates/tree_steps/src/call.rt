@@ -26,7 +26,7 @@ pub struct Plan {
     pub strikes: bool,
 }
 
-// `valued` says whether the tree's values are compared.
+// Decides a call, and writes nothing. `valued` says whether the tree's values are compared.
 pub fn plan_call(valued: bool, t: &[u64], call: TreeCall) -> Plan
     requires { ⌜ (sized (now t) ≡ true) × Tree valued (now t) ⌝ }
     ensures { λ q. ⌜ Planned valued (now (t .entry)) (call-of call) (q .number) (q .row) (q .status) (q .strikes) ⌝ }
@@ -41,7 +41,7 @@ pub fn plan_call(valued: bool, t: &[u64], call: TreeCall) -> Plan
     }
 }
 
-// Writes an accepted call into its row: an add puts its node there behind the rows that its edge strikes, a commit sets the status.
+// Writes an accepted call: an add strikes the ADDED rows that its edge crosses and puts its node into the row, a commit sets the row's status.
 pub fn write_call(t: &mut [u64], call: TreeCall, row: usize, status: u64, strikes: bool)
     requires { ⌜ (4 * row + 4 ≤ length (now t)) × (strikes ≡ call-strikes (now t) (call-of call) row) ⌝ }
     ensures { λ _. ⌜ now (t .exit) ≡ call-written (now (t .entry)) (call-of call) row status ⌝ }

@@ -1,4 +1,4 @@
-// What the tree's calls decide and write on a table that is a tree (01, "The tree"): fresh, add and commit, path.
+// What the tree's calls decide and write (01, "The tree"): fresh on any table of some rows, add, commit and path on one that is a tree.
 pub mod add;
 pub mod call;
 pub mod commit;

@@ -16,7 +16,7 @@ pub struct Look {
     pub strikes: bool,
 }
 
-// One row more. An edge crosses rounds between p and r alone, and of the others most are passed with two comparisons.
+// One row more. An edge crosses rounds between p and r alone, so the status of any other row doesn't count.
 fn look_on(l: Look, t: &[u64], r: u64, p: u64) -> Look
     requires { ⌜ (4 * l .used + 4 ≤ length (now t)) × (l ≡ look-of r p (rows-of (now t) (l .used))) ⌝ }
     ensures { λ m. ⌜ m ≡ look-of r p (rows-of (now (t .entry)) (l .used + 1)) ⌝ }

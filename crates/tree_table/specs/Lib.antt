@@ -1,2 +1,2 @@
--- What a search over the rows of a node table finds.
+-- The rows of a node table.
 pub mod Rows

@@ -1,4 +1,5 @@
-// Passes over the rows of a node table, four 64-bit words a row: round, parent, value, status (01, "The tree").
+// The rows of a node table, four 64-bit words a row: round, parent, value, status (01, "The tree"). Their words, searches over them, and the test
+// of a value against the parent's.
 ghost use mathlib.Core.Path.{_≡_};
 ghost use mathlib.Core.Bool.{_&&_, not};
 ghost use mathlib.Core.List.{_∷_, _++_};

@@ -1,4 +1,4 @@
--- Local tests, row by row, that decide whether a table is a tree. That they do is the theorem `checks-exact`.
+-- The code's test for a tree, row by row, and not 01's words. That it decides `is-tree` is the theorem `checks-exact`.
 use mathlib.Core.Bool.{Bool, true, cond, _&&_, _||_, not}
 use mathlib.Core.List.{List}
 use Prim.Native.Nat.{ℕ, zero, suc, _*_}

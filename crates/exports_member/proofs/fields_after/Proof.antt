@@ -1,4 +1,4 @@
--- `members::fields_after` meets its contract, by the number. Assumes nothing.
+-- `exports_member::fields_after` meets its contract, by the number. Assumes nothing.
 use borrow.Author.Tests.{eq-eqb, ne-eqb}
 use borrow.Author.Needs.{needs}
 use Rattle.exports_member.proofs.fields_after.Statement.{statement}

@@ -1,4 +1,4 @@
--- `members::fields_number` meets its contract: each return goes by the tests that led there. Assumes nothing.
+-- `exports_member::fields_number` meets its contract: each return goes by the tests that led there. Assumes nothing.
 use mathlib.Core.Path.{sym, _∙_}
 use borrow.Author.Tests.{eq-eqb, ne-eqb, lt-ltb, le-ltb}
 use Rattle.exports_member.specs.Members.{fields-row}

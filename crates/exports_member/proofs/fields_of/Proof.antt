@@ -1,4 +1,4 @@
--- `members::fields_of` meets its contract. Assumes nothing.
+-- `exports_member::fields_of` meets its contract. Assumes nothing.
 use Rattle.exports_member.specs.Members.{fields-of}
 use borrow.Author.Needs.{needs}
 use Rattle.exports_member.proofs.fields_of.Statement.{statement}

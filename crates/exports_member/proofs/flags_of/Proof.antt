@@ -1,4 +1,4 @@
--- `members::flags_of` meets its contract. Assumes nothing.
+-- `exports_member::flags_of` meets its contract. Assumes nothing.
 use borrow.Author.Needs.{needs}
 use Rattle.exports_member.proofs.flags_of.Statement.{statement}
 use Rattle.exports_member.proofs.flags_of.Tie as tie

@@ -1,4 +1,4 @@
--- `members::kalebasin_member_deliver` meets its contract: a refusal of the flags, or what the call on the record answers. Assumes nothing.
+-- `exports_member::kalebasin_member_deliver` meets its contract: a refusal of the flags, or what the call on the record answers. Assumes nothing.
 use mathlib.Core.Path.{refl, sym, _∙_}
 use Rattle.exports_member.specs.Members.{deliver-outcome}
 use Rattle.exports_member.proofs.MemberResults.{report-short, same-result}

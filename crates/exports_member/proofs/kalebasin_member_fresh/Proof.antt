@@ -1,4 +1,4 @@
--- `members::kalebasin_member_fresh` meets its contract: what the call on a record of zeros answers. Assumes nothing.
+-- `exports_member::kalebasin_member_fresh` meets its contract: what the call on a record of zeros answers. Assumes nothing.
 use mathlib.Core.Path.{_∙_}
 use Rattle.exports_member.proofs.MemberResults.{report-short, same-result}
 use borrow.Author.Needs.{needs}

@@ -1,4 +1,4 @@
--- `members::kalebasin_write_message` meets its contract: a refusal of the fields, or what the writer answers. Assumes nothing.
+-- `exports_member::kalebasin_write_message` meets its contract: a refusal of the fields, or what the writer answers. Assumes nothing.
 use mathlib.Core.Path.{ap}
 use native.Mathlib.Omega.{arith}
 use Rattle.message.specs.declared.Written.{Written}

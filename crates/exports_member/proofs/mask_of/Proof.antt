@@ -1,4 +1,4 @@
--- `members::mask_of` meets its contract. Assumes nothing.
+-- `exports_member::mask_of` meets its contract. Assumes nothing.
 use Rattle.exports_member.specs.Members.{mask-of}
 use borrow.Author.Needs.{needs}
 use Rattle.exports_member.proofs.mask_of.Statement.{statement}

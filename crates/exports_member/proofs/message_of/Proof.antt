@@ -1,4 +1,4 @@
--- `members::message_of` meets its contract: each return goes by the tests that led there. Assumes nothing.
+-- `exports_member::message_of` meets its contract: each return goes by the tests that led there. Assumes nothing.
 use borrow.Author.Tests.{eq-eqb, ne-eqb}
 use Rattle.exports_member.specs.Members.{message-of}
 use Rattle.exports_member.proofs.message_of.Statement.{statement}

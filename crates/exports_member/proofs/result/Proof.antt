@@ -1,4 +1,4 @@
--- `members::result` meets its contract. Assumes nothing.
+-- `exports_member::result` meets its contract. Assumes nothing.
 use borrow.Author.Needs.{needs}
 use Rattle.exports_member.proofs.result.Statement.{statement}
 use Rattle.exports_member.proofs.result.Tie as tie

@@ -1,4 +1,4 @@
--- `members::spare_fields` meets its contract: each return goes by the tests that led there. Assumes nothing.
+-- `exports_member::spare_fields` meets its contract: each return goes by the tests that led there. Assumes nothing.
 use borrow.Author.Tests.{eq-eqb, ne-eqb}
 use Rattle.exports_member.specs.Members.{spare-fields}
 use Rattle.exports_member.proofs.spare_fields.Statement.{statement}

@@ -1,4 +1,4 @@
--- `members::state_of` meets its contract: the flags are those of the mask. Assumes nothing.
+-- `exports_member::state_of` meets its contract: the flags are those of the mask. Assumes nothing.
 use Rattle.exports_member.specs.Members.{state-of}
 use borrow.Author.Needs.{needs}
 use Rattle.exports_member.proofs.state_of.Statement.{statement}

@@ -1,4 +1,4 @@
--- `members::widened` meets its contract, by the flag. Assumes nothing.
+-- `exports_member::widened` meets its contract, by the flag. Assumes nothing.
 use mathlib.Core.Path.{refl}
 use native.Mathlib.Omega.{arith}
 use borrow.Author.Needs.{needs}

@@ -1,4 +1,4 @@
--- `members::wrong_presence` meets its contract, by the kind. Assumes nothing.
+-- `exports_member::wrong_presence` meets its contract, by the kind. Assumes nothing.
 use borrow.Author.Tests.{eq-eqb, ne-eqb}
 use Rattle.exports_member.proofs.wrong_presence.Statement.{statement}
 use Rattle.exports_member.proofs.wrong_presence.Tie as tie
