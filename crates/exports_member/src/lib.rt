@@ -21,7 +21,8 @@ ghost use Rattle.message.specs.Layout.{longest-message};
 ghost use Rattle.member_calls.specs.Reports.{reply-after};
 ghost use Rattle.exports_member.specs.Members.{BitAdded, bit, flags-of, mask-of, no-mask, state-of, fields-of, no-fields};
 ghost use Rattle.exports_member.specs.Members.{fields-after, call-result, refused-call};
-ghost use Rattle.exports_member.specs.Members.{member-result, fresh-outcome, start-outcome, deliver-outcome, no-presence, spare-fields, fields-row, message-of};
+ghost use Rattle.exports_member.specs.Members.{member-result, fresh-outcome, start-outcome, deliver-outcome};
+ghost use Rattle.exports_member.specs.Members.{no-presence, spare-fields, fields-row, message-of};
 ghost use Rattle.exports_member.specs.Members.{write-result, written-after};
 
 // The version of these C functions. It goes up with each change that a caller sees.

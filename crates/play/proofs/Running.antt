@@ -35,7 +35,8 @@ use Rattle.play_effects.specs.declared.EventEffect.{EventEffect}
 use Rattle.play_effects.specs.declared.Tally.{Tally}
 use Rattle.play_effects.specs.Memory.{Memory}
 use Rattle.play_office.specs.declared.PlayedOffice.{PlayedOffice}
-use Rattle.play_office.specs.Represents.{AfterEvent, MemorySizes, Represents, StepBefore, StepAfter, EventBefore, EventWorked, after-event, fresh-office, place-of}
+use Rattle.play_office.specs.Represents.{AfterEvent, MemorySizes, Represents, StepBefore, StepAfter, EventBefore, EventWorked}
+use Rattle.play_office.specs.Represents.{after-event, fresh-office, place-of}
 use Rattle.play_office.proofs.Settling.{set-same}
 use Rattle.play_office.proofs.Before.{default, place-below, allowed-seven, sent-few, proposals-few, decisions-few}
 use Rattle.play.specs.Lent.{Lent}
@@ -223,7 +224,8 @@ module _ {list : List ℕ} {L₀ : Lent} {count : ℕ} {L : Lent} {members : Lis
     answer-small = worked .small
 
     -- the next event
-    after-event-worked : k < count → e ≡ event-at (drop at list) → length (M′ .store) ≡ length (L .memory .store) → length (M′ .table) ≡ length (L .memory .table) →
+    after-event-worked : k < count → e ≡ event-at (drop at list) → length (M′ .store) ≡ length (L .memory .store) →
+        length (M′ .table) ≡ length (L .memory .table) →
         Running list L₀ count (record { memory = M′; answers = set (L .answers) k (w .number) }) (set members i (w .state)) (w .tally)
         (accepted + one (w .number)) (at + event-size (drop at list)) (k + 1)
     after-event-worked h ee ls lw =

@@ -22,7 +22,8 @@ use Rattle.play_store.proofs.Stored.{fetch-stored}
 use Rattle.play_effects.specs.declared.Tally.{Tally}
 use Rattle.play_effects.specs.declared.EventEffect.{EventEffect}
 use Rattle.play_effects.specs.Memory.{Memory}
-use Rattle.play_office.specs.Represents.{EventBefore, ModelStep, RefusedWith, AnswerIs, EventWorked, AnswerTo, StepTaken, AnswerSettled, place-of, after-event, missed-step}
+use Rattle.play_office.specs.Represents.{EventBefore, EventWorked, ModelStep, RefusedWith, AnswerIs, AnswerTo, StepTaken, AnswerSettled}
+use Rattle.play_office.specs.Represents.{place-of, after-event, missed-step}
 use Rattle.play_office.proofs.Before.{allowed-seven, member-held}
 use Rattle.play_office.proofs.Arms.{answer-is}
 

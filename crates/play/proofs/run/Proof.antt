@@ -146,8 +146,8 @@ cast-answered : tie.Need-cast-answered Inv-loop μ-loop
 cast-answered c =
     let n = joined c .before in
     let s = step-of n in
-    let small : settled n .settle .result .number < 256 =
-    answer-small (turned n .before .loop .inv) (placed (s .before) .place .ensures) _ (worked (s .step .result) (s .step .ensures) (settled n .settle .ensures)) in
+    let done = worked (s .step .result) (s .step .ensures) (settled n .settle .ensures) in
+    let small : settled n .settle .result .number < 256 = answer-small (turned n .before .loop .inv) (placed (s .before) .place .ensures) _ done in
     omega arith
 
 slice-write-answered : tie.Need-slice-write-answered Inv-loop μ-loop
