@@ -61,8 +61,8 @@ module _ (z : Sizes) (es : List Event) (ok : allowed (z .n) ≡ true) where
         (eqb-true (history h r) COMMITTED (history-committed h r pos ∙ commits-intro h (decision-call (ended z es .made) i))) pos refl
 
     -- given that the table left is the tree of what the model made
-    pub demand : (left : List ℕ) → left ≡ table (4 * z .table) (made-tree z (ended z es)) → Demand z es left
-    demand left t = record {
+    pub demand-met : (left : List ℕ) → left ≡ table (4 * z .table) (made-tree z (ended z es)) → Demand z es left
+    demand-met left t = record {
       ok = all-ok;
       table-is = t;
       equal = λ r x s y i j. decided-node r x i (λ n k c p e. decided-node s y j (λ n′ k′ c′ p′ e′.

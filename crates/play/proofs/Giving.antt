@@ -22,7 +22,7 @@ use Rattle.member_record.specs.Record.{allowed}
 use Rattle.model.specs.Model.{Sizes, first-office, event-answers, proposals}
 use Rattle.model.specs.Demand.{calls, ended}
 use Rattle.model.specs.Counts.{made-tree, zeros, decisions, committed-nodes}
-use Rattle.model.proofs.Demanded.{all-ok, demand}
+use Rattle.model.proofs.Demanded.{all-ok, demand-met}
 use Rattle.model.proofs.Tree.{nodes-counted, committed-counted}
 use Rattle.play_events.specs.List.{members-of, count-of, list-fits, events-of}
 use Rattle.play_store.specs.Rows.{store-sized, stored}
@@ -176,7 +176,7 @@ module _ {list : List ℕ} {L : Lent} (P : PassedList list L) where
           taken = λ q.
               record {
                 played = U;
-                demand = demand z es (P .members) lent-rows (L′ .memory .table) (U .table-is ∙ ap (λ n. table n ns) (sym (sized-words ws (P .table-length))));
+                demand = demand-met z es (P .members) lent-rows (L′ .memory .table) (U .table-is ∙ ap (λ n. table n ns) (sym (sized-words ws (P .table-length))));
                 proposals-are = ap suc (U .proposals-made) ∙ sym (ap length held ∙ nodes-counted z (ended z es) ok);
                 decisions-are = ap suc (U .decisions-made) ∙ sym (ap committed-nodes held ∙ committed-counted z (ended z es) ok lent-rows);
               };
@@ -188,8 +188,8 @@ module _ {list : List ℕ} {L : Lent} (P : PassedList list L) where
     as-cleared : as-lent store ws (L .answers) ≡ cleared-lent L
     as-cleared i = as-lent (es i) (ew i) (L .answers)
 
-    pub ready : Ready list (as-lent store ws (L .answers))
-    ready = subst (Ready list) (sym as-cleared) cleared-ready
+    pub ready-to-run : Ready list (as-lent store ws (L .answers))
+    ready-to-run = subst (Ready list) (sym as-cleared) cleared-ready
 
     pub given-taken : {r : PlayAnswer} {L′ : Lent} → Ran list (as-lent store ws (L .answers)) r L′ → Given list L r L′
     given-taken {r} {L′} W = given-ran (subst (λ K. Ran list K r L′) as-cleared W)

@@ -35,7 +35,7 @@ use Rattle.play_effects.specs.Memory.{Memory, in-memory}
 use Rattle.play_effects.specs.Effects.{counted, refused-event, accepted-event, no-room-to-send, no-room-to-propose, SendEffect, ProposalEffect, DecisionEffect}
 use Rattle.play_office.specs.Represents.{RecordAt, StepBefore, StepAfter, ModelStep, RefusedWith, AnswerIs, AnswerBefore, after-event}
 use Rattle.play_office.proofs.Before.{nodes-held}
-use Rattle.play_office.proofs.Settling.{refused-step, no-store-row, no-table-row, sent-one, proposed-one, silent-one}
+use Rattle.play_office.proofs.Settling.{refused-step, store-full-answer, table-full-answer, sent-one, proposed-one, silent-one}
 use Rattle.play_office.proofs.Settling.{as-result, refused-after, accepted-after}
 
 -- what a step that proposes comes to
@@ -154,7 +154,7 @@ module _ {t : Tally} {M : Memory} (B : StepBefore t M) {e : Event} {i : ℕ} (wa
     fills m T n s h =
         refused-after B was m H
         (record {
-          number-is = no-store-row T n s (omega (arith, B .sizes .store-is, B .represents .shared .sent-count));
+          number-is = store-full-answer T n s (omega (arith, B .sizes .store-is, B .represents .shared .sent-count));
           some = λ q. omega arith;
           small = omega arith;
         })
@@ -165,7 +165,7 @@ module _ {t : Tally} {M : Memory} (B : StepBefore t M) {e : Event} {i : ℕ} (wa
     has-no-row {m} T h f =
         refused-after B was m H
         (record {
-          number-is = no-table-row T refl refl (free B h) refl (omega (arith, B .sizes .table-is, B .represents .slot .proposed));
+          number-is = table-full-answer T refl refl (free B h) refl (omega (arith, B .sizes .table-is, B .represents .slot .proposed));
           some = λ q. omega arith;
           small = omega arith;
         })

@@ -43,15 +43,15 @@ module _ {z : Sizes} {o : Office} {e : Event} {i : ℕ} {u : Outcome} (T : Model
   refused-step n = number ∙ rw (ne-eqb (u .number) 0 n) refl
 
   module _ (ok : u .number ≡ 0) where
-    pub no-store-row : sends-one (u .sent) ≡ true → z .store ≤ length (o .sent) → event-answer z o e ≡ STORE-FULL
-    no-store-row s f = number ∙ rw (ok, s, le-leb (z .store) (length (o .sent)) f) refl
+    pub store-full-answer : sends-one (u .sent) ≡ true → z .store ≤ length (o .sent) → event-answer z o e ≡ STORE-FULL
+    store-full-answer s f = number ∙ rw (ok, s, le-leb (z .store) (length (o .sent)) f) refl
 
     pub silent-one : sends-one (u .sent) ≡ false → proposes-one (u .named) ≡ false → event-answer z o e ≡ 0
     silent-one s p = number ∙ rw (ok, s, p) refl
 
     module _ (s : sends-one (u .sent) ≡ true) (f : length (o .sent) < z .store) where
-      pub no-table-row : proposes-one (u .named) ≡ true → z .table ≤ suc (proposals (o .made)) → event-answer z o e ≡ NO-FREE-ROW
-      no-table-row p r = number ∙ rw (ok, s, lt-leb (z .store) (length (o .sent)) f, p, le-leb (z .table) (suc (proposals (o .made))) r) refl
+      pub table-full-answer : proposes-one (u .named) ≡ true → z .table ≤ suc (proposals (o .made)) → event-answer z o e ≡ NO-FREE-ROW
+      table-full-answer p r = number ∙ rw (ok, s, lt-leb (z .store) (length (o .sent)) f, p, le-leb (z .table) (suc (proposals (o .made))) r) refl
 
       pub sent-one : proposes-one (u .named) ≡ false → event-answer z o e ≡ 0
       sent-one p = number ∙ rw (ok, s, lt-leb (z .store) (length (o .sent)) f, p) refl

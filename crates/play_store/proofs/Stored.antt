@@ -36,10 +36,10 @@ pub length-row : (g : Message) → length (row-with g) ≡ row-length
 unfolding row-with
 length-row g = simp (length-append, length-replicate) (omega (arith, within-row g))
 
-pub length-rows : (gs : List Message) → length (rows-with gs) ≡ row-start (length gs)
+pub length-stored-rows : (gs : List Message) → length (rows-with gs) ≡ row-start (length gs)
 unfolding rows-with
-length-rows [] = refl
-length-rows (g ∷ gs) = rw (length-append (row-with g) (rows-with gs), length-row g, length-rows gs) (omega arith)
+length-stored-rows [] = refl
+length-stored-rows (g ∷ gs) = rw (length-append (row-with g) (rows-with gs), length-row g, length-stored-rows gs) (omega arith)
 
 -- a cleared store has no message
 pub cleared : (n : ℕ) → replicate n 0 ≡ stored n []
@@ -82,7 +82,7 @@ put-stored s gs g k e q h =
     let cut : length s - row-start (length gs) ≡ row-length + free = omega (arith, length-append gs (g ∷ [])) in
     let shape : s ≡ rows-with gs ++ (zeros row-length ++ zeros free) = e ∙
     ap (λ (z : List ℕ). rows-with gs ++ z) (zeros-cut (length s - row-start (length gs)) row-length free cut) in
-    let front : length (rows-with gs) ≡ row-start k = rw q (length-rows gs) in
+    let front : length (rows-with gs) ≡ row-start k = rw q (length-stored-rows gs) in
     ap (λ (t : List ℕ). put-row t k g) shape
     ∙ put-between g (rows-with gs) (zeros row-length) (zeros free) (row-start k) front (length-zeros row-length)
     ∙ ap (λ (r : List ℕ). rows-with gs ++ r ++ zeros free) (in-zeros g row-length (within-row g))

@@ -17,7 +17,7 @@ use Rattle.tree_theory.proofs.Words.{length-rows, used-rows}
 use Rattle.tree_theory.proofs.Paths.{path-length}
 use Rattle.tree_theory.proofs.Trees.{tree-held, is-tree-exact}
 use Rattle.tree_steps.specs.Climbed.{PathOf, PathWritten}
-use Rattle.tree_steps.proofs.Climbing.{some}
+use Rattle.tree_steps.proofs.Climbing.{path-some}
 use Rattle.tree.specs.Promises.{PathGiven}
 use Rattle.tree.proofs.Calling.{first-left}
 
@@ -73,7 +73,7 @@ module _ (valued : Bool) (ws : List ℕ) (r : ℕ) (out : List ℕ) where
         path-short z =
             let G = tree-held valued ws s (is-tree-exact valued ws s .0 t) .grown in
             by-test (leb (length (path (nodes ws) r) + 0) (length out))
-            (λ y. absurd (omega (arith, rw y at (W .count-is), some valued ws G r p)))
+            (λ y. absurd (omega (arith, rw y at (W .count-is), path-some valued ws G r p)))
             (λ y.
             let short : ltb (length out) (length (path (nodes ws) r)) ≡ true = omega tests in
             subst (PathGiven valued ws r out PATH-TOO-LONG 0) (sym (rw y at (W .slice-is)))

@@ -31,9 +31,9 @@ root-written ws behind (x ∷ out) h =
     record { count-is = rw (path-in-root 0 (nodes ws), e) refl; slice-is = rw (path-in-root 0 (nodes ws), e) refl }
 
 -- a path has at least the root
-pub some : (valued : Bool) (ws : List ℕ) → Grown valued (rows ws) (nodes ws) → (x : ℕ) → present x (nodes ws) ≡ true → 0 < length (path (nodes ws) x)
-some valued ws G zero h = rw (path-in-root 0 (nodes ws)) (omega arith)
-some valued ws G (suc x) h =
+pub path-some : (valued : Bool) (ws : List ℕ) → Grown valued (rows ws) (nodes ws) → (x : ℕ) → present x (nodes ws) ≡ true → 0 < length (path (nodes ws) x)
+path-some valued ws G zero h = rw (path-in-root 0 (nodes ws)) (omega arith)
+path-some valued ws G (suc x) h =
     omega (
       arith,
       ap length (path-next valued (rows ws) (nodes ws) G (suc x) h (omega arith)),
@@ -86,7 +86,7 @@ module _ {ws : List ℕ} {n r behind : ℕ} (P : PathOf ws n r behind) (pos : 0 
     pub climbed-short : k ≡ 0 → PathWritten ws r behind out 0 out′
     climbed-short z =
         fate
-        (λ room a b. absurd (omega (arith, some (P .valued) ws grown p (rw e (next-there (P .valued) (rows ws) (nodes ws) grown r (P .there))))))
+        (λ room a b. absurd (omega (arith, path-some (P .valued) ws grown p (rw e (next-there (P .valued) (rows ws) (nodes ws) grown r (P .there))))))
         (λ none a b.
         let t : leb (length (path (nodes ws) r) + behind) (length out) ≡ false = omega (tests, length-r) in
         record { count-is = rw t refl; slice-is = rw t b })

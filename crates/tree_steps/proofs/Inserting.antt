@@ -9,10 +9,10 @@ use Rattle.tree_theory.specs.Table.{rows-of, words}
 use Rattle.tree_theory.proofs.Words.{length-words, length-rows, words-append}
 use Rattle.tree_steps.specs.Planned.{call-written}
 
-pub put-behind : (ws : List ℕ) (n r v p s : ℕ) (t u : List ℕ) → t ≡ words (map (strike-crossed r p) (rows-of ws n)) ++ drop (4 * n) ws →
+pub row-put-behind : (ws : List ℕ) (n r v p s : ℕ) (t u : List ℕ) → t ≡ words (map (strike-crossed r p) (rows-of ws n)) ++ drop (4 * n) ws →
     u ≡ take (4 * n) t ++ r ∷ p ∷ v ∷ s ∷ drop (4 * n + 4) t → u ≡ call-written ws (add r v p) n s
 unfolding words
-put-behind ws n r v p s t u et eu =
+row-put-behind ws n r v p s t u et eu =
     let ms = map (strike-crossed r p) (rows-of ws n) in
     let l : length (words ms) ≡ 4 * n = length-words ms ∙ ap (λ k. 4 * k) (length-map (rows-of ws n) (strike-crossed r p) ∙ length-rows ws n) in
     let front : take (4 * n) t ≡ words ms = ap (take (4 * n)) et ∙ take-at (words ms) (drop (4 * n) ws) (4 * n) l in

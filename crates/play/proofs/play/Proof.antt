@@ -13,7 +13,7 @@ use Rattle.play_events.specs.List.{members-of, count-of, list-fits}
 use Rattle.play_store.specs.Rows.{store-sized}
 use Rattle.play.specs.Lent.{Lent, as-lent}
 use Rattle.play.proofs.Running.{list-parts}
-use Rattle.play.proofs.Giving.{PassedList, as-given, not-exact, not-allowed, store-odd, answers-few, table-odd, ready, given-taken, fresh-zero}
+use Rattle.play.proofs.Giving.{PassedList, as-given, not-exact, not-allowed, store-odd, answers-few, table-odd, ready-to-run, given-taken, fresh-zero}
 use borrow.Author.Needs.{needs}
 use Rattle.play.proofs.play.Statement.{statement}
 use Rattle.play.proofs.play.Tie as tie
@@ -180,7 +180,7 @@ run-requires : tie.Need-run-requires
 run-requires c κs =
     let d = cleared c in
     let t5 = d .before .before in
-    ready (passed-list t5) (d .clear .ensures) (made-fresh (t5 .before) .fresh .ensures .1)
+    ready-to-run (passed-list t5) (d .clear .ensures) (made-fresh (t5 .before) .fresh .ensures .1)
 
 same-length-5 : tie.Need-same-length-5
 same-length-5 c = search needs

@@ -4,7 +4,7 @@ use native.Mathlib.Omega.{arith}
 use borrow.Author.Needs.{needs}
 use denote.Ref.{now}
 use Rattle.tree_steps.specs.Planned.{call-of, call-strikes}
-use Rattle.tree_steps.proofs.Inserting.{put-behind}
+use Rattle.tree_steps.proofs.Inserting.{row-put-behind}
 use Rattle.tree_steps.proofs.call.write_call.Statement.{statement}
 use Rattle.tree_steps.proofs.call.write_call.Tie as tie
 
@@ -59,7 +59,7 @@ returns c =
     let k = struck w in
     let g = told k .call .given in
     let a = begun (told k) .args in
-    rw (g .1) (put-behind (now (a .t)) (a .row) (g .0 .0 .0) (g .0 .1 .0) (g .0 .1 .1 .0 .0) (a .status) (k .strike-if .last .0) (w .put-row .last .0)
+    rw (g .1) (row-put-behind (now (a .t)) (a .row) (g .0 .0 .0) (g .0 .1 .0) (g .0 .1 .1 .0 .0) (a .status) (k .strike-if .last .0) (w .put-row .last .0)
     (k .strike-if .ensures) (w .put-row .ensures))
 
 same-length-2 : tie.Need-same-length-2
