@@ -7,7 +7,7 @@ use Rattle.message.specs.declared.Message.the-variants.{Start, Join, JoinVoted,
 use Rattle.message.specs.declared.Read.{Read}
 use Rattle.message.specs.declared.Read.the-variants.{Got, Refused}
 use Rattle.message.specs.Layout.{START-KIND, JOIN-KIND, PROPOSE-KIND, VOTE-KIND}
-use Rattle.play.specs.declared.PlayAnswer.{PlayAnswer}
+use Rattle.play_run.specs.declared.PlayAnswer.{PlayAnswer}
 use Rattle.exports.specs.declared.PlayResult.{PlayResult}
 use Rattle.exports.specs.declared.MessageResult.{MessageResult}
 

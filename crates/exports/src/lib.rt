@@ -14,7 +14,7 @@ ghost use Rattle.tree_theory.specs.Machine.{add, commit};
 ghost use Rattle.tree_theory.specs.Table.{fresh-number, fresh-table};
 ghost use Rattle.tree.specs.Promises.{CalledOnTable, PathGiven};
 ghost use Rattle.message.specs.Reading.{reading};
-ghost use Rattle.play.specs.Lent.{as-lent};
+ghost use Rattle.play_run.specs.Lent.{as-lent};
 ghost use Rattle.play.specs.Promise.{Given};
 ghost use Rattle.exports.specs.Results.{as-play-answer, voteless, message-result, refused-result, read-result};
 

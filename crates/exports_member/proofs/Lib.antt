@@ -1,3 +1,2 @@
 -- What the proofs of the functions of one member use.
-pub mod MemberFieldsKept
 pub mod MemberResults

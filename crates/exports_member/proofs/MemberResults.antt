@@ -15,14 +15,15 @@ use Rattle.message.specs.Layout.{bytes, byte-count, longest-message}
 use Rattle.message.specs.declared.Written.{Written}
 use Rattle.message.specs.Writing.{writer-row, writing, buffer-after, WriterLeaves}
 use Rattle.message.proofs.RoundTrip.{length-bytes}
+use Rattle.message_fields.specs.Fields.{fields-row}
 use Rattle.member_record.specs.declared.MemberState.{MemberState}
 use Rattle.member.specs.Table.{Outcome}
 use Rattle.member_calls.specs.declared.reply.AfterCall.{AfterCall}
 use Rattle.member_calls.specs.declared.reply.Report.{Report}
 use Rattle.member_calls.specs.Reports.{reply-length, reported, LeavesReport}
-use Rattle.exports_member.specs.declared.MemberFields.{MemberFields}
+use Rattle.member_fields.specs.declared.MemberFields.{MemberFields}
 use Rattle.exports_member.specs.declared.WriteResult.{WriteResult}
-use Rattle.exports_member.specs.Members.{call-result, member-result, fields-row, fields-message, write-row, write-result, written-after}
+use Rattle.exports_member.specs.Members.{call-result, member-result, fields-message, write-row, write-result, written-after}
 
 -- no message is longer than the longest
 count-short : (m : Message) → byte-count m ≤ longest-message

@@ -27,10 +27,11 @@ use Rattle.model.proofs.Tree.{nodes-counted, committed-counted}
 use Rattle.play_events.specs.List.{members-of, count-of, list-fits, events-of}
 use Rattle.play_store.specs.Rows.{store-sized, stored}
 use Rattle.play_store.proofs.Stored.{cleared}
-use Rattle.play.specs.declared.PlayAnswer.{PlayAnswer}
-use Rattle.play.specs.Lent.{Lent, as-lent}
-use Rattle.play.proofs.Running.{same-store-rows, same-rows}
-use Rattle.play.specs.Promise.{list-causes, play-number, refused-list, sizes-of, Ready, Ran, Given}
+use Rattle.play_run.specs.declared.PlayAnswer.{PlayAnswer}
+use Rattle.play_run.specs.Lent.{Lent, as-lent}
+use Rattle.play_run.specs.Ran.{sizes-of, Ready, Ran}
+use Rattle.play_run.proofs.Running.{same-store-rows, same-rows}
+use Rattle.play.specs.Promise.{list-causes, play-number, refused-list, Given}
 
 -- what fresh answers says whether the length is that of a table
 pub fresh-zero : (ws : List ℕ) → fresh-number ws ≡ 0 → sized ws ≡ true

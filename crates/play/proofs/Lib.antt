@@ -1,3 +1,2 @@
 -- Laws for play.
-pub mod Running
 pub mod Giving

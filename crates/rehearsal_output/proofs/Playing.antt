@@ -24,10 +24,11 @@ use Rattle.play_events.specs.List.{count-of, body, list-fits, events-of}
 use Rattle.play_events.proofs.Events.{length-events}
 use Rattle.play_store.specs.Rows.{store-sized}
 use Rattle.play_effects.specs.Memory.{in-memory}
-use Rattle.play.specs.declared.PlayAnswer.{PlayAnswer}
-use Rattle.play.specs.Lent.{Lent, as-lent}
-use Rattle.play.specs.Promise.{play-number, sizes-of, Given}
-use Rattle.play.proofs.Running.{list-parts}
+use Rattle.play_run.specs.declared.PlayAnswer.{PlayAnswer}
+use Rattle.play_run.specs.Lent.{Lent, as-lent}
+use Rattle.play_run.specs.Ran.{sizes-of}
+use Rattle.play_run.proofs.Running.{list-parts}
+use Rattle.play.specs.Promise.{play-number, Given}
 use Rattle.rehearsal_output.specs.Output.{line, node-lines, run-output, rehearsal-sizes, rehearsal-number, rehearsal-output}
 use Rattle.rehearsal_output.specs.Promise.{Printed, RehearsalLent}
 use Rattle.rehearsal_output.proofs.Lines.{line-some}

@@ -11,8 +11,8 @@ use Rattle.member_record.specs.Record.{allowed}
 use Rattle.play_events.specs.declared.ListHead.{ListHead}
 use Rattle.play_events.specs.List.{members-of, count-of, list-fits}
 use Rattle.play_store.specs.Rows.{store-sized}
-use Rattle.play.specs.Lent.{Lent, as-lent}
-use Rattle.play.proofs.Running.{list-parts}
+use Rattle.play_run.specs.Lent.{Lent, as-lent}
+use Rattle.play_run.proofs.Running.{list-parts}
 use Rattle.play.proofs.Giving.{PassedList, as-given, not-exact, not-allowed, store-odd, answers-few, table-odd, ready-to-run, given-taken, fresh-zero}
 use borrow.Author.Needs.{needs}
 use Rattle.play.proofs.play.Statement.{statement}

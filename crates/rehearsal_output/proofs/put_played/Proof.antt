@@ -4,9 +4,9 @@ use native.Mathlib.Omega.{arith}
 use borrow.Author.Needs.{needs}
 use denote.Ref.{now}
 use Rattle.play_events.specs.declared.ListHead.{ListHead}
-use Rattle.play.specs.Lent.{as-lent}
+use Rattle.play_run.specs.Lent.{as-lent}
+use Rattle.play_run.proofs.Running.{list-parts}
 use Rattle.play.proofs.Giving.{PassedList, taken-passed}
-use Rattle.play.proofs.Running.{list-parts}
 use Rattle.rehearsal_output.proofs.Playing.{as-printed, refused-output, taken-output}
 use Rattle.rehearsal_output.proofs.put_played.Statement.{statement}
 use Rattle.rehearsal_output.proofs.put_played.Tie as tie

@@ -1,0 +1,2 @@
+-- What is proved of the numbers of a record.
+pub mod Kept

@@ -1,0 +1,2 @@
+-- A member record as numbers.
+pub mod Fields

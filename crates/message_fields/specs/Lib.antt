@@ -1,0 +1,2 @@
+-- A message as numbers.
+pub mod Fields

@@ -1,0 +1,2 @@
+-- Laws for the walk over the events.
+pub mod Running

@@ -1,0 +1,3 @@
+-- What the events of a list come to (01, "Play").
+pub mod Lent
+pub mod Ran
