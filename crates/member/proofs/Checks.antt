@@ -82,10 +82,7 @@ causes-byte m e = first-byte (step-causes m e) (each e)
     each (delivers (Propose r s v)) = refl
     each (delivers (Vote r s)) = refl
 
--- the number of an answer that refuses is a byte, and not 0
-pub refused-byte : (m : MemberState) {a : StepAnswer} {k : ℕ} → a ≡ Refused k → Kept (answer-outcome m a) → k < 256
-refused-byte m q K = subst (λ b. answer-outcome m b .number < 256) q (K .number-byte)
-
+-- the number of an answer that refuses is not 0
 pub refused-some : {a : StepAnswer} {k : ℕ} → a ≡ Refused k → numbered-answer a ≡ true → k ≡ 0 → ⊥
 refused-some {a} {k} q h z =
     let n : not (eqb k 0) ≡ true = subst (λ b. numbered-answer b ≡ true) q h in

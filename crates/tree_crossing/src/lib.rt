@@ -20,7 +20,7 @@ fn crosses(r: u64, p: u64, c: u64) -> bool
 }
 
 // Whether row i has status s and the edge (r, p) crosses it.
-pub fn crossed_at(t: &[u64], i: usize, s: u64, r: u64, p: u64) -> bool
+fn crossed_at(t: &[u64], i: usize, s: u64, r: u64, p: u64) -> bool
     requires { ⌜ 4 * i + 4 ≤ length (now t) ⌝ }
     ensures { λ b. ⌜ b ≡ crossed-with s r p (row (now (t .entry)) i) ⌝ }
 {
