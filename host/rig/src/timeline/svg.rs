@@ -13,7 +13,8 @@ const CORNER: i32 = 4;
 /// From a row's line to the one on which a message leaves for its lane.
 const LEAVE: i32 = 8;
 
-/// The rules for all elements; what tells them apart in print is here and not a matter of colour.
+/// The rules for all elements; what tells them apart in print is here and not a matter of colour. On paper the picture gets as
+/// small as the paper asks for, so that every lifeline is on it.
 pub const STYLE: &str = "\
 .timeline text{font:11px 'DejaVu Sans Mono','Liberation Mono',Menlo,Consolas,monospace;white-space:pre}
 .timeline .end{text-anchor:end}
@@ -33,6 +34,8 @@ pub const STYLE: &str = "\
 .timeline .commit{fill:#111}
 .timeline .frame{fill:none;stroke:#111;stroke-width:2}
 .timeline .white{fill:#fff}
+@page{size:landscape}
+@media print{.timeline{max-width:100%;height:auto}}
 ";
 
 /// A run as a picture, in parts that a page can use.
