@@ -39,13 +39,14 @@ vault() {
         (cd "$work/vault" && cargo run --offline --quiet | tee "$work/told") && [ "$(tail -n 1 "$work/told")" = "2 proposals, 0 decisions" ]
 }
 
-# An archive of another version ends a program at its first call.
+# An archive of another version, which the function of this name tells, ends a program at its first call.
 other_version_told() {
-    mkdir -p "$work/other" && cp "${archives[@]}" "$work/other" && (
-        cd "$work/other" && ar x libexports.a && objcopy --redefine-sym kalebasin_version=own_version exports.o &&
-            echo 'unsigned kalebasin_version(void) { return 99; }' | cc -x c -c -o version.o - && ar rc libexports.a exports.o version.o
+    local crate=$1 function=$2
+    rm -rf "$work/other" && mkdir "$work/other" && cp "${archives[@]}" "$work/other" && (
+        cd "$work/other" && ar x "lib$crate.a" && objcopy --redefine-sym "$function=own_version" "$crate.o" &&
+            echo "unsigned $function(void) { return 99; }" | cc -x c -c -o version.o - && ar rc "lib$crate.a" "$crate.o" version.o
     ) && ! (cd host && KALEBASIN_LIB=$work/other cargo run --offline --quiet --example office) 2>"$work/told" &&
-        grep -q 'has the calls of version 99, the crate kalebasin those of version 1$' "$work/told"
+        grep -q "^lib$crate.a has the calls of version 99, the crate kalebasin those of version 1\$" "$work/told"
 }
 
 check "cargo check fails without the archive" without_archive check --offline
@@ -59,7 +60,8 @@ if ! built; then
     exit 1
 fi
 check "a package that depends on the library alone fails" vault
-check "an archive of another version isn't told" other_version_told
+check "an archive of another version isn't told" other_version_told exports kalebasin_version
+check "an archive of another version with one member isn't told" other_version_told exports_member kalebasin_member_version
 
 cargo_tests --no-fail-fast
 passed=$((passed + ran))
