@@ -39,6 +39,13 @@ vault() {
         (cd "$work/vault" && cargo run --offline --quiet | tee "$work/told") && [ "$(tail -n 1 "$work/told")" = "2 proposals, 0 decisions" ]
 }
 
+# A relative folder for the archives, which isn't the same one to cargo and to the compiler, is told in one line.
+relative_folder_told() {
+    (cd host && KALEBASIN_LIB=../target/staticlib cargo check --offline) 2>"$work/told" &&
+        [ "$(grep -c '^warning: ' "$work/told")" -eq 1 ] &&
+        grep -q ': KALEBASIN_LIB takes a folder from the root on, so nothing links: \.\./target/staticlib$' "$work/told"
+}
+
 # An archive of another version, which the function of this name tells, ends a program at its first call.
 other_version_told() {
     local crate=$1 function=$2
@@ -54,6 +61,7 @@ check "clippy warns" without_archive clippy --offline --all-targets -- -D warnin
 check "clippy warns of the test of the lent calls" without_archive clippy --offline --test lent -- -D warnings
 check "clippy warns of the packages without the core" without_archive clippy --offline --all-targets --no-default-features -- -D warnings
 check "the pages can't be made without the archive" pages
+check "a relative folder for the archives isn't told" relative_folder_told
 if ! built; then
     echo "host: an archive wasn't built"
     echo "$passed passed, $((failed + 1)) failed"
