@@ -56,6 +56,37 @@ other_version_told() {
         grep -q "^lib$crate.a has the calls of version 99, the crate kalebasin those of version 1\$" "$work/told"
 }
 
+build_examples() {
+    (cd host && cargo build --offline --examples)
+}
+
+# The example says in one line that what it prints can't be written, and has the status of a mistake.
+unwritten_told() {
+    "$1" >/dev/full 2>"$work/told"
+    [ $? -eq 2 ] && one_line_told "$1" 'No space left on device' || return
+    # spaces go out until the reader has gone
+    (
+        trap '' PIPE
+        while printf ' '; do :; done 2>"$work/gone"
+        "$1" 2>"$work/told"
+        echo $? >"$work/status"
+    ) | :
+    [ "$(cat "$work/status")" -eq 2 ] && one_line_told "$1" 'Broken pipe'
+}
+
+one_line_told() {
+    [ "$(wc -l <"$work/told")" -eq 1 ] && grep -q "^$(basename "$1"): $2" "$work/told"
+}
+
+# Arguments that the example doesn't take get a line with those that it does.
+arguments_told() {
+    local argument
+    for argument in $'\xff' x 4 +5; do
+        "$1" "$argument" >"$work/out" 2>"$work/told"
+        [ $? -eq 2 ] && [ ! -s "$work/out" ] && [ "$(wc -l <"$work/told")" -eq 1 ] && grep -q '^machines \[MEMBERS ' "$work/told" || return
+    done
+}
+
 check "cargo check fails without the archive" without_archive check --offline
 check "clippy warns" without_archive clippy --offline --all-targets -- -D warnings
 check "clippy warns of the test of the lent calls" without_archive clippy --offline --test lent -- -D warnings
@@ -68,6 +99,11 @@ if ! built; then
     exit 1
 fi
 check "a package that depends on the library alone fails" vault
+examples=host/target/debug/examples
+check "the examples aren't built" build_examples
+check "the example office doesn't tell that it can't write" unwritten_told "$examples/office"
+check "the example machines doesn't tell that it can't write" unwritten_told "$examples/machines"
+check "the example machines takes other arguments than its own" arguments_told "$examples/machines"
 check "an archive of another version isn't told" other_version_told exports kalebasin_version
 check "an archive of another version with one member isn't told" other_version_told exports_member kalebasin_member_version
 
