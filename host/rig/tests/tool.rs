@@ -467,7 +467,7 @@ fn messages_in_digits() {
     }
     is_mistake(&["message"], b"", "message needs hexadecimal digits");
     is_mistake(&["message", "0000000g"], b"", "'g' is no hexadecimal digit");
-    is_mistake(&["message", "-"], b"0:0:0:2", "0 has an odd number of hexadecimal digits");
+    is_mistake(&["message", "-"], b"0:0:0:2", "standard input: 0 has an odd number of hexadecimal digits");
     is_mistake(&["message", "0x"], b"", "0x has an odd number of hexadecimal digits");
 }
 
@@ -482,9 +482,40 @@ fn bytes_where_notation_is_due() {
         is_mistake(&[command, "-"], digits.as_bytes(), "--hex is for the bytes of a list");
     }
     is_mistake(&["encode"], &bytes, "decode takes the bytes of a list");
+    is_mistake(&["encode"], digits.as_bytes(), "decode --hex takes the bytes of a list");
+    is_mistake(&["encode", "-e", &digits], b"", "decode --hex takes the bytes of a list");
+    for command in ["run", "draw", "search"] {
+        is_mistake(&[command, "-e", &digits], b"", "; --hex FILE is for the bytes of a list");
+    }
     let run = tool(&["run", "-e", REHEARSAL], b"");
     assert_eq!(tool(&["run", "--bytes"], &bytes), run);
     assert_eq!(tool(&["run", "--hex"], digits.as_bytes()), run);
+}
+
+/// Digits and notation given where bytes are due are refused with 26 and a hint; other bytes have none.
+#[test]
+fn text_where_bytes_are_due() {
+    let digits = tool(&["encode", "--hex", "-e", REHEARSAL], b"").1;
+    let read = [&["decode"][..], &["rehearse"], &["run", "--bytes"], &["draw", "--bytes"], &["search", "--bytes", "-"]];
+    for args in read {
+        let notation = match args.contains(&"--bytes") {
+            true => "; this is text; without --bytes it is read as notation\n",
+            false => "; this is text; encode turns notation into bytes\n",
+        };
+        for (input, words) in [
+            (digits.as_bytes(), "; these are hexadecimal digits, which --hex is for\n"),
+            (REHEARSAL.as_bytes(), notation),
+            (b"n=3 s(1", notation),
+            (b"", " its first 8 bytes)\n"),
+            (b"\x00n=3 s(1,1,70)", " above 1,000)\n"),
+        ] {
+            let (status, _, error) = tool(args, input);
+            assert!(status == 1 && error.contains(" is refused with 26: "), "{args:?}: {error}");
+            assert!(error.ends_with(words) && error.lines().count() == 1, "{args:?}: {error}");
+        }
+    }
+    let twice: String = digits.trim().bytes().map(|digit| format!("{digit:02x}")).collect();
+    assert!(tool(&["decode", "--hex"], twice.as_bytes()).2.ends_with(" above 1,000)\n"));
 }
 
 /// A refused list has the same status and the same line on standard error in every command.

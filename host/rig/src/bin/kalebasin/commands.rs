@@ -69,7 +69,7 @@ pub fn play(options: &Options, case: &Case) -> Result<Left, Stop> {
     let left = compare::play(&calls(options), &bytes, &case.lent);
     match left.result {
         Ok(_) => Ok(left),
-        Err(refusal) => Err(list_refused(refusal, &bytes)),
+        Err(refusal) => Err(list_refused(refusal, &bytes, options)),
     }
 }
 
@@ -175,15 +175,15 @@ fn encode(options: &Options, out: &mut dyn Write) -> Outcome {
     } else {
         out.write_all(&bytes)?;
     }
-    judge(&list)?;
+    judge(&list, options)?;
     status(true)
 }
 
 /// Writes any list that has the right shape, and then tells of one that play refuses.
 fn decode(options: &Options, out: &mut dyn Write) -> Outcome {
-    let list = list_of(&list_bytes(options)?)?;
+    let list = list_of(&list_bytes(options)?, options)?;
     writeln!(out, "{list}")?;
-    judge(&list)?;
+    judge(&list, options)?;
     status(true)
 }
 
@@ -192,7 +192,7 @@ fn rehearse(options: &Options, out: &mut dyn Write) -> Outcome {
     let bytes = list_bytes(options)?;
     let (printed, result) = rehearsal::output(&calls(options), &bytes);
     print(printed, out)?;
-    result.map_err(|refusal| list_refused(refusal, &bytes))?;
+    result.map_err(|refusal| list_refused(refusal, &bytes, options))?;
     status(true)
 }
 
