@@ -374,6 +374,8 @@ fn is_mistake(args: &[&str], input: &[u8], words: &str) {
 fn mistakes_on_the_command_line() {
     for (args, words) in [
         (&[][..], "a command is missing"),
+        (&[""], "a command is missing"),
+        (&["RUN", "-e", ""], "there is no command RUN (did you mean run?)"),
         (&["fly"], "there is no command fly; see kalebasin --help"),
         (&["serach"], "there is no command serach (did you mean search?)"),
         (&["mesage", "-"], "(did you mean message?)"),

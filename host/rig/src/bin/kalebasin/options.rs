@@ -379,7 +379,7 @@ pub fn parse(args: impl Iterator<Item = OsString>) -> Result<Asked, Stop> {
     if given.has(&["--version"]) {
         return Ok(Asked::Version);
     }
-    let command = match plain.next() {
+    let command = match plain.next().filter(|name| !name.is_empty()) {
         Some(name) => command(&name.to_string_lossy())?,
         None if help => return Ok(Asked::Help(None)),
         None => return Err("a command is missing; see kalebasin --help".into()),
@@ -475,10 +475,11 @@ where
     }
 }
 
-/// ` (did you mean NAME?)` for the name that a mistyped one begins, or is nearest to if it is near.
+/// ` (did you mean NAME?)` for the name that a mistyped one begins, or is nearest to if it is near; capitals are no difference.
 pub fn meant<'a>(typed: &str, names: impl Iterator<Item = &'a str>) -> String {
-    let begins = |name: &str| typed.len() > 2 && name.starts_with(typed);
-    let far = |name: &str| if begins(name) { 0 } else { distance(typed, name) };
+    let typed = typed.to_lowercase();
+    let begins = |name: &str| typed.len() > 2 && name.starts_with(&typed);
+    let far = |name: &str| if begins(name) { 0 } else { distance(&typed, name) };
     let nearest = names.map(|name| (far(name), name)).min();
     let near = nearest.filter(|(far, name)| *far <= 2 && far + 1 < name.trim_start_matches('-').len());
     near.map_or(String::new(), |(_, name)| format!(" (did you mean {name}?)"))
