@@ -386,10 +386,10 @@ fn mistakes_on_the_command_line() {
         (&["search", "--seed"], "--seed needs a value"),
         (&["run", "--bytes=yes"], "--bytes takes no value"),
         (&["draw", "--format", "gif", "-e", ""], "--format takes text, dot, svg or timeline, not gif"),
-        (&["run", "-e", "", "file"], "give one of them"),
-        (&["run", "-e", "", "--bytes"], "--bytes and --hex are for FILE"),
-        (&["run", "--members", "3", "--bytes"], "the bytes say how many members there are"),
-        (&["search", "--bytes"], "--bytes and --hex are for FILE"),
+        (&["run", "--members", "+5", "-e", ""], "--members takes a number from 0 to 4294967295, not +5"),
+        (&["run", "--html", "-", "-e", ""], "--html takes a file, not -: standard output has the run itself"),
+        (&["run", "--svg=-", "-e", ""], "--svg takes a file, not -"),
+        (&["run", "--dot", "-", "-e", ""], "--dot takes a file, not -"),
         (&["search", "--members", "4"], "--members takes 3, 5 or 7"),
         (&["search", "--all", "40"], "more such lists than can be counted"),
         (&["run", "no such file"], "no such file: "),
@@ -397,6 +397,36 @@ fn mistakes_on_the_command_line() {
     ] {
         is_mistake(args, b"", words);
     }
+}
+
+/// Options that leave one another without effect are refused with the command's help, and so is one that stands twice.
+#[test]
+fn options_without_effect() {
+    for (args, words) in [
+        (&["run", "-e", "", "file"][..], "-e stands instead of FILE; give one of them"),
+        (&["run", "-e", "", "--bytes"], "-e is notation; --bytes and --hex are for FILE"),
+        (&["run", "--bytes", "--hex", "file"], "FILE holds bytes or digits; give --bytes or --hex"),
+        (&["run", "--members", "3", "--bytes"], "the bytes say how many members there are"),
+        (&["run", "-e", "s(1,1,70)", "-e", "s(2,2,70)"], "-e stands twice; run takes it once"),
+        (&["draw", "--format=dot", "-e", "", "--format", "svg"], "--format stands twice; draw takes it once"),
+        (&["rehearse", "--second", "--second"], "--second stands twice; rehearse takes it once"),
+        (&["search", "--bytes"], "--bytes and --hex are for FILE, which may be -"),
+        (&["search", "--store-rows", "3"], "random lists have memory of their own; --store-rows and"),
+        (&["search", "--table-rows", "3", "--lists", "3"], "random lists have memory of their own; --store-rows and"),
+        (&["search", "--all", "3", "--lists", "3"], "--all tries all lists; --lists and --seed are for random ones"),
+        (&["search", "--all", "3", "--seed", "9", "-e", ""], "--all tries all lists; --lists and --seed are for"),
+        (&["search", "--property", "list", "--lists", "3"], "--property list shows the properties and tries nothing"),
+        (&["search", "--property", "list", "file"], "--property list shows the properties and tries nothing"),
+    ] {
+        let (status, out, error) = tool(args, b"");
+        let (line, help) = error.split_once("\n\n").unwrap_or_else(|| panic!("{args:?}: {error}"));
+        assert_eq!((status, out.as_str(), help), (2, "", &*tool(&[args[0], "--help"], b"").1), "{args:?}");
+        assert!(line.starts_with(&format!("kalebasin: {words}")) && line.lines().count() == 1, "{args:?}: {line}");
+    }
+    let (status, out, _) = tool(&["search", "--property", "list"], b"");
+    assert!(status == 0 && out.contains("\n  no-late-decision "), "{out}");
+    let both = ["search", "--property", "model", "--lists", "3", "--property", "counts"];
+    assert_eq!(tool(&both, b"").0, 0);
 }
 
 /// What a command doesn't take is refused with its own help, whether another command takes it or none does.
