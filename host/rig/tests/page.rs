@@ -67,7 +67,7 @@ impl Office {
     fn new(n: u32) -> Office {
         let mut table = vec![0; TABLE_ROWS * 4];
         tree::fresh(&mut table).unwrap();
-        Office { records: Model::new(n, STORE_ROWS, TABLE_ROWS).members, table }
+        Office { records: Model::new(n, STORE_ROWS, TABLE_ROWS).unwrap().members, table }
     }
 
     /// Takes an event; the rounds whose nodes it changed.

@@ -2,6 +2,7 @@
 
 use super::colour::Colours;
 use super::layout::{answer, sent, width_of, Arrow, Item, Layout, Row, ITEM, LABEL_GAP};
+use crate::second::member::size_allowed;
 use crate::trace::Happened;
 use kalebasin::{Event, Round};
 use std::fmt::Write;
@@ -47,7 +48,11 @@ pub struct Picture<'a> {
 
 impl Picture<'_> {
     /// The picture of a run of `n` members.
+    ///
+    /// # Panics
+    /// Where `n` isn't 3, 5 or 7.
     pub fn new(n: u32, trace: &[Happened]) -> Picture<'_> {
+        assert!(size_allowed(n), "an office has 3, 5 or 7 members, not {n}");
         let mut layout = Layout::new(n, trace);
         layout.width = layout.width.max(key().1);
         Picture { layout, colours: Colours::new(trace.iter().filter_map(Happened::round)), trace }

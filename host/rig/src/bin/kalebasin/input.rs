@@ -93,7 +93,7 @@ pub fn list_of(bytes: &[u8], options: &Options) -> Result<EventList, Stop> {
 pub fn judge(list: &EventList, options: &Options) -> Result<(), Stop> {
     list_of(&list.to_bytes(), options)?;
     if !size_allowed(list.n) {
-        return Err(Stop::refused("list", Refusal::OfficeSize, None::<&str>));
+        return Err(Refusal::OfficeSize.into());
     }
     Ok(())
 }

@@ -50,7 +50,7 @@ fn source(options: &Options) -> Result<Source, Stop> {
     match options.all {
         Some(longest) => {
             let events =
-                if given { list(options)? } else { few_events(members(options)?.unwrap_or(notation::MEMBERS)) };
+                if given { list(options)? } else { few_events(members(options)?.unwrap_or(notation::MEMBERS))? };
             let of = case(options, events, longest);
             play(options, &of)?;
             Ok(Source::All { of, longest })
