@@ -381,6 +381,7 @@ fn mistakes_on_the_command_line() {
         (&["mesage", "-"], "(did you mean message?)"),
         (&["reh"], "(did you mean rehearse?)"),
         (&["search", "--property", "no-decison"], "(did you mean no-decision?)"),
+        (&["search", "--property="], "there is no property ''; see --property list"),
         (&["run", "--store-rows", "0"], "--store-rows takes a number from 1 to 2000, not 0"),
         (&["run", "--table-rows=257"], "--table-rows takes a number from 1 to 256, not 257"),
         (&["search", "--seed"], "--seed needs a value"),

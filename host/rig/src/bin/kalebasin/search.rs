@@ -87,6 +87,7 @@ fn properties(names: &[String]) -> Result<Vec<&'static Property>, Stop> {
     let find = |name: &String| {
         all().find(|property| property.name == name).ok_or_else(|| {
             let meant = meant(name, all().map(|property| property.name));
+            let name = if name.is_empty() { "''" } else { name };
             format!("there is no property {name}{meant}; see --property list").into()
         })
     };
