@@ -39,13 +39,52 @@ vault() {
         (cd "$work/vault" && cargo run --offline --quiet | tee "$work/told") && [ "$(tail -n 1 "$work/told")" = "2 proposals, 0 decisions" ]
 }
 
-# An archive of another version ends a program at its first call.
+# A relative folder for the archives, which isn't the same one to cargo and to the compiler, is told in one line.
+relative_folder_told() {
+    (cd host && KALEBASIN_LIB=../target/staticlib cargo check --offline) 2>"$work/told" &&
+        [ "$(grep -c '^warning: ' "$work/told")" -eq 1 ] &&
+        grep -q ': KALEBASIN_LIB takes a folder from the root on, so nothing links: \.\./target/staticlib$' "$work/told"
+}
+
+# An archive of another version, which the function of this name tells, ends a program at its first call.
 other_version_told() {
-    mkdir -p "$work/other" && cp "${archives[@]}" "$work/other" && (
-        cd "$work/other" && ar x libexports.a && objcopy --redefine-sym kalebasin_version=own_version exports.o &&
-            echo 'unsigned kalebasin_version(void) { return 99; }' | cc -x c -c -o version.o - && ar rc libexports.a exports.o version.o
+    local crate=$1 function=$2
+    rm -rf "$work/other" && mkdir "$work/other" && cp "${archives[@]}" "$work/other" && (
+        cd "$work/other" && ar x "lib$crate.a" && objcopy --redefine-sym "$function=own_version" "$crate.o" &&
+            echo "unsigned $function(void) { return 99; }" | cc -x c -c -o version.o - && ar rc "lib$crate.a" "$crate.o" version.o
     ) && ! (cd host && KALEBASIN_LIB=$work/other cargo run --offline --quiet --example office) 2>"$work/told" &&
-        grep -q 'has the calls of version 99, the crate kalebasin those of version 1$' "$work/told"
+        grep -q "^lib$crate.a has the calls of version 99, the crate kalebasin those of version 1\$" "$work/told"
+}
+
+build_examples() {
+    (cd host && cargo build --offline --examples)
+}
+
+# The example says in one line that what it prints can't be written, and has the status of a mistake.
+unwritten_told() {
+    "$1" >/dev/full 2>"$work/told"
+    [ $? -eq 2 ] && one_line_told "$1" 'No space left on device' || return
+    # spaces go out until the reader has gone
+    (
+        trap '' PIPE
+        while printf ' '; do :; done 2>"$work/gone"
+        "$1" 2>"$work/told"
+        echo $? >"$work/status"
+    ) | :
+    [ "$(cat "$work/status")" -eq 2 ] && one_line_told "$1" 'Broken pipe'
+}
+
+one_line_told() {
+    [ "$(wc -l <"$work/told")" -eq 1 ] && grep -q "^$(basename "$1"): $2" "$work/told"
+}
+
+# Arguments that the example doesn't take get a line with those that it does.
+arguments_told() {
+    local argument
+    for argument in $'\xff' x 4 +5; do
+        "$1" "$argument" >"$work/out" 2>"$work/told"
+        [ $? -eq 2 ] && [ ! -s "$work/out" ] && [ "$(wc -l <"$work/told")" -eq 1 ] && grep -q '^machines \[MEMBERS ' "$work/told" || return
+    done
 }
 
 check "cargo check fails without the archive" without_archive check --offline
@@ -53,13 +92,20 @@ check "clippy warns" without_archive clippy --offline --all-targets -- -D warnin
 check "clippy warns of the test of the lent calls" without_archive clippy --offline --test lent -- -D warnings
 check "clippy warns of the packages without the core" without_archive clippy --offline --all-targets --no-default-features -- -D warnings
 check "the pages can't be made without the archive" pages
+check "a relative folder for the archives isn't told" relative_folder_told
 if ! built; then
     echo "host: an archive wasn't built"
     echo "$passed passed, $((failed + 1)) failed"
     exit 1
 fi
 check "a package that depends on the library alone fails" vault
-check "an archive of another version isn't told" other_version_told
+examples=host/target/debug/examples
+check "the examples aren't built" build_examples
+check "the example office doesn't tell that it can't write" unwritten_told "$examples/office"
+check "the example machines doesn't tell that it can't write" unwritten_told "$examples/machines"
+check "the example machines takes other arguments than its own" arguments_told "$examples/machines"
+check "an archive of another version isn't told" other_version_told exports kalebasin_version
+check "an archive of another version with one member isn't told" other_version_told exports_member kalebasin_member_version
 
 cargo_tests --no-fail-fast
 passed=$((passed + ran))

@@ -13,12 +13,18 @@ fn main() {
     if env::var_os("CARGO_FEATURE_CORE").is_none() {
         return;
     }
+    for name in CRATES {
+        println!("cargo:rustc-link-lib=static={name}");
+    }
     let folder = archive_folder();
+    if folder.is_relative() {
+        println!("cargo:warning=KALEBASIN_LIB takes a folder from the root on, so nothing links: {}", folder.display());
+        return;
+    }
     println!("cargo:rustc-link-search=native={}", folder.display());
     for name in CRATES {
         let archive = folder.join(format!("lib{name}.a"));
         println!("cargo:rerun-if-changed={}", archive.display());
-        println!("cargo:rustc-link-lib=static={name}");
         if !archive.is_file() {
             println!(
                 "cargo:warning=an archive of the proved core isn't there, so nothing links: {}",
@@ -31,7 +37,8 @@ fn main() {
     }
 }
 
-/// KALEBASIN_LIB, or the repository's target/staticlib.
+/// KALEBASIN_LIB, or the repository's target/staticlib. A relative one would be another folder here, where cargo was called, and
+/// where it runs the compiler.
 fn archive_folder() -> PathBuf {
     if let Some(folder) = env::var_os("KALEBASIN_LIB") {
         return PathBuf::from(folder);

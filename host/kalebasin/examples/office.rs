@@ -4,8 +4,22 @@
 
 use kalebasin::{nodes, play, read_message, sent};
 use kalebasin::{EventList, Member, MessageNumber, Refusal, Round, STORE_ROW, TABLE_ROW};
+use std::error::Error;
+use std::io::{self, Write};
+use std::process::ExitCode;
 
-fn main() -> Result<(), Refusal> {
+fn main() -> ExitCode {
+    match office(&mut io::stdout().lock()) {
+        Ok(()) => ExitCode::SUCCESS,
+        Err(error) => {
+            // `println!` and `eprintln!` would panic where nobody reads.
+            let _ = writeln!(io::stderr(), "office: {error}");
+            ExitCode::from(2)
+        }
+    }
+}
+
+fn office(out: &mut dyn Write) -> Result<(), Box<dyn Error>> {
     // What happened in the office. Messages count from 0 in the order they are sent.
     let mut list = EventList::new(3);
     list.start(Member(1), Round(1), 70)
@@ -26,23 +40,23 @@ fn main() -> Result<(), Refusal> {
     let mut answers = [0; EventList::MOST];
     let played = play(&list.to_bytes(), &mut store, &mut table, &mut answers)?;
 
-    println!("Answers");
+    writeln!(out, "Answers")?;
     for (event, answer) in list.events.iter().zip(answers) {
         match Refusal::from_number(answer.into()) {
-            None => println!("  {event}: OK"),
-            Some(refusal) => println!("  {event}: {refusal}"),
+            None => writeln!(out, "  {event}: OK")?,
+            Some(refusal) => writeln!(out, "  {event}: {refusal}")?,
         }
     }
 
-    println!("Messages");
+    writeln!(out, "Messages")?;
     for (number, bytes) in sent(&store, played.messages).enumerate() {
-        println!("  {number}: {}", read_message(bytes)?);
+        writeln!(out, "  {number}: {}", read_message(bytes)?)?;
     }
 
-    println!("Tree");
+    writeln!(out, "Tree")?;
     for node in nodes(&table) {
-        println!("  round {}, parent {}, value {}, {}", node.round, node.parent, node.value, node.status);
+        writeln!(out, "  round {}, parent {}, value {}, {}", node.round, node.parent, node.value, node.status)?;
     }
-    println!("{} proposals, {} decisions", played.proposals, played.decisions);
+    writeln!(out, "{} proposals, {} decisions", played.proposals, played.decisions)?;
     Ok(())
 }

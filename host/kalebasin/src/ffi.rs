@@ -1,7 +1,12 @@
-//! The C functions of the archives `libexports.a` and `libexports_member.a`, as `include/kalebasin.h` declares them. A slice passes as a
-//! pointer and a count of elements. `number` is 0 for OK, else the number of a [`Refusal`](crate::Refusal).
+//! The C functions of the archives `libexports.a` and `libexports_member.a`, as `include/kalebasin.h` declares them.
+//! `number` is 0 for OK, else the number of a [`Refusal`](crate::Refusal).
 //!
 //! The functions at the front of the crate are safe and do the same.
+//!
+//! # Safety
+//! A slice passes as a pointer and a count of elements, and the pointer stands at so many of them. Where the count is 0 it
+//! isn't followed and may be null. Words (`u64`) start at a multiple of 8, bytes anywhere. What a `*mut` stands at may be
+//! written, and overlaps nothing else that is passed.
 
 /// What [`kalebasin_play`] returns: on a refusal all but `number` is 0. Later versions count more.
 #[repr(C)]
@@ -129,8 +134,7 @@ extern "C" {
     /// [`play`](crate::play).
     ///
     /// # Safety
-    /// Each pointer isn't null and stands at so many elements as the length behind it says; `store`, `table` and
-    /// `answers` overlap nothing else and may be written.
+    /// What [the module](self) says of slices.
     pub fn kalebasin_play(
         list: *const u8,
         list_len: usize,
@@ -145,38 +149,37 @@ extern "C" {
     /// [`read_message`](crate::read_message).
     ///
     /// # Safety
-    /// `bytes` isn't null and stands at `len` bytes.
+    /// What [the module](self) says of slices.
     pub fn kalebasin_read_message(bytes: *const u8, len: usize) -> MessageResult;
 
     /// [`tree_fresh`](crate::tree_fresh).
     ///
     /// # Safety
-    /// `table` isn't null and stands at `len` words that may be written.
+    /// What [the module](self) says of slices.
     pub fn kalebasin_tree_fresh(table: *mut u64, len: usize) -> u32;
 
     /// [`tree_add`](crate::tree_add).
     ///
     /// # Safety
-    /// `table` isn't null and stands at `len` words that may be written.
+    /// What [the module](self) says of slices.
     pub fn kalebasin_tree_add(table: *mut u64, len: usize, round: u32, value: u64, parent: u32) -> u32;
 
     /// [`tree_commit`](crate::tree_commit).
     ///
     /// # Safety
-    /// `table` isn't null and stands at `len` words that may be written.
+    /// What [the module](self) says of slices.
     pub fn kalebasin_tree_commit(table: *mut u64, len: usize, round: u32) -> u32;
 
     /// [`tree_path`](crate::tree_path).
     ///
     /// # Safety
-    /// Each pointer isn't null and stands at so many words as the length behind it says; `out` doesn't overlap `table`
-    /// and may be written.
+    /// What [the module](self) says of slices.
     pub fn kalebasin_tree_path(table: *const u64, len: usize, round: u32, out: *mut u64, out_len: usize) -> PathResult;
 
     /// [`Message::write`](crate::Message::write). A field that the kind doesn't have is 0.
     ///
     /// # Safety
-    /// `buffer` isn't null and stands at `len` bytes that may be written.
+    /// What [the module](self) says of slices.
     pub fn kalebasin_write_message(
         kind: u32,
         round: u32,
@@ -197,7 +200,7 @@ extern "C" {
     /// [`MemberRecord::start`](crate::MemberRecord::start).
     ///
     /// # Safety
-    /// `reply` isn't null and stands at `len` bytes that may be written.
+    /// What [the module](self) says of slices.
     pub fn kalebasin_member_start(
         record: MemberRecord,
         round: u32,
@@ -209,8 +212,7 @@ extern "C" {
     /// [`MemberRecord::deliver`](crate::MemberRecord::deliver).
     ///
     /// # Safety
-    /// Each pointer isn't null and stands at so many bytes as the length behind it says; `reply` doesn't overlap `bytes`
-    /// and may be written.
+    /// What [the module](self) says of slices.
     pub fn kalebasin_member_deliver(
         record: MemberRecord,
         bytes: *const u8,

@@ -15,13 +15,13 @@
 //! [`MemberRecord::deliver`] takes the bytes that come in, and what each of them leaves in its reply goes out. What is proved
 //! of the values decided is proved of play, for members that never forget.
 //!
-//! The functions of the core need the feature `core` (on by default) and its archive; without the
+//! The functions of the core need the feature `core` (on by default) and its two archives; without the
 //! feature the rest of this crate is still there.
 //!
 //! # Beside the core
 //!
 //! - [`notation`]: lists as people write them
-//! - `ffi`: the C functions, as the archive has them
+//! - `ffi`: the C functions, as the archives have them
 //!
 //! "Document 01" is the product's scope document; its numbers and terms are used throughout.
 

@@ -8,14 +8,16 @@
 //! Decisions are made by leaders. How the others learn of one is no part of the protocol: a member that knows one tells the
 //! sender of each message that comes in, and a leader that decides tells all, by a datagram of this program's own (`KNOWN`, a
 //! round and a value), which is believed. The run ends when all know, or at a limit of time and of datagrams. It prints who
-//! decided what and how each member came to know, and fails where not all know, or where two values differ.
+//! decided what and how each member came to know, and fails with status 1 where not all know, or where two values differ; a
+//! mistake in the arguments, a socket that fails and output that can't be written have a line and status 2.
 //!
 //! The seed fixes what becomes of the k-th datagram of each member, and not the order in which threads run.
 
 use kalebasin::{read_message, Made, Member, MemberRecord, Message, Refusal, Round};
 use kalebasin_rig::random::Random;
 use std::collections::BTreeSet;
-use std::io::{Error, ErrorKind, Write};
+use std::ffi::OsString;
+use std::io::{stderr, stdout, Error, ErrorKind, Write};
 use std::net::{SocketAddr, UdpSocket};
 use std::process::ExitCode;
 use std::sync::atomic::{AtomicUsize, Ordering};
@@ -263,9 +265,11 @@ fn told(datagram: &[u8]) -> Option<Decision> {
     Some((Round(u32::from_be_bytes(round.try_into().ok()?)), u64::from_be_bytes(value.try_into().ok()?)))
 }
 
-/// The arguments: members, seed, loss.
-pub fn asked(arguments: impl Iterator<Item = String>) -> Option<(u32, u64, usize)> {
-    let words: Vec<u64> = arguments.map(|word| word.parse().ok()).collect::<Option<_>>()?;
+/// The arguments, of digits alone: members, seed, loss.
+pub fn asked(arguments: impl Iterator<Item = OsString>) -> Option<(u32, u64, usize)> {
+    let digits = |word: &&str| word.bytes().all(|digit| digit.is_ascii_digit());
+    let number = |word: OsString| word.to_str().filter(digits).and_then(|word| word.parse().ok());
+    let words: Vec<u64> = arguments.map(number).collect::<Option<_>>()?;
     let word = |at: usize, otherwise: u64| words.get(at).copied().unwrap_or(otherwise);
     let (members, seed, lost) = (word(0, 5), word(1, 1), word(2, 20));
     (words.len() <= 3 && matches!(members, 3 | 5 | 7) && lost <= 90).then_some((members as u32, seed, lost as usize))
@@ -318,19 +322,23 @@ fn told_of(machines: &[Machine]) -> (String, bool) {
     (text, agreed)
 }
 
+/// A line on standard error, and the status of a mistake. What can't be told is lost.
+fn mistake(line: &str) -> ExitCode {
+    let _ = writeln!(stderr(), "{line}");
+    ExitCode::from(2)
+}
+
 fn main() -> ExitCode {
-    let Some((members, seed, lost)) = asked(std::env::args().skip(1)) else {
-        eprintln!("machines [MEMBERS [SEED [LOST]]]: 3, 5 or 7 members, a seed, 0 to 90 of a hundred datagrams lost");
-        return ExitCode::from(2);
+    let Some((members, seed, lost)) = asked(std::env::args_os().skip(1)) else {
+        return mistake(
+            "machines [MEMBERS [SEED [LOST]]]: 3, 5 or 7 members, a seed, 0 to 90 of a hundred datagrams lost",
+        );
     };
-    match run(members, seed, lost, LONGEST_RUN) {
-        Ok((text, agreed)) => match std::io::stdout().write_all(text.as_bytes()) {
-            Ok(()) if agreed => ExitCode::SUCCESS,
-            _ => ExitCode::FAILURE,
-        },
-        Err(error) => {
-            eprintln!("machines: {error}");
-            ExitCode::from(2)
-        }
+    let told = run(members, seed, lost, LONGEST_RUN)
+        .and_then(|(text, agreed)| stdout().write_all(text.as_bytes()).map(|()| agreed));
+    match told {
+        Ok(true) => ExitCode::SUCCESS,
+        Ok(false) => ExitCode::FAILURE,
+        Err(error) => mistake(&format!("machines: {error}")),
     }
 }

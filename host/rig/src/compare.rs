@@ -21,7 +21,7 @@ pub struct Lent {
 impl Lent {
     /// So many whole rows, just enough answers, all zeros.
     pub fn rows(store: usize, table: usize, answers: usize) -> Lent {
-        Lent { store: store * STORE_ROW, table: table * TABLE_ROW, answers, dirt: 0 }
+        Lent { store: store.saturating_mul(STORE_ROW), table: table.saturating_mul(TABLE_ROW), answers, dirt: 0 }
     }
 
     /// The whole rows of store and table.
@@ -70,6 +70,9 @@ fn within_mut<T>(memory: &mut [T]) -> &mut [T] {
 }
 
 /// Memory of this length with a guard on both sides, dirty if asked for.
+///
+/// # Panics
+/// Where there isn't so much memory; the program may also end.
 pub fn memory(length: usize, dirt: u64) -> Vec<u64> {
     let mut random = Random::new(dirt);
     (0..length + 2 * GUARD).map(|_| if dirt == 0 { 0 } else { random.number() }).collect()
@@ -87,6 +90,9 @@ fn bytes(length: usize, dirt: u64) -> Vec<u8> {
 }
 
 /// Runs a list's bytes on lent memory.
+///
+/// # Panics
+/// As [`memory`] does.
 pub fn play(calls: &Calls, list: &[u8], lent: &Lent) -> Left {
     let mut left = Left {
         result: Ok(Played::default()),
@@ -99,7 +105,10 @@ pub fn play(calls: &Calls, list: &[u8], lent: &Lent) -> Left {
     left
 }
 
-/// Where two plays of the same list differ, in words.
+/// Where two plays of the same list on memory of the same lengths differ, in words.
+///
+/// # Panics
+/// May, where the lengths differ.
 pub fn difference(names: [&str; 2], left: [&Left; 2]) -> Option<String> {
     let [a, b] = left;
     if a == b {
@@ -125,11 +134,17 @@ fn first_difference<T: PartialEq + std::fmt::Display>(
 }
 
 /// Runs a case on two implementations; where they differ, in words.
+///
+/// # Panics
+/// As [`memory`] does.
 pub fn compare(calls: [&Calls; 2], case: &Case) -> Option<String> {
     compare_bytes(calls, &case.list.to_bytes(), &case.lent)
 }
 
 /// Runs a list's bytes on two implementations; where they differ, in words.
+///
+/// # Panics
+/// As [`memory`] does.
 pub fn compare_bytes(calls: [&Calls; 2], list: &[u8], lent: &Lent) -> Option<String> {
     let left = calls.map(|calls| play(calls, list, lent));
     difference(calls.map(|calls| calls.name), [&left[0], &left[1]])

@@ -30,10 +30,11 @@ fn text_below(nodes: &[Node], round: Round, indent: &str, out: &mut String) {
     }
 }
 
-/// The children of a round, lowest first. The root is nobody's child.
+/// The children of a round, lowest first. A child's round is above its parent's, so the root is nobody's child, and nobody its
+/// own.
 fn children(nodes: &[Node], parent: Round) -> Vec<Node> {
     let mut children: Vec<Node> =
-        nodes.iter().filter(|node| node.parent == parent && node.round != Round::ROOT).copied().collect();
+        nodes.iter().filter(|node| node.parent == parent && node.round > parent).copied().collect();
     children.sort_by_key(|node| node.round);
     children
 }

@@ -15,22 +15,26 @@ pub struct Explained {
     pub words: String,
 }
 
-/// A list in words, for a store and a table of so many rows. N is 3, 5 or 7.
+/// A list in words, for a store and a table of so many rows.
 ///
 /// ```
 /// use kalebasin::notation::parse;
 /// use kalebasin_rig::explain::explain;
 ///
 /// let list = parse("n=3 s(1,1,70) s(1,2,80)", None).unwrap();
-/// let words: Vec<String> = explain(&list, 1000, 64).into_iter().map(|explained| explained.words).collect();
+/// let words: Vec<String> = explain(&list, 1000, 64)?.into_iter().map(|explained| explained.words).collect();
 /// assert_eq!(words, [
 ///     "member 1 starts round 1 with the offer 70 and sends START (message 0)",
 ///     "member 1 can't start round 2: member 2 leads it",
 /// ]);
+/// # Ok::<(), kalebasin::Refusal>(())
 /// ```
-pub fn explain(list: &EventList, store_rows: usize, table_rows: usize) -> Vec<Explained> {
-    let mut model = Model::new(list.n, store_rows, table_rows);
-    list.events.iter().map(|event| explain_event(&mut model, event)).collect()
+///
+/// # Errors
+/// 27 where N isn't 3, 5 or 7.
+pub fn explain(list: &EventList, store_rows: usize, table_rows: usize) -> Result<Vec<Explained>, Refusal> {
+    let mut model = Model::new(list.n, store_rows, table_rows)?;
+    Ok(list.events.iter().map(|event| explain_event(&mut model, event)).collect())
 }
 
 /// Takes the next event of a run and puts it in words.

@@ -4,7 +4,7 @@ use crate::compare::Lent;
 use crate::random::Random;
 use crate::second::model::Model;
 use kalebasin::{
-    Event, EventList, Member, Message, MessageNumber, Round, STORE_ROW, STORE_ROWS, TABLE_ROW, TABLE_ROWS,
+    Event, EventList, Member, Message, MessageNumber, Refusal, Round, STORE_ROW, STORE_ROWS, TABLE_ROW, TABLE_ROWS,
 };
 
 /// A list and the memory lent with it.
@@ -57,11 +57,22 @@ pub fn case(random: &mut Random) -> Case {
         answers: events + spare,
         dirt: random.number(),
     };
-    Case { list: list(random, n, events, store_rows, table_rows), lent }
+    let list = list(random, n, events, store_rows, table_rows).expect("n is 3, 5 or 7");
+    Case { list, lent }
 }
 
-/// A list of so many events for `n` members (3, 5 or 7) and memory of so many rows.
-pub fn list(random: &mut Random, n: u32, events: usize, store_rows: usize, table_rows: usize) -> EventList {
+/// A list of so many events for `n` members and memory of so many rows.
+///
+/// # Errors
+/// 27 where `n` isn't 3, 5 or 7.
+pub fn list(
+    random: &mut Random,
+    n: u32,
+    events: usize,
+    store_rows: usize,
+    table_rows: usize,
+) -> Result<EventList, Refusal> {
+    let mut model = Model::new(n, store_rows, table_rows)?;
     let style = Style {
         wild: *random.pick(&[0, 0, 3, 10, 60]),
         hurry: *random.pick(&[0, 2, 5, 10, 20]),
@@ -69,14 +80,13 @@ pub fn list(random: &mut Random, n: u32, events: usize, store_rows: usize, table
         below: *random.pick(&[0, 10, 30]),
         put_off: *random.pick(&[0, 0, 90, 100]),
     };
-    let mut model = Model::new(n, store_rows, table_rows);
     let mut list = EventList::new(n);
     while list.events.len() < events {
         let event = next(random, &model, style);
         let _ = model.take(&event);
         list.events.push(event);
     }
-    list
+    Ok(list)
 }
 
 fn next(random: &mut Random, model: &Model, style: Style) -> Event {

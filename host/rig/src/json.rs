@@ -89,10 +89,11 @@ fn or_null<T>(one: Option<T>, json: impl Fn(T) -> Json) -> Json {
 /// use kalebasin_rig::{json::event, second, trace::trace};
 ///
 /// let list = kalebasin::notation::parse("s(2,1,70)", None).unwrap();
-/// let happened = &trace(&second::CALLS, &list, &[19], 10, 10)[0];
+/// let happened = &trace(&second::CALLS, &list, &[19], 10, 10)?[0];
 /// assert!(event(0, happened).to_string().starts_with(
 ///     r#"{"number":0,"event":{"notation":"s(2,1,70)","kind":"start","member":2,"round":1,"offer":"70"},"answer":19,"#
 /// ));
+/// # Ok::<(), kalebasin::Refusal>(())
 /// ```
 pub fn event(at: usize, happened: &Happened) -> Json {
     let refusal = Refusal::from_number(happened.answer);

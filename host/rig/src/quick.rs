@@ -1,4 +1,5 @@
-//! Play in plain Rust, written for speed: the yardstick that the benchmark measures the core by.
+//! Play in plain Rust, written for speed: what could be had at most. The benchmark has it beside the core; the core is measured
+//! by [`ONE_WALK`].
 //!
 //! It goes once over the nodes for a proposal and once for a decision. It is play alone, in one piece, without proofs; a test
 //! compares it with the second implementation, lent memory included. The office's host program calls the core, not this.

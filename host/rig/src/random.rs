@@ -25,12 +25,15 @@ impl Random {
         z ^ (z >> 31)
     }
 
-    /// 0 to `bound` - 1; `bound` is at least 1.
+    /// 0 to `bound` - 1; 0 where `bound` is 0.
     pub fn below(&mut self, bound: usize) -> usize {
         ((u128::from(self.number()) * bound as u128) >> 64) as usize
     }
 
     /// `low` to `high`, both included.
+    ///
+    /// # Panics
+    /// May, where `high` is below `low`, or the range is that of all numbers.
     pub fn between(&mut self, low: usize, high: usize) -> usize {
         low + self.below(high - low + 1)
     }
@@ -41,6 +44,9 @@ impl Random {
     }
 
     /// One of some things.
+    ///
+    /// # Panics
+    /// Where there are none.
     pub fn pick<'a, T>(&mut self, things: &'a [T]) -> &'a T {
         &things[self.below(things.len())]
     }

@@ -3,12 +3,14 @@
 use crate::compare::{self, Left, Lent};
 use crate::generate::{self, Case};
 use crate::random::Random;
+use crate::second::member::size_allowed;
 use crate::second::model::{Made, Model};
 use crate::second::{self, message};
 use crate::shrink::{shortest, shrink};
 use crate::Calls;
 use kalebasin::{
-    nodes, number_of, Event, EventList, Member, MessageNumber, Refusal, Round, Status, STORE_ROW, TABLE_ROW,
+    nodes, number_of, Event, EventList, Member, MessageNumber, Refusal, Round, Status, STORE_ROW, STORE_ROWS,
+    TABLE_ROW, TABLE_ROWS,
 };
 use std::sync::atomic::{AtomicU64, Ordering};
 use std::sync::mpsc::{self, RecvTimeoutError};
@@ -29,12 +31,27 @@ pub struct Run {
 }
 
 impl Run {
-    /// Runs a case. N is 3, 5 or 7, store and table have whole rows, and there is an answer byte for each event.
-    pub fn new(calls: &Calls, case: &Case) -> Run {
+    /// Runs a case.
+    ///
+    /// # Errors
+    /// 26, 27, 28 or 1, as play gives them.
+    pub fn new(calls: &Calls, case: &Case) -> Result<Run, Refusal> {
+        let Lent { store, table, answers, .. } = case.lent;
+        let events = case.list.events.len();
+        let whole = |length: usize, row: usize, most: usize| length % row == 0 && (1..=most).contains(&(length / row));
+        let causes = [
+            (events > EventList::MOST, Refusal::ListShape),
+            (!size_allowed(case.list.n), Refusal::OfficeSize),
+            (!whole(store, STORE_ROW, STORE_ROWS) || answers < events, Refusal::StoreOrAnswers),
+            (!whole(table, TABLE_ROW, TABLE_ROWS), Refusal::TableLength),
+        ];
+        if let Some((_, refusal)) = causes.into_iter().find(|(holds, _)| *holds) {
+            return Err(refusal);
+        }
         let (store_rows, table_rows) = case.lent.whole_rows();
-        let (model, steps) = Model::run(&case.list, store_rows, table_rows);
+        let (model, steps) = Model::run(&case.list, store_rows, table_rows)?;
         let answers = steps.iter().map(number_of).collect();
-        Run { case: case.clone(), model, answers, left: compare::play(calls, &case.list.to_bytes(), &case.lent) }
+        Ok(Run { case: case.clone(), model, answers, left: compare::play(calls, &case.list.to_bytes(), &case.lent) })
     }
 }
 
@@ -182,7 +199,7 @@ pub enum Source {
     Random {
         /// How many.
         lists: u64,
-        /// Only lists for so many members; for any if none.
+        /// Only lists for 3, 5 or 7 members; for any of these if none, or another number.
         members: Option<u32>,
     },
     /// Random orders of a list.
@@ -214,12 +231,15 @@ impl Source {
     }
 
     /// The list of this number. A seed and a number give the same list again, whichever lists were made before.
+    ///
+    /// # Panics
+    /// Of all lists, where `number` isn't below [`Source::lists`].
     pub fn case(&self, seed: u64, number: u64) -> Case {
         let mut random = Random::of(seed, number);
         match self {
             Source::Random { members, .. } => loop {
                 let case = generate::case(&mut random);
-                if members.is_none_or(|n| n == case.list.n) {
+                if members.is_none_or(|n| n == case.list.n || !size_allowed(n)) {
                     return case;
                 }
             },
@@ -229,6 +249,7 @@ impl Source {
                 case
             }
             Source::All { of, .. } => {
+                assert!(self.lists().is_none_or(|lists| number < lists), "there is no list of number {number}");
                 let mut case = of.clone();
                 case.list.events = nth_list(&of.list.events, number);
                 case.lent.answers = case.list.events.len();
@@ -269,7 +290,13 @@ fn nth_list(events: &[Event], number: u64) -> Vec<Event> {
 
 /// The events that [`Source::All`] makes lists of where none are given: rounds 1 and 2 started by their leaders, and
 /// messages 0 to 3 delivered to each member.
-pub fn few_events(n: u32) -> EventList {
+///
+/// # Errors
+/// 27 where `n` isn't 3, 5 or 7.
+pub fn few_events(n: u32) -> Result<EventList, Refusal> {
+    if !size_allowed(n) {
+        return Err(Refusal::OfficeSize);
+    }
     let mut list = EventList::new(n);
     for round in [1, 2].map(Round) {
         round.leader(n).into_iter().for_each(|leader| _ = list.start(leader, round, 10 * u64::from(round.0)));
@@ -277,7 +304,7 @@ pub fn few_events(n: u32) -> EventList {
     for message in (0..4).map(MessageNumber) {
         (0..n).map(Member).for_each(|member| _ = list.deliver(message, member));
     }
-    list
+    Ok(list)
 }
 
 /// What is searched.
@@ -367,7 +394,10 @@ impl Shared {
 
 impl Search<'_> {
     /// Tries the lists on so many threads and tells now and then how far it is. The list found is the first of all that
-    /// fail, however many threads there are.
+    /// fail, however many threads there are. One that play refuses is passed over.
+    ///
+    /// # Panics
+    /// Where the system has no more threads.
     pub fn run(&self, threads: usize, tell: &mut dyn FnMut(&Progress)) -> Option<Found> {
         let shared = Shared::default();
         thread::scope(|scope| {
@@ -407,7 +437,7 @@ impl Search<'_> {
     }
 
     fn try_list(&self, number: u64, shared: &Shared) {
-        let run = Run::new(self.calls, &self.source.case(self.seed, number));
+        let Ok(run) = Run::new(self.calls, &self.source.case(self.seed, number)) else { return };
         shared.count(&run);
         if let Some(property) = self.properties.iter().find(|property| (property.fails)(self.calls, &run).is_some()) {
             shared.found(number, property);
@@ -415,16 +445,10 @@ impl Search<'_> {
     }
 
     fn smallest(&self, property: &'static Property, case: Case) -> Found {
-        let how = |case: &Case| (property.fails)(self.calls, &Run::new(self.calls, case));
-        let case = self.source.shortest(case, &mut |case| runs(case) && how(case).is_some());
+        let how = |case: &Case| (property.fails)(self.calls, &Run::new(self.calls, case).ok()?);
+        let case = self.source.shortest(case, &mut |case| how(case).is_some());
         Found { property, how: how(&case).unwrap_or_default(), case }
     }
-}
-
-/// Whether play takes the case: what [`Run::new`] asks for.
-fn runs(case: &Case) -> bool {
-    let Lent { store, table, answers, .. } = case.lent;
-    store >= STORE_ROW && table >= TABLE_ROW && answers >= case.list.events.len()
 }
 
 /// A case with clean memory of so many rows.

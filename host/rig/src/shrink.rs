@@ -3,7 +3,6 @@
 use crate::compare::Lent;
 use crate::generate::{self, Case};
 use crate::random::Random;
-use crate::second::member::size_allowed;
 use crate::second::model::Model;
 use kalebasin::{Event, EventList, MessageNumber, Round, STORE_ROW, TABLE_ROW};
 
@@ -37,7 +36,7 @@ fn shorter(case: &Case, random: &mut Random) -> Case {
         lent.table = random.between(1, (lent.table / TABLE_ROW).clamp(1, 4)) * TABLE_ROW;
     }
     let list = generate::list(random, 3, events, lent.store.div_ceil(STORE_ROW), lent.table.div_ceil(TABLE_ROW).max(1));
-    Case { list, lent }
+    Case { list: list.expect("3 members are an office"), lent }
 }
 
 /// The smallest case found that still fails, from one that does: with fewer events, then smaller numbers and less
@@ -72,10 +71,7 @@ fn fewer_events(mut case: Case, fails: &mut dyn FnMut(&Case) -> bool) -> Case {
 
 /// The case without a stretch of events: with messages renumbered and deliveries of lost ones left out, and as it is.
 fn without(case: &Case, at: usize, length: usize) -> Vec<Case> {
-    let mut lists = Vec::new();
-    if size_allowed(case.list.n) {
-        lists.push(renumbered(case, at, length));
-    }
+    let mut lists: Vec<EventList> = renumbered(case, at, length).into_iter().collect();
     let mut plain = case.list.clone();
     plain.events.drain(at..at + length);
     lists.push(plain);
@@ -89,9 +85,10 @@ fn with_list(case: &Case, list: EventList) -> Case {
     Case { list, lent }
 }
 
-/// Leaves out a stretch, and what delivers a message of an event left out; the other messages keep their meaning.
-fn renumbered(case: &Case, at: usize, length: usize) -> EventList {
-    let mut model = Model::new(case.list.n, case.lent.store / STORE_ROW, (case.lent.table / TABLE_ROW).max(1));
+/// Leaves out a stretch, and what delivers a message of an event left out; the other messages keep their meaning. None
+/// where play has no such office.
+fn renumbered(case: &Case, at: usize, length: usize) -> Option<EventList> {
+    let mut model = Model::new(case.list.n, case.lent.store / STORE_ROW, (case.lent.table / TABLE_ROW).max(1)).ok()?;
     let mut new_numbers: Vec<Option<u32>> = Vec::new();
     let mut list = EventList::new(case.list.n);
     let mut kept = 0;
@@ -104,7 +101,7 @@ fn renumbered(case: &Case, at: usize, length: usize) -> EventList {
         }
         list.events.extend(moved);
     }
-    list
+    Some(list)
 }
 
 /// The event with its message's new number; none if the message is gone.
@@ -126,7 +123,8 @@ fn smaller_numbers(mut case: Case, fails: &mut dyn FnMut(&Case) -> bool) -> Case
     for at in 0..case.list.events.len() {
         if let Event::Start { member, round, offer, .. } = case.list.events[at] {
             let start = |round, offer| Event::start(member, round, offer);
-            let lower = (0..9).map(|turn| Round(round.0 % n.max(1) + turn * n)).filter(|lower| *lower < round);
+            let turn = |turn: u32| Round((round.0 % n.max(1)).saturating_add(turn.saturating_mul(n)));
+            let lower = (0..9).map(turn).filter(|lower| *lower < round);
             case = first_that_fails(case, fails, lower, |case, lower| case.list.events[at] = start(lower, offer));
         }
     }

@@ -4,7 +4,7 @@ use crate::explain::{explain_event, Explained};
 use crate::second::member::Record;
 use crate::second::model::{Made, Model};
 use crate::Calls;
-use kalebasin::{nodes, Event, EventList, Member, Message, MessageNumber, Node, Round, TABLE_ROW};
+use kalebasin::{nodes, Event, EventList, Member, Message, MessageNumber, Node, Refusal, Round, TABLE_ROW, TABLE_ROWS};
 
 /// One event and what came of it. The answer is the one given by the implementation asked for; the tree is made by its
 /// calls; all else comes from the model.
@@ -53,16 +53,23 @@ impl Happened {
 }
 
 /// What happened at each event of a list that an implementation gave these answers to, with a store and a table of so many
-/// rows. N is 3, 5 or 7.
-pub fn trace(calls: &Calls, list: &EventList, answers: &[u8], store_rows: usize, table_rows: usize) -> Vec<Happened> {
-    let mut model = Model::new(list.n, store_rows, table_rows);
-    let mut table = vec![0; table_rows * TABLE_ROW];
-    let _ = (calls.tree_fresh)(&mut table);
-    list.events
-        .iter()
-        .zip(answers)
-        .map(|(event, answer)| happened(calls, &mut model, &mut table, event, *answer))
-        .collect()
+/// rows.
+///
+/// # Errors
+/// 27 where N isn't 3, 5 or 7; 1 where no tree has so many rows.
+pub fn trace(
+    calls: &Calls,
+    list: &EventList,
+    answers: &[u8],
+    store_rows: usize,
+    table_rows: usize,
+) -> Result<Vec<Happened>, Refusal> {
+    let mut model = Model::new(list.n, store_rows, table_rows)?;
+    // One row more than a tree has is enough to be refused.
+    let mut table = vec![0; table_rows.min(TABLE_ROWS + 1) * TABLE_ROW];
+    (calls.tree_fresh)(&mut table)?;
+    let events = list.events.iter().zip(answers);
+    Ok(events.map(|(event, answer)| happened(calls, &mut model, &mut table, event, *answer)).collect())
 }
 
 fn happened(calls: &Calls, model: &mut Model, table: &mut [u64], event: &Event, answer: u8) -> Happened {

@@ -216,7 +216,7 @@ fn on_a_small_stack<T: Send>(work: impl FnOnce() -> T + Send) -> T {
 /// The largest play, of any order: 1,000 events, seven members, 2,000 store rows, 256 table rows.
 #[test]
 fn the_largest_play_on_a_stack_of_64_kib() {
-    let list = generate::list(&mut Random::new(5), 7, EventList::MOST, STORE_ROWS, TABLE_ROWS).to_bytes();
+    let list = generate::list(&mut Random::new(5), 7, EventList::MOST, STORE_ROWS, TABLE_ROWS).unwrap().to_bytes();
     let lent = || (vec![1; STORE_ROWS * STORE_ROW], vec![1; TABLE_ROWS * TABLE_ROW], vec![1; EventList::MOST]);
     let play = |calls: &Calls, (store, table, answers): &mut (Vec<u8>, Vec<u64>, Vec<u8>)| {
         (calls.play)(&list, store, table, answers).unwrap()

@@ -7,6 +7,7 @@
 #[path = "../examples/machines.rs"]
 mod machines;
 
+use std::ffi::OsString;
 use std::time::Duration;
 
 /// The lines of a run that ends well.
@@ -57,9 +58,9 @@ fn no_decision_is_told() {
 
 #[test]
 fn arguments() {
-    let asked = |text: &str| machines::asked(text.split_whitespace().map(str::to_owned));
+    let asked = |text: &str| machines::asked(text.split_whitespace().map(OsString::from));
     assert_eq!((asked(""), asked("7 9 90")), (Some((5, 1, 20)), Some((7, 9, 90))));
-    for text in ["4", "3 x", "3 1 91", "3 1 0 0"] {
+    for text in ["4", "+5", "3 x", "3 1 91", "3 1 0 0"] {
         assert_eq!(asked(text), None, "{text}");
     }
 }

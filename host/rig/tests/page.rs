@@ -67,7 +67,7 @@ impl Office {
     fn new(n: u32) -> Office {
         let mut table = vec![0; TABLE_ROWS * 4];
         tree::fresh(&mut table).unwrap();
-        Office { records: Model::new(n, STORE_ROWS, TABLE_ROWS).members, table }
+        Office { records: Model::new(n, STORE_ROWS, TABLE_ROWS).unwrap().members, table }
     }
 
     /// Takes an event; the rounds whose nodes it changed.
@@ -215,6 +215,26 @@ fn labels_stay_off_lines() {
     browser.open(&page("labels", &lists[0]));
     browser.value("String(document.querySelector('.row[data-at=\"3\"] .label').setAttribute('y', 4))");
     assert_eq!(browser.value("probes.overlaps()"), "3 1 JOIN r1 under line arrive");
+}
+
+/// Paper has every lifeline with its name, upright and across, for the page and for the picture alone. In a window so narrow
+/// seven of them don't fit.
+#[test]
+#[ignore = "needs chromium"]
+fn all_members_are_printed() {
+    let mut browser = browser();
+    for n in [3, 5, 7] {
+        let list = random_list(4, n, 60);
+        let picture = PathBuf::from(env!("CARGO_TARGET_TMPDIR")).join("paper.svg");
+        std::fs::write(&picture, tool(&["draw", "--format", "timeline"], &list)).unwrap();
+        for (file, width) in [page("paper", &list), picture].iter().flat_map(|file| [(file, 718), (file, 1_047)]) {
+            let printed = browser.value_on_paper(file, width, "probes.within()");
+            assert_eq!(printed, format!("{n} {n} true"), "{} at {width}", file.display());
+        }
+    }
+    browser.open(&page("paper", &random_list(4, 7, 60)));
+    let shown = browser.value("probes.within()");
+    assert!(shown.ends_with(" false"), "{shown}");
 }
 
 /// A list of the most events is written and drawn within a second, and the slider goes to its end in one. Of the browser it

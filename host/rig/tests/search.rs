@@ -35,7 +35,7 @@ fn all_lists() {
 #[test]
 fn few_events_of_each_office() {
     for n in [3, 5, 7] {
-        let list = few_events(n);
+        let list = few_events(n).unwrap();
         assert_eq!((list.n, list.events.len()), (n, 2 + 4 * n as usize));
         assert_eq!(list.events[1], Event::start(Round(2).leader(n).unwrap(), Round(2), 20));
     }

@@ -179,7 +179,7 @@ fn third_demand_on_random_lists() {
     let mut random = Random::new(1);
     let mut reached = Reached::default();
     for _ in 0..40_000 {
-        let run = Run::new(&second::CALLS, &generate::case(&mut random));
+        let run = Run::new(&second::CALLS, &generate::case(&mut random)).unwrap();
         for property in ALWAYS {
             if let Some(how) = (property.fails)(&second::CALLS, &run) {
                 panic!("{}: {how}\n{}", property.name, run.case.list);

@@ -374,20 +374,23 @@ fn is_mistake(args: &[&str], input: &[u8], words: &str) {
 fn mistakes_on_the_command_line() {
     for (args, words) in [
         (&[][..], "a command is missing"),
+        (&[""], "a command is missing"),
+        (&["RUN", "-e", ""], "there is no command RUN (did you mean run?)"),
         (&["fly"], "there is no command fly; see kalebasin --help"),
         (&["serach"], "there is no command serach (did you mean search?)"),
         (&["mesage", "-"], "(did you mean message?)"),
         (&["reh"], "(did you mean rehearse?)"),
         (&["search", "--property", "no-decison"], "(did you mean no-decision?)"),
+        (&["search", "--property="], "there is no property ''; see --property list"),
         (&["run", "--store-rows", "0"], "--store-rows takes a number from 1 to 2000, not 0"),
         (&["run", "--table-rows=257"], "--table-rows takes a number from 1 to 256, not 257"),
         (&["search", "--seed"], "--seed needs a value"),
         (&["run", "--bytes=yes"], "--bytes takes no value"),
         (&["draw", "--format", "gif", "-e", ""], "--format takes text, dot, svg or timeline, not gif"),
-        (&["run", "-e", "", "file"], "give one of them"),
-        (&["run", "-e", "", "--bytes"], "--bytes and --hex are for FILE"),
-        (&["run", "--members", "3", "--bytes"], "the bytes say how many members there are"),
-        (&["search", "--bytes"], "--bytes and --hex are for FILE"),
+        (&["run", "--members", "+5", "-e", ""], "--members takes a number from 0 to 4294967295, not +5"),
+        (&["run", "--html", "-", "-e", ""], "--html takes a file, not -: standard output has the run itself"),
+        (&["run", "--svg=-", "-e", ""], "--svg takes a file, not -"),
+        (&["run", "--dot", "-", "-e", ""], "--dot takes a file, not -"),
         (&["search", "--members", "4"], "--members takes 3, 5 or 7"),
         (&["search", "--all", "40"], "more such lists than can be counted"),
         (&["run", "no such file"], "no such file: "),
@@ -395,6 +398,36 @@ fn mistakes_on_the_command_line() {
     ] {
         is_mistake(args, b"", words);
     }
+}
+
+/// Options that leave one another without effect are refused with the command's help, and so is one that stands twice.
+#[test]
+fn options_without_effect() {
+    for (args, words) in [
+        (&["run", "-e", "", "file"][..], "-e stands instead of FILE; give one of them"),
+        (&["run", "-e", "", "--bytes"], "-e is notation; --bytes and --hex are for FILE"),
+        (&["run", "--bytes", "--hex", "file"], "FILE holds bytes or digits; give --bytes or --hex"),
+        (&["run", "--members", "3", "--bytes"], "the bytes say how many members there are"),
+        (&["run", "-e", "s(1,1,70)", "-e", "s(2,2,70)"], "-e stands twice; run takes it once"),
+        (&["draw", "--format=dot", "-e", "", "--format", "svg"], "--format stands twice; draw takes it once"),
+        (&["rehearse", "--second", "--second"], "--second stands twice; rehearse takes it once"),
+        (&["search", "--bytes"], "--bytes and --hex are for FILE, which may be -"),
+        (&["search", "--store-rows", "3"], "random lists have memory of their own; --store-rows and"),
+        (&["search", "--table-rows", "3", "--lists", "3"], "random lists have memory of their own; --store-rows and"),
+        (&["search", "--all", "3", "--lists", "3"], "--all tries all lists; --lists and --seed are for random ones"),
+        (&["search", "--all", "3", "--seed", "9", "-e", ""], "--all tries all lists; --lists and --seed are for"),
+        (&["search", "--property", "list", "--lists", "3"], "--property list shows the properties and tries nothing"),
+        (&["search", "--property", "list", "file"], "--property list shows the properties and tries nothing"),
+    ] {
+        let (status, out, error) = tool(args, b"");
+        let (line, help) = error.split_once("\n\n").unwrap_or_else(|| panic!("{args:?}: {error}"));
+        assert_eq!((status, out.as_str(), help), (2, "", &*tool(&[args[0], "--help"], b"").1), "{args:?}");
+        assert!(line.starts_with(&format!("kalebasin: {words}")) && line.lines().count() == 1, "{args:?}: {line}");
+    }
+    let (status, out, _) = tool(&["search", "--property", "list"], b"");
+    assert!(status == 0 && out.contains("\n  no-late-decision "), "{out}");
+    let both = ["search", "--property", "model", "--lists", "3", "--property", "counts"];
+    assert_eq!(tool(&both, b"").0, 0);
 }
 
 /// What a command doesn't take is refused with its own help, whether another command takes it or none does.
@@ -467,7 +500,7 @@ fn messages_in_digits() {
     }
     is_mistake(&["message"], b"", "message needs hexadecimal digits");
     is_mistake(&["message", "0000000g"], b"", "'g' is no hexadecimal digit");
-    is_mistake(&["message", "-"], b"0:0:0:2", "0 has an odd number of hexadecimal digits");
+    is_mistake(&["message", "-"], b"0:0:0:2", "standard input: 0 has an odd number of hexadecimal digits");
     is_mistake(&["message", "0x"], b"", "0x has an odd number of hexadecimal digits");
 }
 
@@ -482,9 +515,40 @@ fn bytes_where_notation_is_due() {
         is_mistake(&[command, "-"], digits.as_bytes(), "--hex is for the bytes of a list");
     }
     is_mistake(&["encode"], &bytes, "decode takes the bytes of a list");
+    is_mistake(&["encode"], digits.as_bytes(), "decode --hex takes the bytes of a list");
+    is_mistake(&["encode", "-e", &digits], b"", "decode --hex takes the bytes of a list");
+    for command in ["run", "draw", "search"] {
+        is_mistake(&[command, "-e", &digits], b"", "; --hex FILE is for the bytes of a list");
+    }
     let run = tool(&["run", "-e", REHEARSAL], b"");
     assert_eq!(tool(&["run", "--bytes"], &bytes), run);
     assert_eq!(tool(&["run", "--hex"], digits.as_bytes()), run);
+}
+
+/// Digits and notation given where bytes are due are refused with 26 and a hint; other bytes have none.
+#[test]
+fn text_where_bytes_are_due() {
+    let digits = tool(&["encode", "--hex", "-e", REHEARSAL], b"").1;
+    let read = [&["decode"][..], &["rehearse"], &["run", "--bytes"], &["draw", "--bytes"], &["search", "--bytes", "-"]];
+    for args in read {
+        let notation = match args.contains(&"--bytes") {
+            true => "; this is text; without --bytes it is read as notation\n",
+            false => "; this is text; encode turns notation into bytes\n",
+        };
+        for (input, words) in [
+            (digits.as_bytes(), "; these are hexadecimal digits, which --hex is for\n"),
+            (REHEARSAL.as_bytes(), notation),
+            (b"n=3 s(1", notation),
+            (b"", " its first 8 bytes)\n"),
+            (b"\x00n=3 s(1,1,70)", " above 1,000)\n"),
+        ] {
+            let (status, _, error) = tool(args, input);
+            assert!(status == 1 && error.contains(" is refused with 26: "), "{args:?}: {error}");
+            assert!(error.ends_with(words) && error.lines().count() == 1, "{args:?}: {error}");
+        }
+    }
+    let twice: String = digits.trim().bytes().map(|digit| format!("{digit:02x}")).collect();
+    assert!(tool(&["decode", "--hex"], twice.as_bytes()).2.ends_with(" above 1,000)\n"));
 }
 
 /// A refused list has the same status and the same line on standard error in every command.

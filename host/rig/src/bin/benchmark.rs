@@ -194,7 +194,7 @@ fn play_rows() -> Vec<Row> {
     let mut rows = Vec::new();
     for events in [10, 100, 1_000] {
         rows.push(play_row(format!("play, {events} events, all accepted"), undisturbed(events)));
-        let steered = generate::list(&mut Random::new(5), 3, events, events, 256);
+        let steered = generate::list(&mut Random::new(5), 3, events, events, 256).expect("3 members are an office");
         rows.push(play_row(format!("play, {events} events, any order"), steered));
     }
     rows

@@ -11,7 +11,10 @@ const PAGE: &str = include_str!("page.html");
 const PAGE_STYLE: &str = include_str!("page.css");
 const SCRIPT: &str = include_str!("page.js");
 
-/// The run of `n` members (3, 5 or 7) as a page. `on` says which implementation ran it.
+/// The run of `n` members as a page. `on` says which implementation ran it.
+///
+/// # Panics
+/// Where `n` isn't 3, 5 or 7.
 pub fn page(n: u32, on: &str, trace: &[Happened]) -> String {
     let picture = Picture::new(n, trace);
     let parts = [

@@ -319,7 +319,7 @@ impl Record {
         if round != self.l || self.phase != phase {
             return Err(Refusal::NotAwaited);
         }
-        let flag = &mut self.flags[sender.0 as usize];
+        let Some(flag) = self.flags.get_mut(sender.0 as usize) else { return Err(Refusal::WrongSender) };
         if *flag {
             return Err(Refusal::CountedAlready);
         }

@@ -103,11 +103,17 @@ fn sender(bytes: &[u8]) -> Member {
 }
 
 /// The word that starts at a byte.
+///
+/// # Panics
+/// Where the bytes end within it.
 pub fn word(bytes: &[u8], at: usize) -> u32 {
     u32::from_be_bytes([bytes[at], bytes[at + 1], bytes[at + 2], bytes[at + 3]])
 }
 
 /// The value that starts at a byte.
+///
+/// # Panics
+/// Where the bytes end within it.
 pub fn double(bytes: &[u8], at: usize) -> u64 {
     (u64::from(word(bytes, at)) << 32) | u64::from(word(bytes, at + 4))
 }

@@ -2,7 +2,7 @@
 
 use super::member::{self, Decision, Proposal, Record, Step};
 use super::tree;
-use kalebasin::{Event, EventList, Member, Message, MessageNumber, Refusal, Round, TABLE_ROW};
+use kalebasin::{Event, EventList, Member, Message, MessageNumber, Refusal, Round, TABLE_ROW, TABLE_ROWS};
 use std::fmt;
 
 /// A proposal or a decision.
@@ -50,20 +50,37 @@ pub struct Model {
 }
 
 impl Model {
-    /// An office of `n` fresh members (3, 5 or 7) with a store and a table of so many rows, the root's among them.
-    pub fn new(n: u32, store_rows: usize, table_rows: usize) -> Model {
-        let members = (0..n).map(|number| member::fresh(Member(number), n).expect("n is 3, 5 or 7")).collect();
-        Model { store_rows, table_rows, members, sent: Vec::new(), made: Vec::new(), offers: Vec::new(), events: 0 }
+    /// An office of `n` fresh members with a store and a table of so many rows, the root's among them.
+    ///
+    /// # Errors
+    /// 27 where `n` isn't 3, 5 or 7.
+    pub fn new(n: u32, store_rows: usize, table_rows: usize) -> Result<Model, Refusal> {
+        if !member::size_allowed(n) {
+            return Err(Refusal::OfficeSize);
+        }
+        let members = (0..n).map(|number| member::fresh(Member(number), n)).collect::<Result<_, _>>()?;
+        let (sent, made, offers) = (Vec::new(), Vec::new(), Vec::new());
+        Ok(Model { store_rows, table_rows, members, sent, made, offers, events: 0 })
     }
 
-    /// The model after a list.
-    pub fn run(list: &EventList, store_rows: usize, table_rows: usize) -> (Model, Vec<Result<Step, Refusal>>) {
-        let mut model = Model::new(list.n, store_rows, table_rows);
+    /// The model after a list, and what each event came to.
+    ///
+    /// # Errors
+    /// Those of [`Model::new`].
+    pub fn run(
+        list: &EventList,
+        store_rows: usize,
+        table_rows: usize,
+    ) -> Result<(Model, Vec<Result<Step, Refusal>>), Refusal> {
+        let mut model = Model::new(list.n, store_rows, table_rows)?;
         let steps = list.events.iter().map(|event| model.take(event)).collect();
-        (model, steps)
+        Ok((model, steps))
     }
 
     /// The leader of a round.
+    ///
+    /// # Panics
+    /// Where all members were taken out of the model.
     pub fn leader(&self, round: Round) -> Member {
         Member(round.0 % self.n())
     }
@@ -96,7 +113,7 @@ impl Model {
         if step.sent.is_some() && self.sent.len() == self.store_rows {
             return Err(Refusal::StoreFull);
         }
-        if step.proposal.is_some() && self.proposals().count() == self.table_rows - 1 {
+        if step.proposal.is_some() && self.proposals().count() + 1 >= self.table_rows {
             return Err(Refusal::NoFreeRow);
         }
         Ok((record, step))
@@ -136,7 +153,8 @@ impl Model {
     /// The third demand: the proposals and decisions in order get OK in a fresh tree, the decided values are equal,
     /// and each was offered at an earlier accepted start. Returns that tree.
     pub fn third_demand(&self) -> Result<Vec<u64>, Breach> {
-        let mut table = vec![0; self.table_rows * TABLE_ROW];
+        // One row more than a tree has is enough to be refused.
+        let mut table = vec![0; self.table_rows.min(TABLE_ROWS + 1) * TABLE_ROW];
         tree::fresh(&mut table).map_err(Breach::Table)?;
         for at in &self.made {
             let result = match at.made {

@@ -70,6 +70,9 @@ pub fn check_length(table: &[u64]) -> Result<(), Refusal> {
 /// soon as it is added. Any other order of the commits accepts no more adds, for an edge that crosses a node keeps it
 /// from being COMMITTED, whichever came first.
 pub fn is_tree(table: &[u64]) -> bool {
+    if check_length(table).is_err() {
+        return false;
+    }
     let mut memory = [0; TABLE_ROW * TABLE_ROWS];
     let replay = &mut memory[..table.len()];
     replay[..TABLE_ROW].copy_from_slice(&ROOT);
@@ -106,6 +109,9 @@ fn check_round(round: Round) -> Result<(), Refusal> {
 }
 
 /// The machine's add on a table that is a tree, with the round in range.
+///
+/// # Panics
+/// May, where the table's length isn't one of a tree.
 pub fn machine_add(table: &mut [u64], r: u64, v: u64, p: u64) -> Result<(), Refusal> {
     let nodes = count(table);
     if find(table, r).is_some() {

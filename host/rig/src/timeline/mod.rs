@@ -20,9 +20,13 @@ use crate::trace::Happened;
 /// use kalebasin_rig::{second, timeline::timeline, trace::trace};
 ///
 /// let list = kalebasin::notation::parse("s(1,1,70) d(0,2)", None).unwrap();
-/// let svg = timeline(3, &trace(&second::CALLS, &list, &[0, 0], 10, 10));
+/// let svg = timeline(3, &trace(&second::CALLS, &list, &[0, 0], 10, 10)?);
 /// assert!(svg.starts_with("<svg ") && svg.contains(">0 START r1</text>"));
+/// # Ok::<(), kalebasin::Refusal>(())
 /// ```
+///
+/// # Panics
+/// Where `n` isn't 3, 5 or 7.
 pub fn timeline(n: u32, trace: &[Happened]) -> String {
     Picture::new(n, trace).svg()
 }

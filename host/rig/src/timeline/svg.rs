@@ -2,6 +2,7 @@
 
 use super::colour::Colours;
 use super::layout::{answer, sent, width_of, Arrow, Item, Layout, Row, ITEM, LABEL_GAP};
+use crate::second::member::size_allowed;
 use crate::trace::Happened;
 use kalebasin::{Event, Round};
 use std::fmt::Write;
@@ -13,7 +14,8 @@ const CORNER: i32 = 4;
 /// From a row's line to the one on which a message leaves for its lane.
 const LEAVE: i32 = 8;
 
-/// The rules for all elements; what tells them apart in print is here and not a matter of colour.
+/// The rules for all elements; what tells them apart in print is here and not a matter of colour. On paper the picture gets as
+/// small as the paper asks for, so that every lifeline is on it.
 pub const STYLE: &str = "\
 .timeline text{font:11px 'DejaVu Sans Mono','Liberation Mono',Menlo,Consolas,monospace;white-space:pre}
 .timeline .end{text-anchor:end}
@@ -33,6 +35,8 @@ pub const STYLE: &str = "\
 .timeline .commit{fill:#111}
 .timeline .frame{fill:none;stroke:#111;stroke-width:2}
 .timeline .white{fill:#fff}
+@page{size:landscape}
+@media print{.timeline{max-width:100%;height:auto}}
 ";
 
 /// A run as a picture, in parts that a page can use.
@@ -44,7 +48,11 @@ pub struct Picture<'a> {
 
 impl Picture<'_> {
     /// The picture of a run of `n` members.
+    ///
+    /// # Panics
+    /// Where `n` isn't 3, 5 or 7.
     pub fn new(n: u32, trace: &[Happened]) -> Picture<'_> {
+        assert!(size_allowed(n), "an office has 3, 5 or 7 members, not {n}");
         let mut layout = Layout::new(n, trace);
         layout.width = layout.width.max(key().1);
         Picture { layout, colours: Colours::new(trace.iter().filter_map(Happened::round)), trace }

@@ -61,6 +61,18 @@ impl Browser {
         }
     }
 
+    /// What a script gives on a file as it is printed, on paper of so many pixels from left to right.
+    pub fn value_on_paper(&mut self, file: &Path, width: u32, script: &str) -> String {
+        self.call("Emulation.setEmulatedMedia", r#"{"media":"print"}"#);
+        let size = format!(r#"{{"width":{width},"height":700,"deviceScaleFactor":1,"mobile":false}}"#);
+        self.call("Emulation.setDeviceMetricsOverride", &size);
+        self.open(file);
+        let value = self.value(script);
+        self.call("Emulation.clearDeviceMetricsOverride", "{}");
+        self.call("Emulation.setEmulatedMedia", r#"{"media":""}"#);
+        value
+    }
+
     /// How long the processor has worked at the tasks of the page that was opened last: at its script, layout and painting.
     pub fn worked(&mut self) -> Duration {
         let metrics = self.call("Performance.getMetrics", "{}");

@@ -88,7 +88,14 @@ window.probes = (() => {
         return [...found].join("\n");
     }
 
-    return { shown, tip, answerPlace, rows, click, choose, overlaps };
+    // How many lifelines and names of members lie within the window from left to right, and whether all of the picture does.
+    function within() {
+        const inside = (one) => one.getBoundingClientRect().left >= 0 && one.getBoundingClientRect().right <= innerWidth;
+        const names = all(".timeline text").filter((one) => /^member \d$/.test(one.textContent));
+        return [all(".life").filter(inside).length, names.filter(inside).length, all(".timeline").every(inside)].join(" ");
+    }
+
+    return { shown, tip, answerPlace, rows, click, choose, overlaps, within };
 })();
 
 // The page is drawn at the second frame after all is loaded.

@@ -17,12 +17,12 @@ pub const TABLE_ROWS: usize = 64;
 
 /// A random list of so many events.
 pub fn random_list(seed: u64, n: u32, events: usize) -> EventList {
-    generate::list(&mut Random::new(seed), n, events, STORE_ROWS, TABLE_ROWS)
+    generate::list(&mut Random::new(seed), n, events, STORE_ROWS, TABLE_ROWS).unwrap()
 }
 
 /// What happened, by the second implementation.
 pub fn happened(list: &EventList) -> Vec<Happened> {
-    let (_, steps) = Model::run(list, STORE_ROWS, TABLE_ROWS);
+    let (_, steps) = Model::run(list, STORE_ROWS, TABLE_ROWS).unwrap();
     let answers: Vec<u8> = steps.iter().map(|step| number_of(step) as u8).collect();
-    trace(&second::CALLS, list, &answers, STORE_ROWS, TABLE_ROWS)
+    trace(&second::CALLS, list, &answers, STORE_ROWS, TABLE_ROWS).unwrap()
 }

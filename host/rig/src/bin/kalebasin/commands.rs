@@ -69,7 +69,7 @@ pub fn play(options: &Options, case: &Case) -> Result<Left, Stop> {
     let left = compare::play(&calls(options), &bytes, &case.lent);
     match left.result {
         Ok(_) => Ok(left),
-        Err(refusal) => Err(list_refused(refusal, &bytes)),
+        Err(refusal) => Err(list_refused(refusal, &bytes, options)),
     }
 }
 
@@ -79,19 +79,19 @@ fn run_list(options: &Options, out: &mut dyn Write) -> Outcome {
     let (store_rows, table_rows) = case.lent.whole_rows();
     let (n, name) = (case.list.n, calls(options).name);
     let as_the_model = if options.json {
-        print_json(&traced(options, &case, &left), out)?
+        print_json(&traced(options, &case, &left)?, out)?
     } else {
         writeln!(out, "{n} members, {store_rows} store rows, {table_rows} table rows, on {name}\n")?;
         explain_run(&case, &left, out)?
     };
-    write_file(options.dot.as_deref(), || draw::dot(left.table()))?;
-    write_file(options.svg.as_deref(), || draw::svg(left.table()))?;
-    write_file(options.html.as_deref(), || page::page(n, name, &traced(options, &case, &left)))?;
+    write_file(options.dot.as_deref(), || Ok(draw::dot(left.table())))?;
+    write_file(options.svg.as_deref(), || Ok(draw::svg(left.table())))?;
+    write_file(options.html.as_deref(), || Ok(page::page(n, name, &traced(options, &case, &left)?)))?;
     status(as_the_model)
 }
 
 /// What happened at each event of a case that was played.
-fn traced(options: &Options, case: &Case, left: &Left) -> Vec<Happened> {
+fn traced(options: &Options, case: &Case, left: &Left) -> Result<Vec<Happened>, Refusal> {
     let (store_rows, table_rows) = case.lent.whole_rows();
     trace(&calls(options), &case.list, left.answers(), store_rows, table_rows)
 }
@@ -115,7 +115,7 @@ pub fn explain_run(case: &Case, left: &Left, out: &mut dyn Write) -> Result<bool
 /// One line for each event; whether all answers are those of the model.
 fn print_events(case: &Case, answers: &[u8], out: &mut dyn Write) -> Result<bool, Stop> {
     let (store_rows, table_rows) = case.lent.whole_rows();
-    let explained = explain::explain(&case.list, store_rows, table_rows);
+    let explained = explain::explain(&case.list, store_rows, table_rows)?;
     let width = explained.iter().map(|one| one.event.len()).max().unwrap_or(0);
     let mut same = true;
     for (at, (one, answer)) in explained.iter().zip(answers).enumerate() {
@@ -145,24 +145,24 @@ fn print_counts(list: &EventList, left: &Left, out: &mut dyn Write) -> Result<()
 }
 
 /// Writes a file, if one is asked for.
-fn write_file(file: Option<&OsStr>, text: impl Fn() -> String) -> Result<(), Stop> {
+fn write_file(file: Option<&OsStr>, text: impl Fn() -> Result<String, Refusal>) -> Result<(), Stop> {
     match file {
-        Some(file) => fs::write(file, text()).map_err(|error| Stop::file(Path::new(file).display(), &error)),
+        Some(file) => fs::write(file, text()?).map_err(|error| Stop::file(Path::new(file).display(), &error)),
         None => Ok(()),
     }
 }
 
 fn draw_list(options: &Options, out: &mut dyn Write) -> Outcome {
-    let draw: fn(&Options, &Case, &Left) -> String = match options.format.as_str() {
-        "text" => |_, _, left| draw::text(left.table()),
-        "dot" => |_, _, left| draw::dot(left.table()),
-        "svg" => |_, _, left| draw::svg(left.table()),
-        "timeline" => |options, case, left| timeline(case.list.n, &traced(options, case, left)),
+    let draw: fn(&Options, &Case, &Left) -> Result<String, Refusal> = match options.format.as_str() {
+        "text" => |_, _, left| Ok(draw::text(left.table())),
+        "dot" => |_, _, left| Ok(draw::dot(left.table())),
+        "svg" => |_, _, left| Ok(draw::svg(left.table())),
+        "timeline" => |options, case, left| Ok(timeline(case.list.n, &traced(options, case, left)?)),
         other => return Err(format!("--format takes text, dot, svg or timeline, not {other}").into()),
     };
     let case = case(options, list(options)?);
     let left = play(options, &case)?;
-    print(draw(options, &case, &left), out)
+    print(draw(options, &case, &left)?, out)
 }
 
 /// Writes the bytes of any list, and then tells of one that play refuses.
@@ -175,15 +175,15 @@ fn encode(options: &Options, out: &mut dyn Write) -> Outcome {
     } else {
         out.write_all(&bytes)?;
     }
-    judge(&list)?;
+    judge(&list, options)?;
     status(true)
 }
 
 /// Writes any list that has the right shape, and then tells of one that play refuses.
 fn decode(options: &Options, out: &mut dyn Write) -> Outcome {
-    let list = list_of(&list_bytes(options)?)?;
+    let list = list_of(&list_bytes(options)?, options)?;
     writeln!(out, "{list}")?;
-    judge(&list)?;
+    judge(&list, options)?;
     status(true)
 }
 
@@ -192,7 +192,7 @@ fn rehearse(options: &Options, out: &mut dyn Write) -> Outcome {
     let bytes = list_bytes(options)?;
     let (printed, result) = rehearsal::output(&calls(options), &bytes);
     print(printed, out)?;
-    result.map_err(|refusal| list_refused(refusal, &bytes))?;
+    result.map_err(|refusal| list_refused(refusal, &bytes, options))?;
     status(true)
 }
 

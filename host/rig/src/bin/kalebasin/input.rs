@@ -13,7 +13,7 @@ use std::path::Path;
 /// The list that the command line gives, in notation, in bytes or in digits.
 pub fn list(options: &Options) -> Result<EventList, Stop> {
     if options.bytes || options.hex {
-        return list_of(&list_bytes(options)?);
+        return list_of(&list_bytes(options)?, options);
     }
     list_in_notation(options)
 }
@@ -21,20 +21,22 @@ pub fn list(options: &Options) -> Result<EventList, Stop> {
 /// The list that the command line gives in notation.
 pub fn list_in_notation(options: &Options) -> Result<EventList, Stop> {
     if let Some(text) = &options.text {
-        return parse("-e", text, options.members);
+        return parse("-e", text, options);
     }
     let bytes = file_or_input(options.file.as_deref())?;
     let name = name(options.file.as_deref());
     match String::from_utf8(bytes) {
-        Ok(text) if !text.contains(is_no_text) => {
-            parse(&name, &text, options.members).map_err(|stop| with_hint(stop, &text, options))
-        }
+        Ok(text) if !text.contains(is_no_text) => parse(&name, &text, options),
         _ => Err(format!("{name}: these are bytes, not notation; {}", hint("--bytes", options)).into()),
     }
 }
 
-fn parse(name: &str, text: &str, members: Option<u32>) -> Result<EventList, Stop> {
-    notation::parse(text, members).map_err(|mistake| format!("{name}: {mistake}").into())
+/// Digits where notation is due get a hint.
+fn parse(name: &str, text: &str, options: &Options) -> Result<EventList, Stop> {
+    notation::parse(text, options.members).map_err(|mistake| {
+        let hint = if are_digits(text) { format!("; {}", hint("--hex", options)) } else { String::new() };
+        format!("{name}: {mistake}{hint}").into()
+    })
 }
 
 /// A letter that notation never has, but that the bytes of a list are full of.
@@ -42,56 +44,76 @@ fn is_no_text(letter: char) -> bool {
     letter.is_control() && !letter.is_whitespace()
 }
 
-/// Digits where notation is due get a hint too.
-fn with_hint(stop: Stop, text: &str, options: &Options) -> Stop {
-    match from_hex(text) {
-        Ok(bytes) if !bytes.is_empty() => format!("{}; {}", stop.words, hint("--hex", options)).into(),
-        _ => stop,
+/// Some bytes in hexadecimal digits.
+fn are_digits(text: &str) -> bool {
+    from_hex(text).is_ok_and(|bytes| !bytes.is_empty())
+}
+
+/// What takes bytes, or with `--hex` digits, that were given where notation is due.
+fn hint(option: &str, options: &Options) -> String {
+    match (options.command.takes("--bytes"), option) {
+        (true, _) if options.text.is_some() => format!("{option} FILE is for the bytes of a list"),
+        (true, _) => format!("{option} is for the bytes of a list"),
+        (false, "--hex") => "decode --hex takes the bytes of a list".into(),
+        (false, _) => "decode takes the bytes of a list".into(),
     }
 }
 
-fn hint(option: &str, options: &Options) -> String {
-    if options.command.takes("--bytes") {
-        format!("{option} is for the bytes of a list")
-    } else {
-        "decode takes the bytes of a list".into()
+/// A hint for text that was given where the bytes of a list are due. No list is text: its count has bytes that are 0.
+fn text_hint(bytes: &[u8], options: &Options) -> Option<&'static str> {
+    let text = std::str::from_utf8(bytes).ok().filter(|text| !text.contains(is_no_text) && !text.trim().is_empty())?;
+    match options.command.takes("--bytes") {
+        _ if options.hex => None,
+        _ if are_digits(text) => Some("these are hexadecimal digits, which --hex is for"),
+        true => Some("this is text; without --bytes it is read as notation"),
+        false => Some("this is text; encode turns notation into bytes"),
     }
 }
 
 /// The bytes of a list, from bytes or hexadecimal digits.
 pub fn list_bytes(options: &Options) -> Result<Vec<u8>, Stop> {
-    let bytes = file_or_input(options.file.as_deref())?;
-    if !options.hex {
-        return Ok(bytes);
+    match options.file.as_deref() {
+        file if options.hex => digits_of(file),
+        file => file_or_input(file),
     }
-    from_hex(&String::from_utf8_lossy(&bytes))
-        .map_err(|what| format!("{}: {what}", name(options.file.as_deref())).into())
+}
+
+/// The bytes whose digits stand in FILE, or on standard input.
+fn digits_of(file: Option<&OsStr>) -> Result<Vec<u8>, Stop> {
+    let digits = file_or_input(file)?;
+    from_hex(&String::from_utf8_lossy(&digits)).map_err(|what| format!("{}: {what}", name(file)).into())
 }
 
 /// The list that these bytes say.
-pub fn list_of(bytes: &[u8]) -> Result<EventList, Stop> {
-    EventList::from_bytes(bytes).map_err(|refusal| list_refused(refusal, bytes))
+pub fn list_of(bytes: &[u8], options: &Options) -> Result<EventList, Stop> {
+    EventList::from_bytes(bytes).map_err(|refusal| list_refused(refusal, bytes, options))
 }
 
 /// Whether play would take the list at all: neither too many events nor another number of members.
-pub fn judge(list: &EventList) -> Result<(), Stop> {
-    list_of(&list.to_bytes())?;
+pub fn judge(list: &EventList, options: &Options) -> Result<(), Stop> {
+    list_of(&list.to_bytes(), options)?;
     if !size_allowed(list.n) {
-        return Err(Stop::refused("list", Refusal::OfficeSize, None::<&str>));
+        return Err(Refusal::OfficeSize.into());
     }
     Ok(())
 }
 
-/// A list with these bytes is refused: with 26, where it goes wrong.
-pub fn list_refused(refusal: Refusal, bytes: &[u8]) -> Stop {
-    Stop::refused("list", refusal, misshape(bytes).filter(|_| refusal == Refusal::ListShape))
+/// A list with these bytes is refused: with 26, where it goes wrong, and with a hint where it is text.
+pub fn list_refused(refusal: Refusal, bytes: &[u8], options: &Options) -> Stop {
+    let mut stop = Stop::refused("list", refusal, misshape(bytes).filter(|_| refusal == Refusal::ListShape));
+    if let Some(hint) = text_hint(bytes, options) {
+        stop.words += &format!("; {hint}");
+    }
+    stop
 }
 
 /// The bytes of a message in hexadecimal digits, or of standard input where they are `-`.
 pub fn message_bytes(options: &Options) -> Result<Vec<u8>, Stop> {
     let digits = options.file.as_deref().ok_or("message needs hexadecimal digits, or - to read them")?;
-    let bytes = if digits == "-" { file_or_input(None)? } else { digits.as_encoded_bytes().to_vec() };
-    from_hex(&String::from_utf8_lossy(&bytes)).map_err(Stop::from)
+    if digits == "-" {
+        return digits_of(None);
+    }
+    from_hex(&digits.to_string_lossy()).map_err(Stop::from)
 }
 
 /// What FILE is called in a mistake.

@@ -23,12 +23,16 @@ sent earlier, counted from 0. The office has 3 members; n=5 or n=7 in front give
 ";
 const FILE_OR_INPUT: &str = "Without FILE, or where it is -, standard input is read.\n";
 
+/// The option that may stand any number of times.
+const OFTEN: &str = "--property";
+
 const COMMANDS: &[Command] = &[
     Command {
         name: "run",
         operand: Some("[FILE]"),
         about: "runs a list, explains it event by event and draws the tree",
-        more: FILE_OR_INPUT,
+        more: "Without FILE, or where it is -, standard input is read. Standard output has the run itself, so --dot, --svg and --html\n\
+               don't take -.\n",
     },
     Command {
         name: "draw",
@@ -153,28 +157,19 @@ const CHOICES: &[Choice] = &[
         name: "--dot",
         value: Some("FILE"),
         uses: &[(&["run"], "writes the tree to FILE in the DOT language")],
-        set: |options, value| {
-            options.dot = Some(value);
-            Ok(())
-        },
+        set: |options, value| file("--dot", value).map(|file| options.dot = Some(file)),
     },
     Choice {
         name: "--svg",
         value: Some("FILE"),
         uses: &[(&["run"], "writes the tree to FILE as a picture")],
-        set: |options, value| {
-            options.svg = Some(value);
-            Ok(())
-        },
+        set: |options, value| file("--svg", value).map(|file| options.svg = Some(file)),
     },
     Choice {
         name: "--html",
         value: Some("FILE"),
         uses: &[(&["run"], "writes the run to FILE as a page: the timeline, and records and tree after each event")],
-        set: |options, value| {
-            options.html = Some(value);
-            Ok(())
-        },
+        set: |options, value| file("--html", value).map(|file| options.html = Some(file)),
     },
     Choice {
         name: "--json",
@@ -302,6 +297,8 @@ pub enum Asked {
 /// A command with its options.
 pub struct Options {
     pub command: &'static Command,
+    /// The names of the options that were given.
+    given: Vec<&'static str>,
     pub file: Option<OsString>,
     pub text: Option<String>,
     pub members: Option<u32>,
@@ -379,7 +376,7 @@ pub fn parse(args: impl Iterator<Item = OsString>) -> Result<Asked, Stop> {
     if given.has(&["--version"]) {
         return Ok(Asked::Version);
     }
-    let command = match plain.next() {
+    let command = match plain.next().filter(|name| !name.is_empty()) {
         Some(name) => command(&name.to_string_lossy())?,
         None if help => return Ok(Asked::Help(None)),
         None => return Err("a command is missing; see kalebasin --help".into()),
@@ -411,6 +408,7 @@ impl Options {
     fn new(command: &'static Command) -> Options {
         Options {
             command,
+            given: Vec::new(),
             file: None,
             text: None,
             members: None,
@@ -434,7 +432,13 @@ impl Options {
 
     fn set(&mut self, name: &str, value: Option<OsString>) -> Result<(), Stop> {
         match self.command.choices().find(|(choice, _)| choice.name == name) {
-            Some((choice, _)) => (choice.set)(self, value.unwrap_or_default()),
+            Some((choice, _)) if choice.name != OFTEN && self.given.contains(&choice.name) => {
+                Err(Stop::with_help(format!("{name} stands twice; {} takes it once", self.command.name), self.command))
+            }
+            Some((choice, _)) => {
+                self.given.push(choice.name);
+                (choice.set)(self, value.unwrap_or_default())
+            }
             None => {
                 let meant = meant(name, self.command.choices().map(|(choice, _)| choice.name));
                 Err(Stop::with_help(format!("{} doesn't take {name}{meant}", self.command.name), self.command))
@@ -444,18 +448,34 @@ impl Options {
 
     /// Options that leave one another without effect are a mistake.
     fn fit_together(&self) -> Result<(), Stop> {
+        let given = |names: &[&str]| self.given.iter().any(|name| names.contains(name));
         let reads_bytes = self.command.takes("--bytes") && (self.bytes || self.hex);
-        match self {
-            Options { text: Some(_), file: Some(_), .. } => Err("-e stands instead of FILE; give one of them".into()),
-            Options { text: Some(_), .. } if reads_bytes => {
-                Err("-e is notation; --bytes and --hex are for FILE".into())
+        let searches = self.command.name == "search";
+        let mistake = match self {
+            Options { text: Some(_), file: Some(_), .. } => "-e stands instead of FILE; give one of them",
+            Options { text: Some(_), .. } if reads_bytes => "-e is notation; --bytes and --hex are for FILE",
+            Options { bytes: true, hex: true, .. } => "FILE holds bytes or digits; give --bytes or --hex",
+            Options { members: Some(_), .. } if reads_bytes => "the bytes say how many members there are",
+            Options { properties, .. } if properties.iter().any(|name| name == "list") && !self.asks_one_thing() => {
+                "--property list shows the properties and tries nothing; give it alone"
             }
-            Options { members: Some(_), .. } if reads_bytes => Err("the bytes say how many members there are".into()),
-            Options { file: None, .. } if reads_bytes && self.command.name == "search" => {
-                Err("--bytes and --hex are for FILE, which may be -".into())
+            Options { file: None, .. } if reads_bytes && searches => "--bytes and --hex are for FILE, which may be -",
+            Options { all: Some(_), .. } if given(&["--lists", "--seed"]) => {
+                "--all tries all lists; --lists and --seed are for random ones"
             }
-            _ => Ok(()),
-        }
+            Options { all: None, text: None, file: None, .. }
+                if searches && given(&["--store-rows", "--table-rows"]) =>
+            {
+                "random lists have memory of their own; --store-rows and --table-rows are for a list or --all"
+            }
+            _ => return Ok(()),
+        };
+        Err(Stop::with_help(mistake.into(), self.command))
+    }
+
+    /// Whether one option is all that stands behind the command.
+    fn asks_one_thing(&self) -> bool {
+        self.given.len() == 1 && self.file.is_none()
     }
 }
 
@@ -464,21 +484,32 @@ pub fn text(name: &str, value: OsString) -> Result<String, Stop> {
     value.into_string().map_err(|value| format!("{name} isn't UTF-8: {}", value.to_string_lossy()).into())
 }
 
+/// A file to write; - would be standard output, which has the run itself.
+fn file(name: &str, value: OsString) -> Result<OsString, Stop> {
+    if value == "-" {
+        return Err(format!("{name} takes a file, not -: standard output has the run itself").into());
+    }
+    Ok(value)
+}
+
+/// A number in this range, of digits alone.
 fn number<T>(name: &str, value: OsString, low: T, high: T) -> Result<T, Stop>
 where
     T: FromStr + PartialOrd + std::fmt::Display,
 {
     let text = value.to_string_lossy();
+    let digits = text.bytes().all(|digit| digit.is_ascii_digit());
     match text.parse() {
-        Ok(number) if low <= number && number <= high => Ok(number),
+        Ok(number) if digits && low <= number && number <= high => Ok(number),
         _ => Err(format!("{name} takes a number from {low} to {high}, not {text}").into()),
     }
 }
 
-/// ` (did you mean NAME?)` for the name that a mistyped one begins, or is nearest to if it is near.
+/// ` (did you mean NAME?)` for the name that a mistyped one begins, or is nearest to if it is near; capitals are no difference.
 pub fn meant<'a>(typed: &str, names: impl Iterator<Item = &'a str>) -> String {
-    let begins = |name: &str| typed.len() > 2 && name.starts_with(typed);
-    let far = |name: &str| if begins(name) { 0 } else { distance(typed, name) };
+    let typed = typed.to_lowercase();
+    let begins = |name: &str| typed.len() > 2 && name.starts_with(&typed);
+    let far = |name: &str| if begins(name) { 0 } else { distance(&typed, name) };
     let nearest = names.map(|name| (far(name), name)).min();
     let near = nearest.filter(|(far, name)| *far <= 2 && far + 1 < name.trim_start_matches('-').len());
     near.map_or(String::new(), |(_, name)| format!(" (did you mean {name}?)"))

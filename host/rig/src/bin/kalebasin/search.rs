@@ -50,7 +50,7 @@ fn source(options: &Options) -> Result<Source, Stop> {
     match options.all {
         Some(longest) => {
             let events =
-                if given { list(options)? } else { few_events(members(options)?.unwrap_or(notation::MEMBERS)) };
+                if given { list(options)? } else { few_events(members(options)?.unwrap_or(notation::MEMBERS))? };
             let of = case(options, events, longest);
             play(options, &of)?;
             Ok(Source::All { of, longest })
@@ -87,6 +87,7 @@ fn properties(names: &[String]) -> Result<Vec<&'static Property>, Stop> {
     let find = |name: &String| {
         all().find(|property| property.name == name).ok_or_else(|| {
             let meant = meant(name, all().map(|property| property.name));
+            let name = if name.is_empty() { "''" } else { name };
             format!("there is no property {name}{meant}; see --property list").into()
         })
     };

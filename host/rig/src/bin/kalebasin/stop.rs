@@ -47,6 +47,13 @@ impl From<&str> for Stop {
     }
 }
 
+/// What isn't told otherwise is refused of a list.
+impl From<Refusal> for Stop {
+    fn from(refusal: Refusal) -> Stop {
+        Stop::refused("list", refusal, None::<&str>)
+    }
+}
+
 /// What isn't a file of its own is standard output.
 impl From<io::Error> for Stop {
     fn from(error: io::Error) -> Stop {
