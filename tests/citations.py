@@ -1,7 +1,9 @@
 #!/usr/bin/env python3
 """Each name in backquotes of README, docs/REVIEW.md and docs/PROVING.md exists: a crate, a file, a function, type or constant of the code, a
 definition or theorem of specs/ or proofs/ (or a field of one), a must-fail edit, a file or name of host/. A `crate::name` is of that crate's code.
-Each must-fail edit is named in docs/REVIEW.md. The last line is 'N passed, M failed'."""
+In a longer text in backquotes each name with a hyphen or a capital in front does. Each must-fail edit is named in docs/REVIEW.md, as one of its crate:
+"of CRATE `x`, `y`", "CRATE: `x`", "`x`, `y` of CRATE" and "`x` (CRATE)" say which; a name that only one crate has needs none. The same is asked of
+the section of docs/DECISIONS.md about edits. The last line is 'N passed, M failed'."""
 import os
 import re
 import sys
@@ -11,7 +13,7 @@ PAGES = ["README.md", "docs/REVIEW.md", "docs/PROVING.md"]
 WORDS = """rt rattle cargo rustc gcc rpcgen valgrind omega search simp rw cc refl subst ap needs arith tests omega unfolding unfoldable abbrev pub
 requires ensures returns let in ghost old new old: new: u8 u32 u64 usize bool true false cond first if match else while & &mut _ . .. ? × ≢ ≡ Lts tie c
 NAME FN N M Err Ok main.rs lib.rs --ignored target/ target/inc RT_JOBS drop replicate take getD length set .before .kept .last .inv .given .ensures
-impl self not return cargo-web target/staticlib/libexports.a target/staticlib/libexports_member.a""".split()
+impl self not return cargo-web target/staticlib/libexports.a target/staticlib/libexports_member.a must-fail""".split()
 
 
 def text(path):
@@ -45,7 +47,7 @@ for path in files("crates", (".antt",)):
     names.add(os.path.basename(path)[:-5])
     names |= set(re.findall(r"^\s*(?:(?:abbrev|unfoldable) )?(?:pub )?(?:(?:record|data|module) )?([^\s(){}:]+)(?: \{[^}]*\}| \([^)]*\))* :", body, re.M))
 for path in files("crates", (".edit",)):
-    edits.setdefault(os.path.basename(path)[:-5], []).append(path)
+    edits.setdefault(os.path.basename(path)[:-5], set()).add(path.split("/")[1])
 names |= set(edits)
 for path in files("host", (".rs", ".toml", ".h")):
     body = text(path)
@@ -64,7 +66,7 @@ def known(token, crates):
         parts = token.split("::")
         last = parts[-1].rstrip("()")
         if parts[0] in code:
-            return last in code[parts[0]]
+            return last in code[parts[0]] or parts[0] in edits.get(last, ())
         return last in names
     if "/" in token or re.search(r"\.(rt|antt|md|sh|rs|x|h|lua|edit|txt|toml|py)$", token):
         path = token.rstrip("/")
@@ -76,7 +78,8 @@ def known(token, crates):
             return True
         return any(p.endswith("/" + path) for p in everything)
     if re.search(r"[\s(),|<>=*{}\[\]!\"';+&→≤∷]", token):
-        return True
+        inside = re.findall(r"(?<![\w.:-])[A-Za-z][\w-]*", token)
+        return all(name in names for name in inside if "-" in name or re.match(r"[A-Z][a-z]", name))
     if "." in token:
         return all(part in names for part in token.split(".") if part)
     return False
@@ -84,21 +87,54 @@ def known(token, crates):
 
 everything = [os.path.join(d, f) for d, _, fs in os.walk(".") if "/target" not in d and "/.git" not in d for f in fs]
 passed = failed = 0
-for page in PAGES:
-    body = re.sub(r"^    .*$", "", text(page), flags=re.M)
-    for number, line in enumerate(body.split("\n"), 1):
-        for token in re.findall(r"`([^`]+)`", line):
-            if known(token, code):
-                passed += 1
-            else:
-                failed += 1
-                print(f"{page}:{number}: `{token}` isn't there")
-review = text("docs/REVIEW.md")
-for edit, paths in sorted(edits.items()):
-    if re.search(rf"`{edit}`", review):
+cited = set()
+
+
+def check(holds, complaint):
+    global passed, failed
+    if holds:
         passed += 1
     else:
         failed += 1
-        print(f"docs/REVIEW.md names no edit `{edit}` ({', '.join(paths)})")
+        print(complaint)
+
+
+def crate_of(line, start, end):
+    """The crate that a list of names, line[start:end], is said to be of; None where the line doesn't say."""
+    before = re.search(r"\bof (\w+) $|(\w+)`?: $", line[:start])
+    after = re.match(r" of (\w+)| \((\w+)[,)]", line[end:])
+    told = [name for found in (before, after) if found for name in found.groups() if name in code]
+    return told[0] if told else None
+
+
+def edits_of_line(page, number, line):
+    for names_in in re.finditer(r"`[^`]+`(?:, `[^`]+`)*", line):
+        crate = crate_of(line, *names_in.span())
+        for edit in re.findall(r"`([^`]+)`", names_in[0]):
+            owners = edits.get(edit)
+            if not owners:
+                continue
+            if crate:
+                check(crate in owners, f"{page}:{number}: {crate} has no edit `{edit}`; {', '.join(sorted(owners))} has one")
+            else:
+                check(len(owners) == 1, f"{page}:{number}: `{edit}` is an edit of {', '.join(sorted(owners))}: say which")
+            if page == "docs/REVIEW.md":
+                cited.update((c, edit) for c in ([crate] if crate else owners if len(owners) == 1 else []))
+
+
+for page in PAGES + ["docs/DECISIONS.md"]:
+    body = re.sub(r"^    .*$", "", text(page), flags=re.M)
+    about_edits = page != "docs/DECISIONS.md"
+    for number, line in enumerate(body.split("\n"), 1):
+        if page == "docs/DECISIONS.md" and line.startswith("## "):
+            about_edits = line.startswith("## Must-fail edits")
+        if not about_edits:
+            continue
+        for token in re.findall(r"`([^`]+)`", line):
+            check(known(token, code), f"{page}:{number}: `{token}` isn't there")
+        edits_of_line(page, number, line)
+for edit, owners in sorted(edits.items()):
+    for crate in sorted(owners):
+        check((crate, edit) in cited, f"docs/REVIEW.md names no edit `{edit}` of {crate}")
 print(f"{passed} passed, {failed} failed")
 sys.exit(1 if failed else 0)

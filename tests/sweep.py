@@ -1,15 +1,19 @@
 #!/usr/bin/env python3
-"""Tries every small change of the library crates' code and says what becomes of it. Not in the gate: it takes hours.
+"""Tries every small change of the library crates' code and says what becomes of it. Not in the gate: it takes an hour or more.
 
     tests/sweep.py [--jobs N] [--crates A,B] [--minutes M] [--list] [--out FILE]
 
-A change is of one comparison, one arithmetic or logical operator, one number, one Boolean, or exchanges two arguments of a call, or the values of two
-neighbouring fields. Contracts, comments and imports are left alone. Each is tried in a copy of the repository, in its own crate, and, where that is still
-proved, in all crates, with nothing trusted. FILE (target/sweep.tsv) has a line for each change tried: its place, the change, and
+A change is of one comparison, operator, number (those in brackets too) or Boolean, or exchanges two arguments of a call or the values of two fields; whether
+they are of one type is left to the compiler. Contracts, comments, signatures and imports stay. It is tried in a copy of the repository, in its crate, by the
+quick loop (`rt dev`). Changes of different functions of a crate are tried together: a function's proof rests on the contracts of what it calls and not on
+their bodies, so each is refused or proved by itself. A change of a constant is tried alone, in its crate; where that is still proved, its new value stands for
+its name in the functions of one crate after another that use it. What is refused nowhere is proved again without the quick loop, in all crates.
+FILE (target/sweep.tsv) has a line for each change tried: what became of it, the crate and function or constant, the place, the change.
     fact     refused, at a fact that no longer holds
     shape    refused, but only because the proof no longer fits the code's shape
+    untold   not proved: the prover could not tell
     build    refused by the language: types, or names
-    above    its own crate is still proved, and a crate above is refused
+    above    a constant: its own crate is still proved, and a crate that uses it is refused
     proved   everything is still proved: equivalent, or a hole in the promises
 A run goes on where the last one with the same FILE stopped."""
 import argparse
@@ -20,97 +24,288 @@ import subprocess
 import sys
 import threading
 import time
+from collections import namedtuple
 
 OTHERS = {
     "<": ["<=", ">"], "<=": ["<", ">="], ">": [">=", "<"], ">=": [">", "<="], "==": ["!="], "!=": ["=="],
     "+": ["-"], "-": ["+"], "*": ["+"], "/": ["*"], "%": ["/"], "+=": ["-="], "-=": ["+="],
-    "&&": ["||"], "||": ["&&"], "true": ["false"], "false": ["true"], "!": [""],
+    "&&": ["||"], "||": ["&&"], "&": ["|"], "|": ["&"], "true": ["false"], "false": ["true"],
 }
-TOKEN = re.compile(r"\b(?:true|false)\b|(?<![\w.])\d[\d_]*(?:u8|u32|u64|usize)?(?![\w.])|(?<=[\w)\]] )(?:<=|>=|==|!=|&&|\|\||\+=|-=|[<>+\-*/%])(?= )|!(?=[a-z(])")
-CALL = re.compile(r"[\w:]+\(([^()]*)\)")
+TOKEN = re.compile(r"//[^\n]*|b?\"(?:[^\"\\]|\\.)*\"|b'(?:[^'\\]|\\.)'|'\w+(?!')|\d\w*|\w+|::|=>|->|\.\.=|\.\.|<=|>=|==|!=|&&|\|\||\+=|-=|\S")
+BEFORE_OPERAND = {"return", "in", "if", "while", "match", "let", "mut", "as", "else", "=>"}
 SHAPE = re.compile(r"that can be named from here|has no field `|is not in scope|does not define it|[Pp]arse error| error: `[^`]*-spec`:")
+Token = namedtuple("Token", "text start end")
+# edits: (start, end, new text) of the file, not overlapping
+Change = namedtuple("Change", "crate unit path line shown edits")
 
 
-def code_lines(path):
-    """Lines of a function's body or of a constant, with their numbers from 0."""
-    contract = False
-    for number, line in enumerate(open(path, encoding="utf-8").read().split("\n")):
-        bare = line.strip()
-        contract = bare != "{" and (contract or bare.startswith(("requires", "ensures")))
-        if contract or bare.startswith(("//", "ghost", "use ", "mod ", "pub mod", "#")):
+def tokens_of(text):
+    return [Token(m.group(), m.start(), m.end()) for m in TOKEN.finditer(text) if not m.group().startswith("//")]
+
+
+def closing(tokens, i):
+    """The place of the bracket that closes the one at i."""
+    depth = 0
+    for j in range(i, len(tokens)):
+        depth += tokens[j].text in "([{"
+        depth -= tokens[j].text in ")]}"
+        if depth == 0:
+            return j
+    raise ValueError("a bracket without its other half")
+
+
+def units_of(tokens):
+    """(name, first token, last token) of each function's body and each constant's value."""
+    i = 0
+    while i < len(tokens):
+        word = tokens[i].text
+        if word == "const":
+            end = next(j for j in range(i, len(tokens)) if tokens[j].text == ";")
+            value = next(j for j in range(i, end) if tokens[j].text == "=")
+            yield f"const {tokens[i + 1].text}", value + 1, end
+            i = end
+        elif word == "fn":
+            name = tokens[i + 1].text
+            j = closing(tokens, i + 2)
+            while tokens[j].text != "{":
+                if tokens[j].text in ("requires", "ensures", "ghost"):
+                    while tokens[j].text != "{":
+                        j += 1
+                    j = closing(tokens, j)
+                j += 1
+            end = closing(tokens, j)
+            yield name, j, end
+            i = end
+        elif word in ("struct", "enum", "use", "type"):
+            while tokens[i].text not in ("{", ";", "("):
+                i += 1
+            if tokens[i].text != ";":
+                i = closing(tokens, i)
+        i += 1
+
+
+def items(tokens, first, last):
+    """The parts of a bracket at its commas, as (first token, last token + 1)."""
+    parts, begun, j = [], first + 1, first + 1
+    while j < last:
+        if tokens[j].text in "([{":
+            j = closing(tokens, j)
+        elif tokens[j].text == ",":
+            parts.append((begun, j))
+            begun = j + 1
+        j += 1
+    if begun < last:
+        parts.append((begun, last))
+    return parts
+
+
+def changes_in(text, tokens, first, last):
+    """(what is shown, edits) of each change between two tokens."""
+    def said(a, b):
+        return " ".join(text[tokens[a].start:tokens[b - 1].end].split())
+
+    for i in range(first, last):
+        t, before = tokens[i], tokens[i - 1].text
+        binary = bool(re.match(r"[\w)\]\"']", before[-1])) and before not in BEFORE_OPERAND
+        if t.text[0].isdigit() and before != ".":
+            digits, tail = re.match(r"([\d_]+)(.*)", t.text).groups()
+            value = int(digits.replace("_", ""))
+            news = [f"{value + 1}{tail}"] + ([f"{value - 1}{tail}"] if value else [])
+        elif t.text in ("true", "false") or t.text in OTHERS and binary:
+            news = OTHERS[t.text]
+        elif t.text == "!" and not binary:
+            news = [""]
+        else:
+            news = []
+        for new in news:
+            yield f"{t.text} -> {new or 'nothing'}", [(t.start, t.end, new)]
+        if t.text == "(" and re.match(r"\w", before) and before not in BEFORE_OPERAND:
+            parts = [(a, b, "") for a, b in items(tokens, i, closing(tokens, i))]
+        elif t.text == "{" and re.match(r"[A-Z]", before):
+            parts = []
+            for a, b in items(tokens, i, closing(tokens, i)):
+                if b - a == 1:
+                    parts.append((a, b, f"{tokens[a].text}: "))
+                elif tokens[a + 1].text == ":":
+                    parts.append((a + 2, b, ""))
+        else:
             continue
-        if re.match(r"(pub )?(extern \"C\" )?(fn|struct|enum|impl)\b", bare) and not bare.endswith("}"):
-            continue
-        if re.match(r"(pub )?\w+: [\w\[\]; &']+,$", bare):
-            continue
-        yield number, line
+        for j, (a, b, name) in enumerate(parts):
+            for c, d, other in parts[j + 1:]:
+                if said(a, b) != said(c, d):
+                    yield f"{said(a, b)} <-> {said(c, d)}", [
+                        (tokens[a].start, tokens[b - 1].end, name + text[tokens[c].start:tokens[d - 1].end]),
+                        (tokens[c].start, tokens[d - 1].end, other + text[tokens[a].start:tokens[b - 1].end]),
+                    ]
 
 
-def changes_of(path):
-    """(line, first column, last column, new text) of each change."""
-    for number, line in code_lines(path):
-        for m in TOKEN.finditer(line):
-            old = m.group()
-            if old[0].isdigit():
-                digits = re.match(r"[\d_]+", old).group()
-                value, tail = int(digits.replace("_", "")), old[len(digits):]
-                news = [f"{value + 1}{tail}"] + ([f"{value - 1}{tail}"] if value else [])
-            else:
-                news = OTHERS[old]
-            for new in news:
-                yield number, m.start(), m.end(), new
-        for m in CALL.finditer(line):
-            args = [a.strip() for a in m.group(1).split(",")]
-            for i in range(len(args)):
-                for j in range(i + 1, len(args)):
-                    if args[i] and args[j] and args[i] != args[j]:
-                        swapped = list(args)
-                        swapped[i], swapped[j] = args[j], args[i]
-                        yield number, m.start(1), m.end(1), ", ".join(swapped)
-        field = re.match(r"\s*(\w+): (.+),$", line)
-        if field:
-            lines = open(path, encoding="utf-8").read().split("\n")
-            after = re.match(r"\s*(\w+): (.+),$", lines[number + 1]) if number + 1 < len(lines) else None
-            if after and after.group(2) != field.group(2):
-                yield number, field.start(2), field.end(2), ("\n", after.group(2))
+def changes_of(crate, path):
+    text = open(path, encoding="utf-8").read()
+    tokens = tokens_of(text)
+    for name, first, last in units_of(tokens):
+        for shown, edits in changes_in(text, tokens, first, last):
+            yield Change(crate, name, path, text.count("\n", 0, edits[0][0]) + 1, shown, edits)
 
 
-def apply(path, number, start, end, new):
-    lines = open(path, encoding="utf-8").read().split("\n")
-    if isinstance(new, tuple):
-        old = lines[number][start:end]
-        lines[number + 1] = lines[number + 1].replace(new[1], old, 1)
-        new = new[1]
-    lines[number] = lines[number][:start] + new + lines[number][end:]
-    open(path, "w", encoding="utf-8").write("\n".join(lines))
+def key(change):
+    column = change.edits[0][0] - open(change.path, encoding="utf-8").read().rfind("\n", 0, change.edits[0][0])
+    return f"{change.crate}\t{change.unit}\t{change.path}:{change.line}:{column}\t{change.shown}"
 
 
-def libraries():
-    order = []
+def sources():
+    """The source files of each library crate, in the order of crates.txt."""
+    found = {}
     for line in open("crates.txt", encoding="utf-8"):
         name = line.split("#")[0].split(":")[0].strip()
         if name and os.path.exists(f"crates/{name}/src/lib.rt"):
-            order.append(name)
-    return order
+            found[name] = [f"crates/{name}/src/{f}" for f in sorted(os.listdir(f"crates/{name}/src"))]
+    return found
 
 
-def verdict(folder, crate):
-    """A refusal of the quick loop counts; what it takes for proved is proved again without it."""
-    got = subprocess.run(["rt", "dev", crate], cwd=folder, capture_output=True, text=True)
-    if got.returncode == 0:
-        for crates, failed in [([crate], None), ([], "above")]:
-            got = subprocess.run(["rt", "check", *crates], cwd=folder, capture_output=True, text=True)
-            if got.returncode != 0 and failed:
-                return failed
-            if got.returncode != 0:
-                break
-        else:
-            return "proved"
-    log = got.stdout + got.stderr
-    errors = [l for l in log.split("\n") if (" error: " in l or ": it is not proved that " in l) and "was not admitted" not in l]
-    if not errors or any(".rt:" in l and " error: " in l and "/src/" in l for l in errors):
-        return "build"
-    return "shape" if any(SHAPE.search(l) for l in errors) else "fact"
+def changed(path, changes):
+    """A file's text with the changes in it."""
+    text = open(path, encoding="utf-8").read()
+    for start, end, new in sorted((e for c in changes if c.path == path for e in c.edits), reverse=True):
+        text = text[:start] + new + text[end:]
+    return text
+
+
+def constants(files, changes=()):
+    """The value of each constant of the library crates, by crate and name."""
+    values = {}
+    for crate, paths in files.items():
+        for path in paths:
+            text = changed(path, changes)
+            tokens = tokens_of(text)
+            for name, first, last in units_of(tokens):
+                if name.startswith("const "):
+                    # a name is of its own crate, or there is one constant of that name
+                    words = [tokens[i].text for i in range(first, last) if "::" not in (tokens[i].text, tokens[i + 1].text)]
+                    known = {n: v for (c, n), v in values.items()} | {n: v for (c, n), v in values.items() if c == crate}
+                    values[crate, name[6:]] = eval(" ".join(str(known.get(w, w)) for w in words))
+    return values
+
+
+class Tree:
+    """A copy of the repository in which changes are tried."""
+
+    def __init__(self, folder):
+        self.folder = folder
+        shutil.rmtree(folder, ignore_errors=True)
+        os.makedirs(folder)
+        shutil.copy("crates.txt", folder)
+        shutil.copytree("crates", f"{folder}/crates")
+        shutil.copytree("target", f"{folder}/target", ignore=shutil.ignore_patterns("sweep*", "must-fail"))
+
+    def put(self, texts):
+        for path, text in texts.items():
+            open(f"{self.folder}/{path}", "w", encoding="utf-8").write(text)
+
+    def run(self, *words):
+        got = subprocess.run(["rt", *words], cwd=self.folder, capture_output=True, env={**os.environ, "RT_JOBS": "1"})
+        return got.returncode, (got.stdout + got.stderr).decode("utf-8", "replace").split("\n")
+
+    def tried(self, crate, texts):
+        """The log of the quick loop on a crate with these texts, and whether it got as far as the proofs; None where all is proved."""
+        own = {path: open(path, encoding="utf-8").read() for path in texts}
+        self.put(texts)
+        status, log = self.run("dev", crate)
+        self.put(own)
+        return None if status == 0 else log, any(l.startswith(("logic=", "rattle: no verdict")) for l in log)
+
+    def proved_anew(self, crate, texts):
+        """Without the quick loop: the log of the crate where it is refused, None where all crates are proved, else an empty one."""
+        own = {path: open(path, encoding="utf-8").read() for path in texts}
+        self.put(texts)
+        status, log = self.run("check", crate)
+        if status == 0:
+            log = None if self.run("check")[0] == 0 else []
+        self.put(own)
+        self.run("check")
+        return log
+
+
+def errors_in(log):
+    return [l for l in log if (" error: " in l or ": it is not proved that " in l) and "was not admitted" not in l]
+
+
+def kind_of(errors):
+    return "untold" if not errors else "shape" if any(SHAPE.search(l) for l in errors) else "fact"
+
+
+def alone(tree, change, files):
+    """What becomes of a change by itself."""
+    texts = {change.path: changed(change.path, [change])}
+    log, judged = tree.tried(change.crate, texts)
+    if log is not None:
+        return kind_of(errors_in(log)) if judged else "build"
+    if change.unit.startswith("const "):
+        before, after = constants(files), constants(files, [change])
+        for crate, paths in files.items():
+            texts_there = {path: with_values(crate, path, {k: v for k, v in after.items() if before[k] != v}) for path in paths}
+            if crate != change.crate and any(t != open(p, encoding="utf-8").read() for p, t in texts_there.items()):
+                log, judged = tree.tried(crate, texts_there)
+                if log is not None and judged and kind_of(errors_in(log)) == "fact":
+                    return "above"
+    log = tree.proved_anew(change.crate, texts)
+    return "proved" if log is None else kind_of(errors_in(log)) if log else "above"
+
+
+def with_values(crate, path, values):
+    """A file's text in which these constants of other crates are numbers, in functions."""
+    text = open(path, encoding="utf-8").read()
+    tokens = tokens_of(text)
+    edits = []
+    for name, first, last in units_of(tokens):
+        for i in range(first, last):
+            for (owner, constant), value in values.items():
+                if tokens[i].text != constant or owner == crate or tokens[i - 1].text == ".":
+                    continue
+                start = tokens[i - 2].start if tokens[i - 1].text == "::" else tokens[i].start
+                if tokens[i - 1].text == "::" and tokens[i - 2].text != owner:
+                    continue
+                edits.append((start, tokens[i].end, str(value)))
+    for start, end, new in sorted(edits, reverse=True):
+        text = text[:start] + new + text[end:]
+    return text
+
+
+def own_lines(path, text, change):
+    """The lines of the changed text that are of the change's function."""
+    tokens = tokens_of(text)
+    return [range(text.count("\n", 0, tokens[a].start) + 1, text.count("\n", 0, tokens[b].end) + 2) for name, a, b in units_of(tokens) if name == change.unit]
+
+
+def own_errors(log, change):
+    """The errors that are of the change's function; none where it isn't refused for itself."""
+    module = os.path.basename(change.path)[:-3]
+    place = re.compile(rf"/proofs/{'' if module == 'lib' else module + '/'}(\+\w+)*\+?{change.unit}(\+\w+)*/")
+    path = re.escape(f"{change.crate}::{'' if module == 'lib' else module + '::'}{change.unit}")
+    own = [l for l in errors_in(log) if place.search(l.split(" error: ")[0])]
+    return own + [l for l in log if re.match(rf"fn {path}: no proof: ", l)]
+
+
+def together(tree, changes):
+    """What becomes of changes of different functions of a crate; None for one that has to be tried alone."""
+    found, left = {}, list(changes)
+    while left:
+        texts = {path: changed(path, left) for path in {c.path for c in left}}
+        log, judged = tree.tried(left[0].crate, texts)
+        if log is None:
+            break
+        if judged:
+            for c in left:
+                own = own_errors(log, c)
+                found[key(c)] = kind_of(own) if own else None
+            break
+        places = [(m.group(1), int(m.group(2))) for l in log for m in [re.search(r"/(crates/\w+/src/\w+\.rt):(\d+):\d+: error", l)] if m]
+        refused = [c for c in left if any(p == c.path and n in lines for p, n in places for lines in own_lines(p, texts[c.path], c))]
+        if not refused:
+            break
+        for c in refused:
+            found[key(c)] = "build"
+        left = [c for c in left if c not in refused]
+    return [found.get(key(c)) for c in changes]
 
 
 def main():
@@ -122,52 +317,63 @@ def main():
     ask.add_argument("--out", default="target/sweep.tsv")
     asked = ask.parse_args()
     os.chdir(os.path.join(os.path.dirname(os.path.abspath(__file__)), ".."))
-    wanted = [c for c in libraries() if not asked.crates or c in asked.crates.split(",")]
-    work = []
-    for crate in wanted:
-        for name in sorted(os.listdir(f"crates/{crate}/src")):
-            path = f"crates/{crate}/src/{name}"
-            for number, start, end, new in changes_of(path):
-                line = open(path, encoding="utf-8").read().split("\n")[number]
-                shown = new if isinstance(new, str) else f"exchanged with {new[1]}"
-                key = f"{path}:{number + 1}:{start + 1}\t{line[start:end]}\t{shown}\t{line.strip()}"
-                work.append((key, crate, path, number, start, end, new))
+    files = sources()
+    work = {}
+    for crate, paths in files.items():
+        if not asked.crates or crate in asked.crates.split(","):
+            work[crate] = [c for path in paths for c in changes_of(crate, path)]
     if asked.list:
-        print("\n".join(w[0] for w in work))
+        print("\n".join(key(c) for changes in work.values() for c in changes))
         return 0
     os.makedirs(os.path.dirname(asked.out) or ".", exist_ok=True)
     done = set()
     if os.path.exists(asked.out):
         done = {l.rstrip("\n").split("\t", 1)[1] for l in open(asked.out, encoding="utf-8")}
-    left = [w for w in work if w[0] not in done]
-    print(f"{len(work)} changes, {len(done)} tried before, {len(left)} to try", flush=True)
+    work = {crate: [c for c in changes if key(c) not in done] for crate, changes in work.items()}
+    queue = sorted((c for c in work if work[c]), key=lambda c: -len(work[c]))
+    left = sum(len(changes) for changes in work.values())
+    print(f"{len(done)} changes tried before, {left} to try", flush=True)
     subprocess.run(["rt", "check"], check=True, stdout=subprocess.DEVNULL)
-    lock, began, tried, counts = threading.Lock(), time.time(), [0], {}
+    lock, began, counts = threading.Lock(), time.time(), {}
+    total = left
+
+    def tell(changes, whats):
+        nonlocal left
+        with lock:
+            with open(asked.out, "a", encoding="utf-8") as out:
+                for c, what in zip(changes, whats):
+                    out.write(f"{what}\t{key(c)}\n")
+                    counts[what] = counts.get(what, 0) + 1
+                    left -= 1
+            summary = ", ".join(f"{v} {k}" for k, v in sorted(counts.items()))
+            rest = (time.time() - began) / (total - left) * left / 60
+            print(f"{total - left} tried ({summary}), {left} left, about {rest:.0f} min: {changes[-1].crate}", flush=True)
 
     def worker(job):
-        folder = f"target/sweep-{job}"
-        shutil.rmtree(folder, ignore_errors=True)
-        os.makedirs(folder)
-        shutil.copy("crates.txt", folder)
-        shutil.copytree("crates", f"{folder}/crates")
-        shutil.copytree("target", f"{folder}/target", ignore=shutil.ignore_patterns("sweep*", "must-fail"))
-        while time.time() - began < asked.minutes * 60:
+        tree = Tree(f"target/sweep-{job}")
+        while True:
             with lock:
-                if not left:
+                if not queue:
                     break
-                key, crate, path, number, start, end, new = left.pop(0)
-            apply(f"{folder}/{path}", number, start, end, new)
-            what = verdict(folder, crate)
-            shutil.copy(path, f"{folder}/{path}")
-            with lock:
-                with open(asked.out, "a", encoding="utf-8") as out:
-                    out.write(f"{what}\t{key}\n")
-                tried[0] += 1
-                counts[what] = counts.get(what, 0) + 1
-                rate = (time.time() - began) / tried[0]
-                summary = ", ".join(f"{v} {k}" for k, v in sorted(counts.items()))
-                print(f"{tried[0]} tried ({summary}), {len(left)} left, about {rate * len(left) / 60:.0f} min: {path}:{number + 1} {what}", flush=True)
-        shutil.rmtree(folder, ignore_errors=True)
+                crate = queue.pop(0)
+            waiting = {}
+            for c in work[crate]:
+                waiting.setdefault((c.path, c.unit), []).append(c)
+            constant = [c for unit, changes in waiting.items() if unit[1].startswith("const ") for c in changes]
+            rounds = [changes for unit, changes in waiting.items() if not unit[1].startswith("const ")]
+            while (any(rounds) or constant) and time.time() - began < asked.minutes * 60:
+                group = [changes.pop(0) for changes in rounds if changes]
+                if group:
+                    whats = together(tree, group)
+                    sure = [(c, w) for c, w in zip(group, whats) if w]
+                    if sure:
+                        tell([c for c, w in sure], [w for c, w in sure])
+                    group = [c for c, w in zip(group, whats) if not w]
+                else:
+                    group = [constant.pop(0)]
+                for c in group:
+                    tell([c], [alone(tree, c, files)])
+        shutil.rmtree(tree.folder, ignore_errors=True)
 
     threads = [threading.Thread(target=worker, args=(j,)) for j in range(asked.jobs)]
     for t in threads:

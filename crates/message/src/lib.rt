@@ -110,7 +110,7 @@ fn vote_in_range(round: Round, voted: Round) -> bool
 }
 
 // Whether a message's fields are in range.
-pub fn in_range(m: Message) -> bool
+pub fn fields_in_range(m: Message) -> bool
     ensures { λ b. ⌜ b ≡ in-range m ⌝ }
 {
     match m {

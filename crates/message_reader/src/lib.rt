@@ -157,7 +157,7 @@ pub fn decode_front(s: &[u8]) -> Message
 fn ranged(m: Message) -> Read
     ensures { λ r. ⌜ r ≡ ranged m ⌝ }
 {
-    if message::in_range(m) {
+    if message::fields_in_range(m) {
         Read::Got(m)
     } else {
         Read::Refused(MESSAGE_FIELD)

@@ -121,7 +121,7 @@ pub fn write_message(m: Message, buf: &mut [u8]) -> Written
     if buf.len() < LONGEST {
         return refused(REPLY_TOO_SHORT);
     }
-    if !message::in_range(m) {
+    if !message::fields_in_range(m) {
         return refused(MESSAGE_FIELD);
     }
     let length = put_message(m, buf);

@@ -1,4 +1,6 @@
 // Edges that cross (01, "The tree"): an edge (r, p) is a node r > 0 with parent p, and crosses c if p < c < r.
+pub mod look;
+
 ghost use mathlib.Core.Path.{_≡_};
 ghost use mathlib.Core.Bool.{cond};
 ghost use mathlib.Core.List.{_++_, map};

@@ -1,5 +1,4 @@
 -- Laws for what the tree's calls ask, decide and write.
-pub mod Looking
 pub mod Planning
 pub mod Inserting
 pub mod Climbing

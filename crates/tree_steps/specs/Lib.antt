@@ -1,4 +1,3 @@
 -- What add, commit and path ask of a table, decide and write.
-pub mod Looked
 pub mod Planned
 pub mod Climbed

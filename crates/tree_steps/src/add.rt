@@ -1,12 +1,12 @@
 // What an add decides on a tree (01, "The tree"; the rows round, add and last of the place table).
 use crate::call::Plan;
-use crate::look::Look;
 use ids::Round;
+use tree_crossing::look::Look;
 ghost use mathlib.Core.Path.{_≡_};
 ghost use mathlib.Core.Bool.{true, cond};
 ghost use Rattle.tree_theory.specs.Machine.{GHOST, ADDED, add, answer};
 ghost use Rattle.tree_theory.specs.Table.{sized, rows, nodes, Tree};
-ghost use Rattle.tree_steps.specs.Looked.{look-of};
+ghost use Rattle.tree_crossing.specs.Looked.{look-of};
 ghost use Rattle.tree_steps.specs.Planned.{Planned};
 
 // Why add(r, v, p) is refused, or OK, by what the rows said.
@@ -55,7 +55,7 @@ pub fn plan_add(valued: bool, t: &[u64], r: Round, v: u64, p: Round) -> Plan
     requires { ⌜ (sized (now t) ≡ true) × Tree valued (now t) ⌝ }
     ensures { λ q. ⌜ Planned valued (now (t .entry)) (add (r .0) v (p .0)) (q .number) (q .row) (q .status) (q .strikes) ⌝ }
 {
-    let l = crate::look::look_over(t, r.0 as u64, p.0 as u64);
+    let l = tree_crossing::look::look_over(t, r.0 as u64, p.0 as u64);
     Plan {
         number: add_number(valued, t, l, r, v, p),
         row: l.used,

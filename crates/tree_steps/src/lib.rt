@@ -3,5 +3,4 @@ pub mod add;
 pub mod call;
 pub mod commit;
 pub mod fresh;
-pub mod look;
 pub mod path;

@@ -35,7 +35,7 @@ pub fn hyper_at(s: &[u8], at: usize) -> u64
 }
 
 // Writes an unsigned integer at a place, and nothing beside it.
-pub fn put_word(buf: &mut [u8], at: usize, x: u32)
+pub fn set_word(buf: &mut [u8], at: usize, x: u32)
     requires { ⌜ at + 4 ≤ length (now buf) ⌝ }
     ensures { λ _. ⌜ now (buf .exit) ≡ take at (now (buf .entry)) ++ word x ++ drop (at + 4) (now (buf .entry)) ⌝ }
 {
@@ -46,10 +46,10 @@ pub fn put_word(buf: &mut [u8], at: usize, x: u32)
 }
 
 // Writes an unsigned hyper at a place, and nothing beside it.
-pub fn put_hyper(buf: &mut [u8], at: usize, x: u64)
+pub fn set_hyper(buf: &mut [u8], at: usize, x: u64)
     requires { ⌜ at + 8 ≤ length (now buf) ⌝ }
     ensures { λ _. ⌜ now (buf .exit) ≡ take at (now (buf .entry)) ++ hyper x ++ drop (at + 8) (now (buf .entry)) ⌝ }
 {
-    put_word(buf, at, (x / 4294967296) as u32);
-    put_word(buf, at + 4, (x % 4294967296) as u32);
+    set_word(buf, at, (x / 4294967296) as u32);
+    set_word(buf, at + 4, (x % 4294967296) as u32);
 }

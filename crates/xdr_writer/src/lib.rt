@@ -16,7 +16,7 @@ fn word_to(buf: &mut [u8], at: usize, x: u32) -> usize
     requires { ⌜ at + 4 ≤ length (now buf) ⌝ }
     ensures { λ r. ⌜ Puts (integer x) (now (buf .entry)) at r (now (buf .exit)) ⌝ }
 {
-    xdr::put_word(buf, at, x);
+    xdr::set_word(buf, at, x);
     at + 4
 }
 
@@ -25,7 +25,7 @@ fn hyper_to(buf: &mut [u8], at: usize, x: u64) -> usize
     requires { ⌜ at + 8 ≤ length (now buf) ⌝ }
     ensures { λ r. ⌜ Puts (long x) (now (buf .entry)) at r (now (buf .exit)) ⌝ }
 {
-    xdr::put_hyper(buf, at, x);
+    xdr::set_hyper(buf, at, x);
     at + 8
 }
 

@@ -4,14 +4,14 @@ use borrow.Author.Needs.{needs}
 use Rattle.message_reader.proofs.ranged.Statement.{statement}
 use Rattle.message_reader.proofs.ranged.Tie as tie
 
-in-range-requires : tie.Need-in-range-requires
-in-range-requires c κs = search needs
+fields-in-range-requires : tie.Need-fields-in-range-requires
+fields-in-range-requires c κs = search needs
 
 returns : tie.Need-returns
-returns c = rw (sym (c .before .in-range .ensures) ∙ c .if1 .taken)
+returns c = rw (sym (c .before .fields-in-range .ensures) ∙ c .if1 .taken)
 
 returns-2 : tie.Need-returns-2
-returns-2 c = rw (sym (c .before .in-range .ensures) ∙ c .if1 .left)
+returns-2 c = rw (sym (c .before .fields-in-range .ensures) ∙ c .if1 .left)
 
 pub ranged-spec : {M : Type 1} → statement M
-ranged-spec = tie.close (tie.spec in-range-requires returns returns-2)
+ranged-spec = tie.close (tie.spec fields-in-range-requires returns returns-2)

@@ -27,8 +27,8 @@ returns c =
     let short = lt-ltb _ _ (c .before .if1 .taken) in
     record { answer = simp short (c .refused .ensures); buffer = simp short }
 
-in-range-requires : tie.Need-in-range-requires
-in-range-requires c κs = search needs
+fields-in-range-requires : tie.Need-fields-in-range-requires
+fields-in-range-requires c κs = search needs
 
 refused-requires-2 : tie.Need-refused-requires-2
 refused-requires-2 c κs = search needs
@@ -38,7 +38,7 @@ unfolding writing buffer-after
 returns-2 c =
     let asked = c .before .before in
     let room = le-ltb _ _ (asked .before .if1 .left) in
-    let out = sym (asked .in-range .ensures) ∙ not-true _ (c .before .if2 .taken) in
+    let out = sym (asked .fields-in-range .ensures) ∙ not-true _ (c .before .if2 .taken) in
     record { answer = simp (room, out) (c .refused2 .ensures); buffer = simp (room, out) }
 
 put-message-requires : tie.Need-put-message-requires
@@ -53,11 +53,11 @@ returns-3 c =
     let put = c .before .before in
     let asked = put .before .before .before in
     let room = le-ltb _ _ (asked .before .if1 .left) in
-    let fits = sym (asked .in-range .ensures) ∙ not-false _ (put .before .before .if2 .left) in
+    let fits = sym (asked .fields-in-range .ensures) ∙ not-false _ (put .before .before .if2 .left) in
     let (long, stands) = sent _ (put .put-message .ensures) in
     record { answer = simp (room, fits, long); buffer = simp (room, fits) stands }
 
 pub write-message-spec : {M : Type 1} → statement M
 write-message-spec =
     tie.close
-    (tie.spec refused-requires returns in-range-requires refused-requires-2 returns-2 put-message-requires same-length returns-3)
+    (tie.spec refused-requires returns fields-in-range-requires refused-requires-2 returns-2 put-message-requires same-length returns-3)

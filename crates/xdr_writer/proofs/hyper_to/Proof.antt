@@ -4,8 +4,8 @@ use borrow.Author.Needs.{needs}
 use Rattle.xdr_writer.proofs.hyper_to.Statement.{statement}
 use Rattle.xdr_writer.proofs.hyper_to.Tie as tie
 
-put-hyper-requires : tie.Need-put-hyper-requires
-put-hyper-requires c κs = search needs
+set-hyper-requires : tie.Need-set-hyper-requires
+set-hyper-requires c κs = search needs
 
 add-result : tie.Need-add-result
 add-result c = search needs
@@ -18,4 +18,4 @@ unfolding item-bytes
 returns c = search needs
 
 pub hyper-to-spec : {M : Type 1} → statement M
-hyper-to-spec = tie.close (tie.spec put-hyper-requires add-result same-length returns)
+hyper-to-spec = tie.close (tie.spec set-hyper-requires add-result same-length returns)

@@ -4,8 +4,8 @@ use borrow.Author.Needs.{needs}
 use Rattle.xdr_writer.proofs.word_to.Statement.{statement}
 use Rattle.xdr_writer.proofs.word_to.Tie as tie
 
-put-word-requires : tie.Need-put-word-requires
-put-word-requires c κs = search needs
+set-word-requires : tie.Need-set-word-requires
+set-word-requires c κs = search needs
 
 add-result : tie.Need-add-result
 add-result c = search needs
@@ -18,4 +18,4 @@ unfolding item-bytes
 returns c = search needs
 
 pub word-to-spec : {M : Type 1} → statement M
-word-to-spec = tie.close (tie.spec put-word-requires add-result same-length returns)
+word-to-spec = tie.close (tie.spec set-word-requires add-result same-length returns)

@@ -16,8 +16,8 @@ use Rattle.laws.specs.First.{Cause, first, _gives_}
 use Rattle.tree_theory.specs.Machine.{other-value, blocks, causes, answer, add}
 use Rattle.tree_theory.specs.Table.{rows, nodes}
 use Rattle.tree_theory.proofs.Words.{length-rows}
-use Rattle.tree_steps.proofs.Looking.{LookedAt, used-is, present-is, blocked-is}
-use Rattle.tree_steps.proofs.Looking.{parent-present, parent-missing, parent-node, parent-row-fits}
+use Rattle.tree_crossing.proofs.Looking.{LookedAt, used-is, present-is, blocked-is}
+use Rattle.tree_crossing.proofs.Looking.{parent-present, parent-missing, parent-node, parent-row-fits}
 use Rattle.tree_steps.proofs.Planning.{beyond, within}
 use Rattle.tree_steps.proofs.add.add_number.Statement.{statement}
 use Rattle.tree_steps.proofs.add.add_number.Tie as tie

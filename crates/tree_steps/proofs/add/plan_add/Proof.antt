@@ -4,7 +4,7 @@ use mathlib.Core.Bool.{cond}
 use borrow.Author.Needs.{needs}
 use denote.Ref.{now}
 use Rattle.tree_theory.specs.Machine.{ADDED, GHOST}
-use Rattle.tree_steps.proofs.Looking.{LookedAt, used-is, above-is, strikes-is}
+use Rattle.tree_crossing.proofs.Looking.{LookedAt, used-is, above-is, strikes-is}
 use Rattle.tree_steps.proofs.Planning.{add-planned}
 use Rattle.tree_steps.proofs.add.plan_add.Statement.{statement}
 use Rattle.tree_steps.proofs.add.plan_add.Tie as tie

@@ -13,8 +13,8 @@ use Rattle.tree_theory.specs.Table.{row, rows, rows-of, used-from, used, nodes}
 use Rattle.tree_theory.proofs.Words.{length-rows, used-rows}
 use Rattle.tree_table.specs.Rows.{row-index}
 use Rattle.tree_table.proofs.Rows.{any-more, used-stop, used-go, used-end, found-there, found-none, found-at}
-use Rattle.tree_steps.specs.declared.look.Look.{Look}
-use Rattle.tree_steps.specs.Looked.{look-of}
+use Rattle.tree_crossing.specs.declared.look.Look.{Look}
+use Rattle.tree_crossing.specs.Looked.{look-of}
 
 -- the walk has come past the first used rows, as many as it says
 pub record Walked (ws : List ℕ) (r p : ℕ) (l : Look) : Type 0 where

@@ -3,7 +3,7 @@ ghost use mathlib.Core.Path.{_≡_};
 ghost use Prim.Native.Nat.{_+_, _*_, _≤_};
 ghost use lib.ListN.{length};
 ghost use Rattle.tree_theory.specs.Table.{rows-of, nodes};
-ghost use Rattle.tree_steps.specs.Looked.{look-of};
+ghost use Rattle.tree_crossing.specs.Looked.{look-of};
 
 // What the rows say of an edge (r, p): how many they are, whether one has round r, the first that has round p (as many as they are where none
 // has), whether one has a round above r, whether the edge crosses a COMMITTED one, and whether it crosses an ADDED one.

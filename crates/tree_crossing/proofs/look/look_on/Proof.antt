@@ -1,12 +1,12 @@
--- `tree_steps::look::look_on` meets its contract: the row is not below r, not above p, or crossed. Assumes nothing.
+-- `tree_crossing::look::look_on` meets its contract: the row is not below r, not above p, or crossed. Assumes nothing.
 use mathlib.Core.Path.{ap}
 use native.Mathlib.Omega.{arith}
 use borrow.Author.Needs.{needs}
 use denote.Ref.{now}
-use Rattle.tree_steps.specs.declared.look.Look.{Look}
-use Rattle.tree_steps.proofs.Looking.{LookedTo, look-beyond, look-before, look-crossed}
-use Rattle.tree_steps.proofs.look.look_on.Statement.{statement}
-use Rattle.tree_steps.proofs.look.look_on.Tie as tie
+use Rattle.tree_crossing.specs.declared.look.Look.{Look}
+use Rattle.tree_crossing.proofs.Looking.{LookedTo, look-beyond, look-before, look-crossed}
+use Rattle.tree_crossing.proofs.look.look_on.Statement.{statement}
+use Rattle.tree_crossing.proofs.look.look_on.Tie as tie
 
 -- where the code began, seen from where the parent is looked for; what the rows before said
 abbrev begun : tie.After-find-row-more → tie.Start

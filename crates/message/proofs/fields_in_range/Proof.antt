@@ -1,8 +1,8 @@
--- `message::in_range` meets its contract, variant by variant. Assumes nothing.
+-- `message::fields_in_range` meets its contract, variant by variant. Assumes nothing.
 use mathlib.Core.Path.{sym, _∙_}
 use borrow.Author.Needs.{needs}
-use Rattle.message.proofs.in_range.Statement.{statement}
-use Rattle.message.proofs.in_range.Tie as tie
+use Rattle.message.proofs.fields_in_range.Statement.{statement}
+use Rattle.message.proofs.fields_in_range.Tie as tie
 
 enum-known-m : tie.Need-enum-known-m
 enum-known-m c = search needs
@@ -56,8 +56,8 @@ returns-5 c = rw (c .before .before .m4 .given .1) (c .head-in-range4 .ensures)
 returns-6 : tie.Need-returns-6
 returns-6 c = rw (c .before .before .m5 .given .1) (c .head-in-range5 .ensures)
 
-pub in-range-spec : {M : Type 1} → statement M
-in-range-spec =
+pub fields-in-range-spec : {M : Type 1} → statement M
+fields-in-range-spec =
     tie.close
     (tie.spec
     enum-known-m

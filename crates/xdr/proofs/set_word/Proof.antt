@@ -1,11 +1,11 @@
--- `xdr::put_word` meets its contract: its four stores are one law of words. Assumes nothing.
+-- `xdr::set_word` meets its contract: its four stores are one law of words. Assumes nothing.
 use native.Mathlib.Omega.{arith}
 use lib.ListN.{length-set}
 use denote.Ref.{now}
 use Rattle.xdr.proofs.Laws.{word-stored}
 use borrow.Author.Needs.{needs}
-use Rattle.xdr.proofs.put_word.Statement.{statement}
-use Rattle.xdr.proofs.put_word.Tie as tie
+use Rattle.xdr.proofs.set_word.Statement.{statement}
+use Rattle.xdr.proofs.set_word.Tie as tie
 
 cast-buf : tie.Need-cast-buf
 cast-buf c = search needs
@@ -46,8 +46,8 @@ same-length c = search needs
 returns : tie.Need-returns
 returns c = word-stored (now (c .args .buf)) (c .args .at) (c .args .x) (c .pre)
 
-pub put-word-spec : {M : Type 1} → statement M
-put-word-spec =
+pub set-word-spec : {M : Type 1} → statement M
+set-word-spec =
     tie.close
     (tie.spec
     cast-buf

@@ -1,12 +1,12 @@
--- `tree_steps::look::look_over` meets its contract: after each turn what is held is what the rows passed say. Assumes nothing.
+-- `tree_crossing::look::look_over` meets its contract: after each turn what is held is what the rows passed say. Assumes nothing.
 use mathlib.Core.Path.{sym, _∙_}
 use Prim.Native.Nat.{_-_}
 use native.Mathlib.Omega.{arith}
 use denote.Ref.{now}
 use Rattle.tree_theory.specs.Table.{rows}
-use Rattle.tree_steps.proofs.Looking.{Walked, walk-start, walk-more, walk-counts, walk-stop, walk-end}
-use Rattle.tree_steps.proofs.look.look_over.Statement.{statement}
-use Rattle.tree_steps.proofs.look.look_over.Tie as tie
+use Rattle.tree_crossing.proofs.Looking.{Walked, walk-start, walk-more, walk-counts, walk-stop, walk-end}
+use Rattle.tree_crossing.proofs.look.look_over.Statement.{statement}
+use Rattle.tree_crossing.proofs.look.look_over.Tie as tie
 
 abbrev Inv-loop : tie.InvT-loop
 Inv-loop t r p rows l₀ l = Walked t r p l

@@ -5,7 +5,7 @@ use lib.ListN.{length}
 use Rattle.laws.specs.Lists.{any}
 use Rattle.tree_theory.specs.Machine.{Node, ADDED, present, above, blocks, crossed-with}
 use Rattle.tree_table.specs.Rows.{row-index}
-use Rattle.tree_steps.specs.declared.look.Look.{Look}
+use Rattle.tree_crossing.specs.declared.look.Look.{Look}
 
 abbrev pub look-of : ℕ → ℕ → List Node → Look
 look-of r p ns =

@@ -1,0 +1,2 @@
+-- What the rows say of an edge.
+pub mod Looked
