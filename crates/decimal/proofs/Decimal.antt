@@ -9,6 +9,7 @@ use lib.Dec.{ltb}
 use borrow.Author.Tests.{lt-ltb, le-ltb}
 use Rattle.laws.specs.Tests.{tests, by-test}
 use Rattle.laws.specs.Lists.{_∈_, every-snoc}
+use Rattle.laws.specs.Widths.{BELOW-64-BITS}
 use Rattle.decimal.specs.Digits.{BLANK, digit, digits-within, decimal, decimal-in, spelt-after, number-spelt}
 
 -- any budget above the number gives the same digits
@@ -86,7 +87,7 @@ decimal-length (suc k) n h =
     rw (decimal-more n big, length-append (decimal (n / 10)) (digit (n % 10) ∷ [])) (omega arith))
 
 -- a 64-bit number has at most 20
-pub decimal-of-64-bits : (n : ℕ) → n < 18446744073709551616 → length (decimal n) ≤ 20
+pub decimal-of-64-bits : (n : ℕ) → n < BELOW-64-BITS → length (decimal n) ≤ 20
 decimal-of-64-bits n h = decimal-length 19 n (omega arith)
 
 -- a byte has at most 3

@@ -9,10 +9,10 @@ use borrow.Author.Tests.{eqb-true, not-false}
 use Rattle.laws.specs.Tests.{by-test}
 use Rattle.laws.specs.First.{passed}
 use Rattle.numbers.specs.Numbers.{OK}
-use Rattle.tree_theory.specs.Table.{used, table-causes, path-causes, path-number, path-count}
+use Rattle.tree_theory.specs.Table.{MOST-WORDS, used, table-causes, path-causes, path-number, path-count}
 use Rattle.tree.proofs.PathCalls.{path-of}
 
-pub count-fits : (ws : List ℕ) (r : ℕ) (out : List ℕ) → path-count true ws r out ≤ 1024
+pub count-fits : (ws : List ℕ) (r : ℕ) (out : List ℕ) → path-count true ws r out ≤ MOST-WORDS
 unfolding path-number path-count
 count-fits ws r out =
     by-test (eqb (path-number true ws r out) OK)

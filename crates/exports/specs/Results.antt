@@ -2,6 +2,7 @@
 use Prim.Native.Nat.{ℕ}
 use Rattle.ids.specs.declared.Round.{Round}
 use Rattle.ids.specs.declared.Member.{Member}
+use Rattle.numbers.specs.Numbers.{OK}
 use Rattle.message.specs.declared.Message.{Message}
 use Rattle.message.specs.declared.Message.the-variants.{Start, Join, JoinVoted, Propose, Vote}
 use Rattle.message.specs.declared.Read.{Read}
@@ -17,12 +18,12 @@ as-play-answer r = record { number = r .number; accepted = r .accepted; messages
 
 -- a message that tells no vote; a value that its kind doesn't have is 0
 abbrev pub voteless : ℕ → Round → Member → ℕ → MessageResult
-voteless kind r s v = record { number = 0; kind = kind; round = r .0; sender = s .0; present = 0; voted = 0; value = v }
+voteless kind r s v = record { number = OK; kind = kind; round = r .0; sender = s .0; present = 0; voted = 0; value = v }
 
 abbrev pub message-result : Message → MessageResult
 message-result (Start r s) = voteless START-KIND r s 0
 message-result (Join r s) = voteless JOIN-KIND r s 0
-message-result (JoinVoted r s q w) = record { number = 0; kind = JOIN-KIND; round = r .0; sender = s .0; present = 1; voted = q .0; value = w }
+message-result (JoinVoted r s q w) = record { number = OK; kind = JOIN-KIND; round = r .0; sender = s .0; present = 1; voted = q .0; value = w }
 message-result (Propose r s v) = voteless PROPOSE-KIND r s v
 message-result (Vote r s) = voteless VOTE-KIND r s 0
 

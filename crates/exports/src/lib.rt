@@ -78,7 +78,7 @@ fn voteless(kind: u32, round: Round, sender: Member, value: u64) -> MessageResul
     ensures { λ r. ⌜ r ≡ voteless kind round sender value ⌝ }
 {
     MessageResult {
-        number: 0,
+        number: numbers::OK,
         kind,
         round: round.0,
         sender: sender.0,
@@ -101,7 +101,7 @@ fn message_result(m: Message) -> MessageResult
             voted,
             value,
         } => MessageResult {
-            number: 0,
+            number: numbers::OK,
             kind: JOIN_KIND,
             round: round.0,
             sender: sender.0,

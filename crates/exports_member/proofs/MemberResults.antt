@@ -1,6 +1,5 @@
 -- What the C functions of one member use: lengths that fit 32 bits, and a call's result as that of its outcome. Assumes nothing.
 use mathlib.Core.Path.{_≡_, refl, sym, ap, _∙_}
-use mathlib.Core.Bool.{Bool, true, false}
 use mathlib.Core.List.{List, [], _∷_, _++_}
 use Prim.Native.Nat.{ℕ, _≤_}
 use native.Mathlib.Omega.{arith}
@@ -9,6 +8,7 @@ use lib.ListN.{length}
 use Rattle.laws.specs.Tests.{by-test}
 use borrow.Author.Tests.{ne-eqb}
 use Rattle.laws.specs.First.{Cause, first, AllPassed, passed}
+use Rattle.numbers.specs.Numbers.{OK}
 use Rattle.message.specs.declared.Message.{Message}
 use Rattle.message.specs.declared.Message.the-variants.{Start, Join, JoinVoted, Propose, Vote}
 use Rattle.message.specs.Layout.{bytes, byte-count, longest-message}
@@ -20,7 +20,7 @@ use Rattle.member_record.specs.declared.MemberState.{MemberState}
 use Rattle.member.specs.Table.{Outcome}
 use Rattle.member_calls.specs.declared.reply.AfterCall.{AfterCall}
 use Rattle.member_calls.specs.declared.reply.Report.{Report}
-use Rattle.member_calls.specs.Reports.{reply-length, reported, LeavesReport}
+use Rattle.member_calls.specs.Reports.{reply-length, LeavesReport}
 use Rattle.member_fields.specs.declared.MemberFields.{MemberFields}
 use Rattle.exports_member.specs.declared.WriteResult.{WriteResult}
 use Rattle.exports_member.specs.Members.{call-result, member-result, fields-message, write-row, write-result, written-after}
@@ -43,7 +43,7 @@ sent-short (g ∷ gs) = bytes-short g
 pub written-short : (m : Message) (old : List ℕ) → writing m old .length ≤ longest-message
 unfolding writing
 written-short m old =
-    by-test (eqb (first (writer-row m old)) 0)
+    by-test (eqb (first (writer-row m old)) OK)
     (λ t. rw t (bytes-short m))
     (λ t. rw t (omega arith))
 
@@ -71,14 +71,14 @@ first-behind (c ∷ cs) ds p = rw (p .0) (first-behind cs ds (p .1))
 
 -- what is written, by the number of the fields
 module _ (k r s p q v : ℕ) (old : List ℕ) (n : ℕ) (row : n ≡ first (fields-row k p q v)) where
-  pub fields-refused : (n ≡ 0 → ⊥) → (record { number = n; length = 0 } ≡ write-result k r s p q v old) × (old ≡ written-after k r s p q v old)
+  pub fields-refused : (n ≡ OK → ⊥) → (record { number = n; length = 0 } ≡ write-result k r s p q v old) × (old ≡ written-after k r s p q v old)
   unfolding write-result written-after write-row
   fields-refused nz =
       let front : first (write-row k r s p q v old) ≡ n = first-front (fields-row k p q v) (writer-row (fields-message k r s p q v) old)
       (λ z. nz (row ∙ z)) ∙ sym row in
-      (rw (front, ne-eqb n 0 nz), rw (front, ne-eqb n 0 nz))
+      (rw (front, ne-eqb n OK nz), rw (front, ne-eqb n OK nz))
 
-  pub fields-written : n ≡ 0 → (w : Written) (new : List ℕ) → WriterLeaves (fields-message k r s p q v) old w new
+  pub fields-written : n ≡ OK → (w : Written) (new : List ℕ) → WriterLeaves (fields-message k r s p q v) old w new
       → (record { number = w .number; length = w .length } ≡ write-result k r s p q v old) × (new ≡ written-after k r s p q v old)
   unfolding write-result written-after write-row writing buffer-after fields-row
   fields-written z w new l =

@@ -5,7 +5,7 @@ use Prim.Native.Nat.{ℕ}
 use lib.ListN.{length}
 use lib.Dec.{eqb}
 use Rattle.laws.specs.First.{Cause, _gives_, first}
-use Rattle.numbers.specs.Numbers.{RECORD-UNSOUND}
+use Rattle.numbers.specs.Numbers.{OK, RECORD-UNSOUND}
 use Rattle.message.specs.declared.Message.{Message}
 use Rattle.message.specs.Layout.{bytes}
 use Rattle.message.specs.Writing.{in-front, writer-row}
@@ -27,7 +27,7 @@ refused-call f k = record { number = k; sent = 0; round = 0; parent = 0; value =
 
 -- the record that goes back: the one that came, where the call is refused, else the one after
 abbrev pub fields-after : MemberFields → MemberState → ℕ → MemberFields
-fields-after f m k = cond (eqb k 0) (fields-of m) f
+fields-after f m k = cond (eqb k OK) (fields-of m) f
 
 -- what a call hands back
 abbrev pub call-result : MemberFields → AfterCall → MemberResult
@@ -73,10 +73,10 @@ unfolding write-row
 write-result k r s p q v old =
     record {
       number = first (write-row k r s p q v old);
-      length = cond (eqb (first (write-row k r s p q v old)) 0) (length (bytes (fields-message k r s p q v))) 0;
+      length = cond (eqb (first (write-row k r s p q v old)) OK) (length (bytes (fields-message k r s p q v))) 0;
     }
 
 -- the message at the front, and the bytes behind it as they were; a refusal leaves the buffer as it was
 unfoldable pub written-after : ℕ → ℕ → ℕ → ℕ → ℕ → ℕ → List ℕ → List ℕ
 unfolding write-row
-written-after k r s p q v old = cond (eqb (first (write-row k r s p q v old)) 0) (in-front (fields-message k r s p q v) old) old
+written-after k r s p q v old = cond (eqb (first (write-row k r s p q v old)) OK) (in-front (fields-message k r s p q v) old) old

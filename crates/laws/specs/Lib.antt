@@ -2,6 +2,7 @@
 pub mod Tests
 pub mod Conjunction
 pub mod Numbers
+pub mod Widths
 pub mod Lists
 pub mod Elements
 pub mod Parts

@@ -81,10 +81,6 @@ module _ {ℓ} {A : Type ℓ} where
       let q : l ++ x ∷ [] ≡ pre ++ a ∷ post = cc in
       snoc-cut l pre post x a q (λ rest u v. f rest (rw (p, u) refl) v) (λ u v w. g (rw (p, u) refl) v w)
 
-pub any-map {ℓ κ} : {A : Type ℓ} {B : Type κ} (p : B → Bool) (f : A → B) (l : List A) → any p (map f l) ≡ any (λ a. p (f a)) l
-any-map p f [] = refl
-any-map p f (x ∷ l) = rw (any-map p f l) refl
-
 -- two lists mapped alike are alike where the functions agree
 pub map-same {ℓ κ} : {A : Type ℓ} {B : Type κ} (f g : A → B) (l : List A) → ((a : A) → a ∈ l → f a ≡ g a) → map f l ≡ map g l
 map-same f g [] h = refl

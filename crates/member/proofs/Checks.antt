@@ -10,6 +10,7 @@ use Rattle.laws.specs.Tests.{tests, by-test, and-left, and-right}
 use Rattle.laws.specs.First.{Cause, first, passed}
 use Rattle.ids.specs.declared.Round.{Round}
 use Rattle.ids.specs.declared.Member.{Member}
+use Rattle.numbers.specs.Numbers.{OK}
 use Rattle.message.specs.declared.Message.{Message}
 use Rattle.message.specs.Fields.{in-range}
 use Rattle.message.specs.declared.Message.the-variants.{Start, Join, JoinVoted, Propose, Vote}
@@ -25,18 +26,18 @@ use Rattle.member.specs.Table.{Outcome, refused, silent, unless, complet
 
 -- the causes, the record, what the row says, and the number
 module _ (cs : List Cause) (m : MemberState) (o : Outcome) {k : ℕ} (is : k ≡ first cs) where
-  pub check-refused : (k ≡ 0 → ⊥) → {t : Move} → MoveIs (refused k m) t → MoveIs (unless cs m o) t
+  pub check-refused : (k ≡ OK → ⊥) → {t : Move} → MoveIs (refused k m) t → MoveIs (unless cs m o) t
   check-refused nz e =
       let n : first cs ≡ k = sym is in
-      record { equals = rw (n, ne-eqb k 0 nz) (e .equals); numbered = e .numbered }
+      record { equals = rw (n, ne-eqb k OK nz) (e .equals); numbered = e .numbered }
 
-  pub check-passed : k ≡ 0 → {t : Move} → MoveIs o t → MoveIs (unless cs m o) t
+  pub check-passed : k ≡ OK → {t : Move} → MoveIs o t → MoveIs (unless cs m o) t
   check-passed z e =
-      let n : first cs ≡ 0 = sym is ∙ z in
+      let n : first cs ≡ OK = sym is ∙ z in
       record { equals = rw n (e .equals); numbered = e .numbered }
 
 -- a sender that passed is a member
-pub check-sender : (phase : ℕ) (m : MemberState) (r : Round) (s : Member) {k : ℕ} → k ≡ first (count-causes phase m r s) → k ≡ 0 → s .0 < m .who .n
+pub check-sender : (phase : ℕ) (m : MemberState) (r : Round) (s : Member) {k : ℕ} → k ≡ first (count-causes phase m r s) → k ≡ OK → s .0 < m .who .n
 check-sender phase m r s e z =
     let (t, rest) = passed (count-causes phase m r s) refl (sym e ∙ z) in
     omega tests
@@ -83,10 +84,10 @@ causes-byte m e = first-byte (step-causes m e) (each e)
     each (delivers (Vote r s)) = refl
 
 -- the number of an answer that refuses is not 0
-pub refused-some : {a : StepAnswer} {k : ℕ} → a ≡ Refused k → numbered-answer a ≡ true → k ≡ 0 → ⊥
+pub refused-some : {a : StepAnswer} {k : ℕ} → a ≡ Refused k → numbered-answer a ≡ true → k ≡ OK → ⊥
 refused-some {a} {k} q h z =
-    let n : not (eqb k 0) ≡ true = subst (λ b. numbered-answer b ≡ true) q h in
-    absurd (omega (tests, not-true (eqb k 0) n))
+    let n : not (eqb k OK) ≡ true = subst (λ b. numbered-answer b ≡ true) q h in
+    absurd (omega (tests, not-true (eqb k OK) n))
 
 -- what an answer sends is within the ranges of its kind
 pub sent-in-bounds : (m : MemberState) {a : StepAnswer} {g : Message} → a ≡ Sent g → Kept (answer-outcome m a) → in-range g ≡ true

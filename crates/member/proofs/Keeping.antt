@@ -14,6 +14,7 @@ use Rattle.laws.specs.First.{first, AllPassed, passed}
 use Rattle.ids.specs.declared.Round.{Round}
 use Rattle.ids.specs.declared.Member.{Member}
 use Rattle.ids.specs.Ranges.{above-range, out-of-range, no-member}
+use Rattle.numbers.specs.Numbers.{OK}
 use Rattle.quorum.specs.Count.{some}
 use Rattle.message.specs.declared.Message.{Message}
 use Rattle.message.specs.declared.Message.the-variants.{Start, Join, JoinVoted, Propose, Vote}
@@ -44,8 +45,8 @@ own-head m r s range =
     let e : no-member (m .who .me .0) ≡ false = omega tests in
     rw (range, e)
 
-start-kept : (m : MemberState) (r : Round) (offer : ℕ) → SoundParts m → AllPassed (start-call-causes m r) → Kept (start-call-row m r offer)
-start-kept m r offer s (range, (leader, (higher, end))) =
+start-call-kept : (m : MemberState) (r : Round) (offer : ℕ) → SoundParts m → AllPassed (start-call-causes m r) → Kept (start-call-row m r offer)
+start-call-kept m r offer s (range, (leader, (higher, end))) =
     record {
       number-byte = omega arith;
       sound-after = whole (starting m r offer) (record {
@@ -235,15 +236,15 @@ head-range : (r : Round) (t : Member) → head-in-range r t ≡ true → out-of-
 head-range r t h = not-true (out-of-range (r .0)) (and-left (not (out-of-range (r .0))) (not (no-member (t .0))) h)
 
 awaits-count : {phase : ℕ} (m : MemberState) (r : Round) (t : Member) → out-of-range (r .0) ≡ false → length (m .lead .flags) ≡ 7 → sound m ≡ true →
-    phase < DECIDED → IDLE < phase → first (count-causes phase m r t) ≡ 0 → Awaited phase m r t
+    phase < DECIDED → IDLE < phase → first (count-causes phase m r t) ≡ OK → Awaited phase m r t
 awaits-count {phase} m r t range seven s early active h =
     record { seven = seven; is-sound = parts m s; range = range; early = early; active = active; passes = passed (count-causes phase m r t) refl h }
 
 -- each accepted step of a sound record, at a message within its ranges
-pub row-kept : (m : MemberState) (e : MemberEvent) → length (m .lead .flags) ≡ 7 → sound m ≡ true → fitting e ≡ true → first (step-causes m e) ≡ 0
+pub row-kept : (m : MemberState) (e : MemberEvent) → length (m .lead .flags) ≡ 7 → sound m ≡ true → fitting e ≡ true → first (step-causes m e) ≡ OK
     → Kept (step-row m e)
 unfolding step-causes step-row
-row-kept m (starts r offer) seven s f h = start-kept m r offer (parts m s) (passed (start-call-causes m r) refl h)
+row-kept m (starts r offer) seven s f h = start-call-kept m r offer (parts m s) (passed (start-call-causes m r) refl h)
 row-kept m (delivers (Start r t)) seven s f h = START-kept m r t seven (parts m s) (head-range r t f) (passed (START-causes m r t) refl h)
 row-kept m (delivers (Join r t)) seven s f h = JOIN-kept (awaits-count m r t (head-range r t f) seven s (omega arith) (omega arith) h)
 row-kept m (delivers (JoinVoted r t q w)) seven s f h =
@@ -257,7 +258,7 @@ row-kept m (delivers (Vote r t)) seven s f h = VOTE-kept (awaits-count m r t (he
 pub step-kept : (m : MemberState) (e : MemberEvent) → length (m .lead .flags) ≡ 7 → sound m ≡ true → fitting e ≡ true → Kept (sound-step m e)
 unfolding sound-step
 step-kept m e seven s f =
-    by-test (eqb (first (step-causes m e)) 0)
+    by-test (eqb (first (step-causes m e)) OK)
     (λ h. rw h (row-kept m e seven s f (omega tests)))
     (λ h. rw h (record { number-byte = causes-byte m e; sound-after = s; seven-after = seven; sent-in-range = λ g i. elim i [ ] }))
 

@@ -6,7 +6,7 @@ use lib.Dec.{eqb}
 use Rattle.laws.specs.First.{Cause, _gives_, first}
 use Rattle.ids.specs.declared.Round.{Round}
 use Rattle.ids.specs.declared.Member.{Member}
-use Rattle.numbers.specs.Numbers.{RECORD-UNSOUND, MESSAGE-FIELD}
+use Rattle.numbers.specs.Numbers.{OK, RECORD-UNSOUND, MESSAGE-FIELD}
 use Rattle.message.specs.declared.Message.{Message}
 use Rattle.message.specs.declared.Message.the-variants.{Start, Join, JoinVoted, Propose, Vote}
 use Rattle.message.specs.Fields.{in-range}
@@ -32,10 +32,10 @@ pub record Outcome : Type 0 where
   pub named : Named
 
 abbrev pub sends : MemberState → Message → Outcome
-sends m g = record { number = 0; state = m; sent = g ∷ []; named = nothing }
+sends m g = record { number = OK; state = m; sent = g ∷ []; named = nothing }
 
 abbrev pub silent : MemberState → Outcome
-silent m = record { number = 0; state = m; sent = []; named = nothing }
+silent m = record { number = OK; state = m; sent = []; named = nothing }
 
 -- a refused step leaves the record as it was, sends nothing and names nothing
 abbrev pub refused : ℕ → MemberState → Outcome
@@ -43,7 +43,7 @@ refused k m = record { number = k; state = m; sent = []; named = nothing }
 
 -- the first cause that holds refuses the step; else it is what the row says
 abbrev pub unless : List Cause → MemberState → Outcome → Outcome
-unless cs m o = cond (eqb (first cs) 0) o (refused (first cs) m)
+unless cs m o = cond (eqb (first cs) OK) o (refused (first cs) m)
 
 -- start(r, offer): L = r, phase 1, X = offer, B = 0, flags cleared; sends START
 abbrev pub start-call-row : MemberState → Round → ℕ → Outcome
@@ -61,7 +61,7 @@ complete m = eqb (flagged (m .lead .flags)) (needed (m .who) (m .lead .phase))
 abbrev pub proposes : MemberState → Round → Outcome
 proposes m r =
     record {
-      number = 0;
+      number = OK;
       state = proposing m;
       sent = Propose r (m .who .me) (m .lead .value) ∷ [];
       named = proposal (r .0) (m .lead .value) (m .lead .source .0);
@@ -73,7 +73,7 @@ PROPOSE-row m r v = sends (voting m r v) (Vote r (m .who .me))
 
 -- phase 3, the answer names r, X: commit(r)
 abbrev pub decides : MemberState → Round → Outcome
-decides m r = record { number = 0; state = deciding m; sent = []; named = decision (r .0) (m .lead .value) }
+decides m r = record { number = OK; state = deciding m; sent = []; named = decision (r .0) (m .lead .value) }
 
 -- what happens once the flags of a phase are complete
 abbrev pub completes : ℕ → MemberState → Round → Outcome

@@ -1,13 +1,14 @@
 -- What a call comes to, by the tests that the code makes: the row "record, then buffer" and then the further causes. Assumes nothing.
-use mathlib.Core.Path.{_≡_, refl, sym, ap, _∙_}
-use mathlib.Core.Bool.{true, false}
+use mathlib.Core.Path.{_≡_, refl, sym, _∙_}
+use mathlib.Core.Bool.{true}
 use mathlib.Core.List.{List}
 use Prim.Native.Nat.{ℕ, _≤_}
 use lib.ListN.{length}
-use lib.Dec.{eqb, ltb}
+use lib.Dec.{ltb}
 use borrow.Author.Tests.{le-ltb, not-false}
 use Rattle.laws.specs.Tests.{tests, by-test}
 use Rattle.laws.specs.First.{Cause, first, passed}
+use Rattle.numbers.specs.Numbers.{OK}
 use Rattle.message.specs.declared.Message.{Message}
 use Rattle.message.specs.Layout.{longest-message}
 use Rattle.message.specs.declared.Read.the-variants.{Got, Refused}
@@ -20,12 +21,12 @@ use Rattle.member_calls.specs.Calls.{record-row, call-outcome, deliver-c
 
 -- the row's number, as the code has it
 module _ (m : MemberState) (old : List ℕ) (k : ℕ) (row : k ≡ first (record-row m (length old))) where
-  pub passing : k ≡ 0 → (sound m ≡ true) × (longest-message ≤ length old)
+  pub passing : k ≡ OK → (sound m ≡ true) × (longest-message ≤ length old)
   passing z =
       let (is-sound, (room, end)) = passed (record-row m (length old)) refl (sym row ∙ z) in
       (not-false (sound m) is-sound, omega tests)
 
-  pub refusing : (cs : List Cause) (o : Outcome) → (k ≡ 0 → ⊥) → call-outcome m old cs o ≡ refused k m
+  pub refusing : (cs : List Cause) (o : Outcome) → (k ≡ OK → ⊥) → call-outcome m old cs o ≡ refused k m
   refusing cs o nz =
       by-test (sound m)
       (λ t. by-test (ltb (length old) longest-message)
@@ -33,12 +34,12 @@ module _ (m : MemberState) (old : List ℕ) (k : ℕ) (row : k ≡ first (record
       (λ s. absurd (nz (row ∙ rw (t, s)))))
       (λ t. rw (row, t))
 
-  pub further : (cs : List Cause) (o : Outcome) → k ≡ 0 → call-outcome m old cs o ≡ unless cs m o
+  pub further : (cs : List Cause) (o : Outcome) → k ≡ OK → call-outcome m old cs o ≡ unless cs m o
   further cs o z =
       let (is-sound, room) = passing z in
       rw (is-sound, le-ltb (length old) longest-message room)
 
-module _ (m : MemberState) (s old : List ℕ) (k : ℕ) (row : k ≡ first (record-row m (length old))) (z : k ≡ 0) where
+module _ (m : MemberState) (s old : List ℕ) (k : ℕ) (row : k ≡ first (record-row m (length old))) (z : k ≡ OK) where
   -- bytes that are no message
   pub unread : (n : ℕ) → reading s ≡ Refused n → deliver-call m s old ≡ refused n m
   unfolding deliver-call

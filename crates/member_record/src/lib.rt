@@ -12,7 +12,7 @@ ghost use Rattle.member_record.specs.Record.{changes-durable, allowed, l
 ghost use Rattle.member_record.specs.Record.{sound-durable, sound-flags, sound-idle, sound-count, sound-leading, sound-lead, sound};
 
 // The phases of a leader: it has led no round yet; it counts JOINs; it has proposed and counts VOTEs; it has decided.
-pub const IDLE: u32 = 0;
+const IDLE: u32 = 0;
 
 pub const COLLECTING: u32 = 1;
 

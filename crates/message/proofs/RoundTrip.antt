@@ -17,6 +17,7 @@ use Rattle.laws.specs.Answers.{number-kept}
 use Rattle.ids.specs.declared.Round.{Round}
 use Rattle.ids.specs.declared.Member.{Member}
 use Rattle.ids.specs.Ranges.{out-of-range, above-range, no-member}
+use Rattle.numbers.specs.Numbers.{OK}
 use Rattle.xdr.specs.Words.{AllBytes, word-at, hyper-at}
 use Rattle.xdr.specs.Items.{Item, integer, long, encoded, Stand}
 use Rattle.xdr.proofs.Laws.{hyper-at-small}
@@ -88,10 +89,10 @@ whole-read : (s : List ℕ) (m : Message) → Whole s → decoded s ≡ m → in
 whole-read s m w e h = right-size s (w .known) (w .exact) ∙ rw (e, h)
 
 -- bytes that read as a message get no number of the row, spell it, and it is in range
-pub got : (s : List ℕ) (m : Message) → reading s ≡ Got m → (first (message-row s) ≡ 0) × (decoded s ≡ m) × (in-range m ≡ true)
+pub got : (s : List ℕ) (m : Message) → reading s ≡ Got m → (first (message-row s) ≡ OK) × (decoded s ≡ m) × (in-range m ≡ true)
 unfolding reading
 got s m h =
-    let zero-first : first (message-row s) ≡ 0 = sym (read-numbered s) ∙ ap read-number h in
+    let zero-first : first (message-row s) ≡ OK = sym (read-numbered s) ∙ ap read-number h in
     let reads : Got (decoded s) ≡ Got m = sym (ap (λ (n : ℕ). read-answer n (decoded s)) zero-first) ∙ h in
     let same : decoded s ≡ m = cc in
     let (long-enough, (known, (length-right, (present, (sized, (ranged, end)))))) = passed (message-row s) refl zero-first in
@@ -103,12 +104,12 @@ IsGot (Got m) = Unit {0}
 IsGot (Refused n) = ⊥
 
 -- bytes that are refused get their number from the row, and it isn't 0
-pub refused-read : (s : List ℕ) (n : ℕ) → reading s ≡ Refused n → (first (message-row s) ≡ n) × (eqb n 0 ≡ false)
+pub refused-read : (s : List ℕ) (n : ℕ) → reading s ≡ Refused n → (first (message-row s) ≡ n) × (eqb n OK ≡ false)
 unfolding reading
 refused-read s n h =
     let number : first (message-row s) ≡ n = sym (read-numbered s) ∙ ap read-number h in (
       number,
-      by-test (eqb n 0) (λ t.
+      by-test (eqb n OK) (λ t.
           let clash : Got (decoded s) ≡ Refused n = rw (number, t) at h in absurd (subst IsGot clash tt)) (λ t. t),
     )
 
@@ -249,7 +250,7 @@ spelt-front m behind v h =
     rw (own, take-at l behind (size l) exact) e
 
 -- a message in range passes the writer's row where the buffer has room for any
-fitting : (m : Message) (old : List ℕ) → longest-message ≤ length old → in-range m ≡ true → first (writer-row m old) ≡ 0
+fitting : (m : Message) (old : List ℕ) → longest-message ≤ length old → in-range m ≡ true → first (writer-row m old) ≡ OK
 fitting m old l h = rw (le-ltb (length old) longest-message l, h)
 
 -- it is written, with its own length
@@ -264,12 +265,12 @@ unfolding buffer-after
 left-in-front m old l h = rw (fitting m old l h)
 
 -- a refusal leaves the buffer as it was
-pub left-as-it-was : (m : Message) (old : List ℕ) → (first (writer-row m old) ≡ 0 → ⊥) → buffer-after m old ≡ old
+pub left-as-it-was : (m : Message) (old : List ℕ) → (first (writer-row m old) ≡ OK → ⊥) → buffer-after m old ≡ old
 unfolding buffer-after
-left-as-it-was m old refused = rw (ne-eqb (first (writer-row m old)) 0 refused)
+left-as-it-was m old refused = rw (ne-eqb (first (writer-row m old)) OK refused)
 
 -- a message that the writer took is in range, and the length answered of the buffer is its bytes
-written-taken : (m : Message) (old : List ℕ) → writing m old .number ≡ 0 → (in-range m ≡ true) × (take (writing m old .length) (buffer-after m old) ≡ bytes m)
+written-taken : (m : Message) (old : List ℕ) → writing m old .number ≡ OK → (in-range m ≡ true) × (take (writing m old .length) (buffer-after m old) ≡ bytes m)
 unfolding writing buffer-after in-front
 written-taken m old ok =
     let (room, (ranged, end)) = passed (writer-row m old) refl ok in

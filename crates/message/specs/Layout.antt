@@ -1,6 +1,7 @@
 -- The layout of a message (01, "Messages"): its numbers in order, their places, and how many bytes they are. A change of the layout is made here.
 use mathlib.Core.List.{List, [], _∷_, _++_}
 use Prim.Native.Nat.{ℕ, _+_, _<_}
+use Rattle.laws.specs.Widths.{BELOW-64-BITS}
 use Rattle.ids.specs.declared.Round.{Round}
 use Rattle.ids.specs.declared.Member.{Member}
 use Rattle.xdr.specs.Words.{word-at, hyper-at}
@@ -120,6 +121,6 @@ proposed-in s = hyper-at s proposed-place
 abbrev pub ValueFits : Message → Type 0
 ValueFits (Start r s) = Unit {0}
 ValueFits (Join r s) = Unit {0}
-ValueFits (JoinVoted r s q w) = w < 18446744073709551616
-ValueFits (Propose r s v) = v < 18446744073709551616
+ValueFits (JoinVoted r s q w) = w < BELOW-64-BITS
+ValueFits (Propose r s v) = v < BELOW-64-BITS
 ValueFits (Vote r s) = Unit {0}

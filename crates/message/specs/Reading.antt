@@ -6,7 +6,7 @@ use Prim.Native.Nat.{ℕ}
 use lib.ListN.{length}
 use lib.Dec.{ltb, eqb}
 use Rattle.laws.specs.First.{Cause, _gives_, first}
-use Rattle.numbers.specs.Numbers.{MESSAGE-LENGTH, MESSAGE-KIND, MESSAGE-FIELD}
+use Rattle.numbers.specs.Numbers.{OK, MESSAGE-LENGTH, MESSAGE-KIND, MESSAGE-FIELD}
 use Rattle.message.specs.declared.Message.{Message}
 use Rattle.message.specs.declared.Message.the-variants.{Start, Join, JoinVoted, Propose, Vote}
 use Rattle.message.specs.declared.Read.{Read}
@@ -17,7 +17,7 @@ use Rattle.message.specs.Layout.{kind-in, message-round, message-sender,
 
 -- 01's number of an answer: 0 is OK
 abbrev pub read-number : Read → ℕ
-read-number (Got m) = 0
+read-number (Got m) = OK
 read-number (Refused n) = n
 
 abbrev pub is-join : List ℕ → Bool
@@ -69,7 +69,7 @@ message-row s =
 
 -- the answer of a number; 0 comes with the message
 abbrev pub read-answer : ℕ → Message → Read
-read-answer n m = cond (eqb n 0) (Got m) (Refused n)
+read-answer n m = cond (eqb n OK) (Got m) (Refused n)
 
 -- what a message reads as where only its ranges are open
 abbrev pub ranged : Message → Read

@@ -6,7 +6,7 @@ use Prim.Native.Nat.{ℕ}
 use lib.ListN.{length, drop}
 use lib.Dec.{ltb, eqb}
 use Rattle.laws.specs.First.{Cause, _gives_, first}
-use Rattle.numbers.specs.Numbers.{REPLY-TOO-SHORT, MESSAGE-FIELD}
+use Rattle.numbers.specs.Numbers.{OK, REPLY-TOO-SHORT, MESSAGE-FIELD}
 use Rattle.message.specs.declared.Message.{Message}
 use Rattle.message.specs.declared.Written.{Written}
 use Rattle.message.specs.Fields.{in-range}
@@ -22,7 +22,7 @@ writer-row m old = short-buffer (length old) gives REPLY-TOO-SHORT ∷ not (in-r
 
 -- the number; the length is that of the message, and 0 with a refusal
 unfoldable pub writing : Message → List ℕ → Written
-writing m old = record { number = first (writer-row m old); length = cond (eqb (first (writer-row m old)) 0) (length (bytes m)) 0 }
+writing m old = record { number = first (writer-row m old); length = cond (eqb (first (writer-row m old)) OK) (length (bytes m)) 0 }
 
 -- the message at the front, and the bytes behind it as they were
 unfoldable pub in-front : Message → List ℕ → List ℕ
@@ -30,7 +30,7 @@ in-front m old = bytes m ++ drop (length (bytes m)) old
 
 -- the buffer after the call: a refusal leaves it as it was
 unfoldable pub buffer-after : Message → List ℕ → List ℕ
-buffer-after m old = cond (eqb (first (writer-row m old)) 0) (in-front m old) old
+buffer-after m old = cond (eqb (first (writer-row m old)) OK) (in-front m old) old
 
 -- the writer's answer, and the buffer after it
 pub record WriterLeaves (m : Message) (old : List ℕ) (r : Written) (new : List ℕ) : Type 0 where

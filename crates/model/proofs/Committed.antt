@@ -10,6 +10,7 @@ use borrow.Author.Tests.{not-false, eq-eqb}
 use Rattle.laws.specs.Tests.{tests, by-test, clash, and-left, or-left, or-right}
 use Rattle.laws.specs.Lists.{_∈_, any, any-none, none-any, cut}
 use Rattle.laws.specs.First.{passed}
+use Rattle.numbers.specs.Numbers.{OK}
 use Rattle.tree_theory.specs.Machine.{Call, add, commit, Node, ADDED, COMMITTED, has-round, present, find, above, strikes, struck, new-node}
 use Rattle.tree_theory.specs.Machine.{commit-node, causes, answer, change, step, after, answers}
 use Rattle.tree_theory.proofs.Grown.{Grown, placed-cut}
@@ -78,7 +79,7 @@ commits-in [] = 0
 commits-in (add r v p ∷ cs) = commits-in cs
 commits-in (commit r ∷ cs) = suc (commits-in cs)
 
-changed-count : (valued : Bool) (rows : ℕ) (ns : List Node) (c : Call) → Grown valued rows ns → answer valued rows ns c ≡ 0 →
+changed-count : (valued : Bool) (rows : ℕ) (ns : List Node) (c : Call) → Grown valued rows ns → answer valued rows ns c ≡ OK →
     committed-nodes (change ns c) ≡ committed-nodes ns + commits-in (c ∷ [])
 unfolding change answer commits-in committed-nodes
 changed-count valued rows ns (add r v p) G h =
@@ -89,13 +90,13 @@ changed-count valued rows ns (commit r) G h =
 
 -- as many as commits, beside those at first, if each call gets OK
 pub committed-count : (valued : Bool) (rows : ℕ) (ns : List Node) (cs : List Call) → 0 < rows → Grown valued rows ns →
-    ((n : ℕ) → n ∈ answers valued rows ns cs → n ≡ 0) → committed-nodes (after valued rows ns cs) ≡ committed-nodes ns + commits-in cs
+    ((n : ℕ) → n ∈ answers valued rows ns cs → n ≡ OK) → committed-nodes (after valued rows ns cs) ≡ committed-nodes ns + commits-in cs
 unfolding after answers commits-in
 committed-count valued rows ns [] pos G f = omega arith
 committed-count valued rows ns (c ∷ cs) pos G f =
-    let z : answer valued rows ns c ≡ 0 = f (answer valued rows ns c) (here refl) in
+    let z : answer valued rows ns c ≡ OK = f (answer valued rows ns c) (here refl) in
     let now : committed-nodes (step valued rows ns c) ≡ committed-nodes ns + commits-in (c ∷ []) =
-    rw (step-ok valued rows ns c (eq-eqb (answer valued rows ns c) 0 z)) (changed-count valued rows ns c G z) in
+    rw (step-ok valued rows ns c (eq-eqb (answer valued rows ns c) OK z)) (changed-count valued rows ns c G z) in
     let rest : committed-nodes (after valued rows (step valued rows ns c) cs) ≡ committed-nodes (step valued rows ns c) + commits-in cs =
     committed-count valued rows (step valued rows ns c) cs pos (step-grown valued rows ns c G pos) (λ n i. f n (there i)) in
     omega (arith, one-by-one c cs)

@@ -30,8 +30,8 @@ module _ (z : Sizes) (es : List Event) (ok : allowed (z .n) ≡ true) where
   made-holds = holds z ok es .made-so
 
   -- the four properties of the calls made
-  pub four : Properties true (calls (ended z es .made))
-  four = made-holds .properties
+  pub made-properties : Properties true (calls (ended z es .made))
+  made-properties = made-holds .properties
 
   -- their rounds are in range
   pub rounds-in-range : InRange (calls (ended z es .made))
@@ -44,7 +44,7 @@ module _ (z : Sizes) (es : List Event) (ok : allowed (z .n) ≡ true) where
 
     -- so the tree says OK to each call
     pub all-ok : AllOk true (z .table) (calls (ended z es .made))
-    all-ok = ok-exactly true (z .table) (calls (ended z es .made)) rounds-in-range adds-fit .1 four
+    all-ok = ok-exactly true (z .table) (calls (ended z es .made)) rounds-in-range adds-fit .1 made-properties
 
     -- and the tree that they leave is told by them
     pub tree-told : Told true (z .table) (calls (ended z es .made)) (after true (z .table) fresh (calls (ended z es .made)))

@@ -11,6 +11,7 @@ use Rattle.laws.specs.Lists.{_∈_}
 use Rattle.laws.specs.First.{first, passed}
 use Rattle.ids.specs.declared.Round.{Round}
 use Rattle.ids.specs.declared.Member.{Member}
+use Rattle.numbers.specs.Numbers.{OK}
 use Rattle.tree_theory.proofs.Calls.{none}
 use Rattle.message.specs.declared.Message.{Message}
 use Rattle.message.specs.declared.Message.the-variants.{Start, Join, JoinVoted, Propose, Vote}
@@ -31,7 +32,7 @@ use Rattle.model.proofs.Invariant.{join-quorum, vote-quorum, JoinOf, ca
 use Rattle.model.proofs.Grows.{New, keep}
 use Rattle.model.proofs.Meeting.{allowed-meets}
 use Rattle.model.proofs.Counts.{Counts, counts-of, counts-adopted}
-use Rattle.model.proofs.Rows.{start-new, START-new, PROPOSE-new, JOIN-new, VOTE-new}
+use Rattle.model.proofs.Rows.{start-call-new, START-new, PROPOSE-new, JOIN-new, VOTE-new}
 
 -- the events of one member, whose record is m
 module _ (z : Sizes) (o : Office) (offers : List ℕ) (I : Invariant z o offers) (meets : z .n < join-quorum (z .n) + vote-quorum (z .n))
@@ -79,7 +80,7 @@ module _ (z : Sizes) (o : Office) (offers : List ℕ) (I : Invariant z o offers)
   join-new g r s k i join carries low now e C St =
       rw e (JOIN-new z o offers I meets t k C St s (omega (tests, M .size)) now (record { message = g; is-sent = i; is-join = join; at-most = carries }))
 
-  message-new : (g : Message) → g ∈ o .sent → in-range g ≡ true → first (step-causes m (delivers g)) ≡ 0 →
+  message-new : (g : Message) → g ∈ o .sent → in-range g ≡ true → first (step-causes m (delivers g)) ≡ OK →
       (proposes-one (step-row m (delivers g) .named) ≡ true → suc (proposals (o .made)) < z .table) → New z o offers t (step-row m (delivers g)) []
   unfolding step-causes step-row
   message-new (Start r s) i f c room = START-new z o offers I t m M S r s (passed (START-causes m r s) refl c)
@@ -115,7 +116,7 @@ module _ (z : Sizes) (ok : allowed (z .n) ≡ true) where
     event-new (start k r x) a =
         let (c, same) = accepted-row z o K (start k r x) a in
         let m : MemberState = member-at z o k in
-        rw same (start-new z o offers I k m (K .each k (a .member)) (I .members k (a .member)) (round-number r) x
+        rw same (start-call-new z o offers I k m (K .each k (a .member)) (I .members k (a .member)) (round-number r) x
         (passed (start-call-causes m (round-number r)) refl c))
     event-new (deliver j k) a =
         let (c, same) = accepted-row z o K (deliver j k) a in
@@ -127,7 +128,7 @@ module _ (z : Sizes) (ok : allowed (z .n) ≡ true) where
     pub next-holds : (e : Event) → Invariant z (next z o e) (offers ++ offers-at z o e)
     unfolding next
     next-holds e =
-        by-test (eqb (event-answer z o e) 0)
+        by-test (eqb (event-answer z o e) OK)
         (λ t. let a : EventAccepted z o e = was-accepted z o e (omega tests) in
         rw t (keep z o offers (at-member e) (event-outcome z o e) (offer-of e) K I (a .member) (sent-by z o K e a) (event-new e a)))
         (λ t. rw t (subst (Invariant z o) (sym (append-nil offers)) I))

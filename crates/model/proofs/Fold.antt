@@ -8,26 +8,27 @@ use lib.ListN.{length}
 use lib.Dec.{eqb}
 use borrow.Author.Tests.{eq-eqb}
 use Rattle.laws.specs.Tests.{by-test}
+use Rattle.numbers.specs.Numbers.{OK}
 use Rattle.model.specs.Model.{Sizes, Event, Office, event-answer, taken, next, office-after, event-answers, offers-at, offered}
 use Rattle.model.specs.Counts.{zeros, accepted-events}
 
 module _ (z : Sizes) where
-  pub next-taken : (o : Office) (e : Event) → event-answer z o e ≡ 0 → next z o e ≡ taken z o e
+  pub next-taken : (o : Office) (e : Event) → event-answer z o e ≡ OK → next z o e ≡ taken z o e
   unfolding next
-  next-taken o e h = rw (eq-eqb (event-answer z o e) 0 h) refl
+  next-taken o e h = rw (eq-eqb (event-answer z o e) OK h) refl
 
-  pub next-refused : (o : Office) (e : Event) → eqb (event-answer z o e) 0 ≡ false → next z o e ≡ o
+  pub next-refused : (o : Office) (e : Event) → eqb (event-answer z o e) OK ≡ false → next z o e ≡ o
   unfolding next
   next-refused o e h = rw h refl
 
-  pub after-append : (o : Office) (es fs : List Event) → office-after z o (es ++ fs) ≡ office-after z (office-after z o es) fs
+  pub office-after-append : (o : Office) (es fs : List Event) → office-after z o (es ++ fs) ≡ office-after z (office-after z o es) fs
   unfolding office-after
-  after-append o [] fs = refl
-  after-append o (e ∷ es) fs = after-append (next z o e) es fs
+  office-after-append o [] fs = refl
+  office-after-append o (e ∷ es) fs = office-after-append (next z o e) es fs
 
   pub after-last : (o : Office) (es : List Event) (e : Event) → office-after z o (es ++ e ∷ []) ≡ next z (office-after z o es) e
   unfolding office-after
-  after-last o es e = after-append o es (e ∷ [])
+  after-last o es e = office-after-append o es (e ∷ [])
 
   pub answers-append : (o : Office) (es fs : List Event) → event-answers z o (es ++ fs) ≡ event-answers z o es ++ event-answers z (office-after z o es) fs
   unfolding event-answers office-after
@@ -56,9 +57,9 @@ module _ (z : Sizes) where
   pub accepted-zeros : (o : Office) (es : List Event) → accepted-events z o es ≡ zeros (event-answers z o es)
   unfolding accepted-events event-answers zeros
   accepted-zeros o [] = refl
-  accepted-zeros o (e ∷ es) = ap (λ k. cond (eqb (event-answer z o e) 0) (suc k) k) (accepted-zeros (next z o e) es)
+  accepted-zeros o (e ∷ es) = ap (λ k. cond (eqb (event-answer z o e) OK) (suc k) k) (accepted-zeros (next z o e) es)
 
 pub zeros-append : (l k : List ℕ) → zeros (l ++ k) ≡ zeros l + zeros k
 unfolding zeros
 zeros-append [] k = omega arith
-zeros-append (a ∷ l) k = by-test (eqb a 0) (λ t. rw t (omega (arith, zeros-append l k))) (λ t. rw t (zeros-append l k))
+zeros-append (a ∷ l) k = by-test (eqb a OK) (λ t. rw t (omega (arith, zeros-append l k))) (λ t. rw t (zeros-append l k))

@@ -12,6 +12,7 @@ use Rattle.laws.specs.Elements.{set-each}
 use Rattle.quorum.proofs.Meet.{wider}
 use Rattle.message.specs.declared.Message.{Message}
 use Rattle.message.specs.declared.Message.the-variants.{Start, Join, JoinVoted, Propose, Vote}
+use Rattle.member_record.specs.Phases.{COLLECTING}
 use Rattle.member_record.specs.Record.{fresh-record}
 use Rattle.member.specs.Table.{Outcome, Named, nothing, proposal, decision}
 use Rattle.model.specs.Model.{Sizes, Office, member-number, member-at, made-by}
@@ -71,7 +72,7 @@ spoken-other {sent} {t} gs f S = record {
 
 -- a leader stays as it is while none of the proposals and decisions made is of a round of its own
 pub leading-grows : {n : ℕ} {sent : List Message} {made : List Named} {offers : List ℕ} {t led phase value source : ℕ} {flags : List Bool}
-    (gs : List Message) (ns : List Named) (xs : List ℕ) → ((a : Named) → a ∈ ns → round-named a % n ≢ t) → (1 ≤ phase → led % n ≡ t) →
+    (gs : List Message) (ns : List Named) (xs : List ℕ) → ((a : Named) → a ∈ ns → round-named a % n ≢ t) → (COLLECTING ≤ phase → led % n ≡ t) →
     Leading n sent made offers t led phase value source flags → Leading n (sent ++ gs) (made ++ ns) (offers ++ xs) t led phase value source flags
 leading-grows {made = made} gs ns xs f own L = record {
   highest = λ r x b i e. ⊎-elim (λ k. L .highest r x b k e) (λ k. absurd (f (proposal r x b) k e)) (List·Memᴰ·append-cases made i);

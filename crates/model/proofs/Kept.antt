@@ -15,9 +15,11 @@ use Rattle.laws.specs.Lists.{_∈_}
 use Rattle.laws.specs.Elements.{getD-in, set-each}
 use Rattle.laws.specs.First.{first}
 use Rattle.ids.specs.Ranges.{above-range, out-of-range}
+use Rattle.numbers.specs.Numbers.{OK}
 use Rattle.message.specs.declared.Message.{Message}
 use Rattle.message.specs.Fields.{in-range}
 use Rattle.member_record.specs.declared.MemberState.{MemberState}
+use Rattle.member_record.specs.Phases.{IDLE, COLLECTING}
 use Rattle.member_record.specs.Record.{allowed, fresh-record, sound}
 use Rattle.member.specs.Table.{sound-step, fitting, step-causes, step-row}
 use Rattle.member.specs.Kept.{Kept}
@@ -46,25 +48,25 @@ pub record KeptOffice (z : Sizes) (o : Office) : Type 0 where
   pub fits : length (o .sent) ≤ z .store
 
 -- a member that isn't idle leads a round of its own, in range, and B is below it
-pub leads-one : (z : Sizes) (t : ℕ) (m : MemberState) → KeptMember z t m → 1 ≤ m .lead .phase → (eqb (m .durable .led .0) 0 ≡ false) × SoundLeading m
+pub leads-one : (z : Sizes) (t : ℕ) (m : MemberState) → KeptMember z t m → COLLECTING ≤ m .lead .phase → (eqb (m .durable .led .0) 0 ≡ false) × SoundLeading m
 leads-one z t m M h =
     let s : SoundParts m = parts m (M .is-sound) in
     by-test (eqb (m .durable .led .0) 0)
-    (λ e. absurd (omega (tests, and-left (eqb (m .lead .phase) 0) _ (rw e at (s .led)))))
+    (λ e. absurd (omega (tests, and-left (eqb (m .lead .phase) IDLE) _ (rw e at (s .led)))))
     (λ e. (e, leading-parts m s e))
 
-pub own-round : (z : Sizes) (t : ℕ) (m : MemberState) → KeptMember z t m → 1 ≤ m .lead .phase → m .durable .led .0 % z .n ≡ t
+pub own-round : (z : Sizes) (t : ℕ) (m : MemberState) → KeptMember z t m → COLLECTING ≤ m .lead .phase → m .durable .led .0 % z .n ≡ t
 own-round z t m M h =
     let (e, l) = leads-one z t m M h in
     let q : eqb (m .durable .led .0 % z .n) t ≡ true = rw (M .size, M .number) at (l .leader) in
     omega tests
 
-pub led-ranged : (z : Sizes) (t : ℕ) (m : MemberState) → KeptMember z t m → 1 ≤ m .lead .phase → out-of-range (m .durable .led .0) ≡ false
+pub led-ranged : (z : Sizes) (t : ℕ) (m : MemberState) → KeptMember z t m → COLLECTING ≤ m .lead .phase → out-of-range (m .durable .led .0) ≡ false
 led-ranged z t m M h =
     let (e, l) = leads-one z t m M h in
     or-none e (not-true (above-range (m .durable .led .0)) (l .ranged))
 
-pub source-lower : (z : Sizes) (t : ℕ) (m : MemberState) → KeptMember z t m → 1 ≤ m .lead .phase → m .lead .source .0 < m .durable .led .0
+pub source-lower : (z : Sizes) (t : ℕ) (m : MemberState) → KeptMember z t m → COLLECTING ≤ m .lead .phase → m .lead .source .0 < m .durable .led .0
 source-lower z t m M h = let (e, l) = leads-one z t m M h in omega (tests, l .lower)
 
 -- V is at most J
@@ -75,16 +77,16 @@ vote-lower z t m M = omega (tests, vote-parts (m .durable) (parts m (M .is-sound
 pub record EventAccepted (z : Sizes) (o : Office) (e : Event) : Type 0 where
   pub member : at-member e < z .n
   pub there : unsent o e ≡ false
-  pub ok : event-outcome z o e .number ≡ 0
+  pub ok : event-outcome z o e .number ≡ OK
   pub stored : sends-one (event-outcome z o e .sent) ≡ true → length (o .sent) < z .store
   pub room : proposes-one (event-outcome z o e .named) ≡ true → suc (proposals (o .made)) < z .table
 
-pub was-accepted : (z : Sizes) (o : Office) (e : Event) → event-answer z o e ≡ 0 → EventAccepted z o e
+pub was-accepted : (z : Sizes) (o : Office) (e : Event) → event-answer z o e ≡ OK → EventAccepted z o e
 unfolding event-answer
 was-accepted z o e h =
     by-test (absent z o e)
     (λ a. absurd (omega (arith, rw a at h)))
-    (λ a. by-test (eqb (event-outcome z o e .number) 0)
+    (λ a. by-test (eqb (event-outcome z o e .number) OK)
     (λ b. by-test (no-store-row z o e)
     (λ c. absurd (omega (arith, rw (a, b, c) at h)))
     (λ c. by-test (no-table-row z o e)
@@ -122,12 +124,12 @@ module _ (z : Sizes) (o : Office) (K : KeptOffice z o) (e : Event) where
 
   -- an accepted event is its row of the member table, none of whose causes holds
   pub accepted-row : EventAccepted z o e →
-      (first (step-causes (member-at z o (at-member e)) (event-of o e)) ≡ 0) × (event-outcome z o e ≡ step-row (member-at z o (at-member e)) (event-of o e))
+      (first (step-causes (member-at z o (at-member e)) (event-of o e)) ≡ OK) × (event-outcome z o e ≡ step-row (member-at z o (at-member e)) (event-of o e))
   unfolding sound-step
   accepted-row a =
       let m : MemberState = member-at z o (at-member e) in
       let same : event-outcome z o e ≡ sound-step m (event-of o e) = accepted-sound a in
-      by-test (eqb (first (step-causes m (event-of o e))) 0)
+      by-test (eqb (first (step-causes m (event-of o e))) OK)
       (λ t. (omega tests, same ∙ rw t refl))
       (λ t. let n : event-outcome z o e .number ≡ first (step-causes m (event-of o e)) = ap (λ u. u .number) same ∙ rw t refl in absurd (omega (tests, a .ok)))
 
@@ -173,7 +175,7 @@ module _ (z : Sizes) (o : Office) (K : KeptOffice z o) (e : Event) where
   pub next-kept : KeptOffice z (next z o e)
   unfolding next
   next-kept =
-      by-test (eqb (event-answer z o e) 0)
+      by-test (eqb (event-answer z o e) OK)
       (λ t. rw t (taken-kept (was-accepted z o e (omega tests))))
       (λ t. rw t K)
 

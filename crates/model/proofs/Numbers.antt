@@ -12,7 +12,7 @@ use Rattle.laws.specs.Tests.{tests, by-test, clash, or-left, or-right, and-left
 use Rattle.laws.specs.Lists.{_∈_, any, any-intro, any-elim}
 use Rattle.laws.specs.First.{Cause, _gives_, first}
 use Rattle.laws.specs.Numbers.{first-has}
-use Rattle.numbers.specs.Numbers.{COUNTED-ALREADY, MOVED-PAST, NO-FREE-ROW, NO-MEMBER-OR-MESSAGE, NOT-ABOVE-LED, NOT-AWAITED, NOT-LEADER}
+use Rattle.numbers.specs.Numbers.{OK, COUNTED-ALREADY, MOVED-PAST, NO-FREE-ROW, NO-MEMBER-OR-MESSAGE, NOT-ABOVE-LED, NOT-AWAITED, NOT-LEADER}
 use Rattle.numbers.specs.Numbers.{ROUND-RANGE, STORE-FULL}
 use Rattle.ids.specs.declared.Round.{Round}
 use Rattle.ids.specs.declared.Member.{Member}
@@ -40,11 +40,12 @@ use Rattle.model.proofs.Tree.{nodes-counted}
 
 -- 0, and what the rows round, start and deliver of the place table give, 21 and 23 apart
 abbrev pub step-numbers : List ℕ
-step-numbers = 0 ∷ ROUND-RANGE ∷ NOT-LEADER ∷ NOT-ABOVE-LED ∷ MOVED-PAST ∷ NOT-AWAITED ∷ COUNTED-ALREADY ∷ []
+step-numbers = OK ∷ ROUND-RANGE ∷ NOT-LEADER ∷ NOT-ABOVE-LED ∷ MOVED-PAST ∷ NOT-AWAITED ∷ COUNTED-ALREADY ∷ []
 
 -- and the rows event and last
 abbrev pub event-numbers : List ℕ
-event-numbers = 0 ∷ ROUND-RANGE ∷ NO-FREE-ROW ∷ NOT-LEADER ∷ NOT-ABOVE-LED ∷ MOVED-PAST ∷ NOT-AWAITED ∷ COUNTED-ALREADY ∷ NO-MEMBER-OR-MESSAGE ∷ STORE-FULL ∷ []
+event-numbers =
+    OK ∷ ROUND-RANGE ∷ NO-FREE-ROW ∷ NOT-LEADER ∷ NOT-ABOVE-LED ∷ MOVED-PAST ∷ NOT-AWAITED ∷ COUNTED-ALREADY ∷ NO-MEMBER-OR-MESSAGE ∷ STORE-FULL ∷ []
 
 among : (k : ℕ) (l : List ℕ) → any (eqb k) l ≡ true → k ∈ l
 among k l h = any-elim (eqb k) l h (λ a i e. rw (eqb-true k a e) i)
@@ -58,11 +59,11 @@ within (b ∷ l) k h (here e) = rw e (among b k (and-left (any (eqb b) k) (all-i
 within (b ∷ l) k h (there i) = within l k (and-right (any (eqb b) k) (all-in l k) h) i
 
 -- what a row of the member table does is accepted
-either-zero : (b : Bool) (u v : Outcome) → u .number ≡ 0 → v .number ≡ 0 → cond b u v .number ≡ 0
+either-zero : (b : Bool) (u v : Outcome) → u .number ≡ OK → v .number ≡ OK → cond b u v .number ≡ OK
 either-zero true u v p q = p
 either-zero false u v p q = q
 
-row-number : (m : MemberState) (e : MemberEvent) → step-row m e .number ≡ 0
+row-number : (m : MemberState) (e : MemberEvent) → step-row m e .number ≡ OK
 unfolding step-row
 row-number m (starts r x) = refl
 row-number m (delivers (Start r s)) = refl
@@ -75,8 +76,8 @@ row-number m (delivers (Vote r s)) = either-zero (complete (counting m s)) (deci
 step-number : (m : MemberState) (e : MemberEvent) → sound-step m e .number ≡ first (step-causes m e)
 unfolding sound-step
 step-number m e =
-    by-test (eqb (first (step-causes m e)) 0)
-    (λ t. let z : first (step-causes m e) ≡ 0 = omega tests in rw z (row-number m e))
+    by-test (eqb (first (step-causes m e)) OK)
+    (λ t. let z : first (step-causes m e) ≡ OK = omega tests in rw z (row-number m e))
     (λ t. rw t refl)
 
 -- the row "last" of the place table
@@ -111,19 +112,19 @@ module _ (z : Sizes) (o : Office) (offers : List ℕ) (K : KeptOffice z o) (I : 
   count-numbers : (t : ℕ) (m : MemberState) → KeptMember z t m → (phase : ℕ) (r : Round) (s : Member) → s .0 < z .n →
       first (count-causes phase m r s) ∈ step-numbers
   count-numbers t m M phase r s l =
-      first-has (λ k. k ∈ step-numbers) (count-causes phase m r s) (among 0 step-numbers refl)
+      first-has (λ k. k ∈ step-numbers) (count-causes phase m r s) (among OK step-numbers refl)
       (λ e. absurd (omega (tests, M .size)), (λ e. among NOT-AWAITED step-numbers refl, (λ e. among COUNTED-ALREADY step-numbers refl, tt)))
 
   message-numbers : (t : ℕ) (m : MemberState) → KeptMember z t m → MemberHolds (z .n) (o .sent) (o .made) offers t m →
       (g : Message) → g ∈ o .sent → first (step-causes m (delivers g)) ∈ step-numbers
   unfolding step-causes
   message-numbers t m M S (Start r s) i =
-      first-has (λ k. k ∈ step-numbers) (START-causes m r s) (among 0 step-numbers refl)
+      first-has (λ k. k ∈ step-numbers) (START-causes m r s) (among OK step-numbers refl)
       (λ e. absurd (led t m M r s (I .leaders (Start r s) i) e), (λ e. among MOVED-PAST step-numbers refl, tt))
   message-numbers t m M S (Join r s) i = count-numbers t m M COLLECTING r s (K .senders (Join r s) i)
   message-numbers t m M S (JoinVoted r s q w) i = count-numbers t m M COLLECTING r s (K .senders (JoinVoted r s q w) i)
   message-numbers t m M S (Propose r s v) i =
-      first-has (λ k. k ∈ step-numbers) (PROPOSE-causes m r s v) (among 0 step-numbers refl) (
+      first-has (λ k. k ∈ step-numbers) (PROPOSE-causes m r s v) (among OK step-numbers refl) (
         λ e. absurd (led t m M r s (I .leaders (Propose r s v) i) e),
         (
           λ e. among MOVED-PAST step-numbers refl,
@@ -136,7 +137,7 @@ module _ (z : Sizes) (o : Office) (offers : List ℕ) (K : KeptOffice z o) (I : 
   own-number : (e : Event) → at-member e < z .n → unsent o e ≡ false → first (step-causes (member-at z o (at-member e)) (event-of o e)) ∈ step-numbers
   unfolding step-causes
   own-number (start k r x) l h =
-      first-has (λ k. k ∈ step-numbers) (start-call-causes (member-at z o k) (round-number r)) (among 0 step-numbers refl)
+      first-has (λ k. k ∈ step-numbers) (start-call-causes (member-at z o k) (round-number r)) (among OK step-numbers refl)
       (λ e. among ROUND-RANGE step-numbers refl, (λ e. among NOT-LEADER step-numbers refl, (λ e. among NOT-ABOVE-LED step-numbers refl, tt)))
   own-number (deliver j k) l h =
       message-numbers k (member-at z o k) (K .each k l) (I .members k l) (message-at o j) (message-in o j k h)
@@ -154,22 +155,22 @@ module _ (z : Sizes) (o : Office) (offers : List ℕ) (K : KeptOffice z o) (I : 
   answer-numbers e =
       by-test (absent z o e)
       (λ a. rw a (among NO-MEMBER-OR-MESSAGE event-numbers refl))
-      (λ a. rw a (by-test (eqb (event-outcome z o e .number) 0)
-      (λ b. rw b (first-has (λ k. k ∈ event-numbers) (last-causes z o e) (among 0 event-numbers refl)
+      (λ a. rw a (by-test (eqb (event-outcome z o e .number) OK)
+      (λ b. rw b (first-has (λ k. k ∈ event-numbers) (last-causes z o e) (among OK event-numbers refl)
       (λ c. among STORE-FULL event-numbers refl, (λ c. among NO-FREE-ROW event-numbers refl, tt))))
       (λ b. rw b (within step-numbers event-numbers refl (step-numbered e a)))))
 
   -- a number of the row last is given only by its cause
-  last-number : (e : Event) (k : ℕ) → any (eqb k) (0 ∷ NO-MEMBER-OR-MESSAGE ∷ step-numbers) ≡ false → event-answer z o e ≡ k → first (last-causes z o e) ≡ k
+  last-number : (e : Event) (k : ℕ) → any (eqb k) (OK ∷ NO-MEMBER-OR-MESSAGE ∷ step-numbers) ≡ false → event-answer z o e ≡ k → first (last-causes z o e) ≡ k
   unfolding event-answer
   last-number e k apart h =
       by-test (absent z o e)
       (λ a. let q : NO-MEMBER-OR-MESSAGE ≡ k = rw a at h in
-      clash (any-intro (eqb k) (0 ∷ NO-MEMBER-OR-MESSAGE ∷ step-numbers) (there (here refl)) (eq-eqb k NO-MEMBER-OR-MESSAGE (sym q))) apart)
-      (λ a. by-test (eqb (event-outcome z o e .number) 0)
+      clash (any-intro (eqb k) (OK ∷ NO-MEMBER-OR-MESSAGE ∷ step-numbers) (there (here refl)) (eq-eqb k NO-MEMBER-OR-MESSAGE (sym q))) apart)
+      (λ a. by-test (eqb (event-outcome z o e .number) OK)
       (λ b. rw (a, b) at h)
       (λ b. let q : event-outcome z o e .number ≡ k = rw (a, b) at h in
-      clash (any-intro (eqb k) (0 ∷ NO-MEMBER-OR-MESSAGE ∷ step-numbers) (there (there (step-numbered e a)))
+      clash (any-intro (eqb k) (OK ∷ NO-MEMBER-OR-MESSAGE ∷ step-numbers) (there (there (step-numbered e a)))
       (eq-eqb k (event-outcome z o e .number) (sym q))) apart))
 
   -- 30 is given only where the store is full

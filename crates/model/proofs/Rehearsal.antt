@@ -21,7 +21,7 @@ rehearsal =
     start 1 1 70 ∷ deliver 0 0 ∷ deliver 0 1 ∷ deliver 1 1 ∷ deliver 1 1 ∷ deliver 2 1 ∷ deliver 3 0 ∷ start 2 2 80 ∷
     deliver 5 0 ∷ deliver 5 2 ∷ deliver 7 2 ∷ deliver 6 2 ∷ deliver 3 1 ∷ deliver 4 1 ∷ deliver 9 1 ∷ []
 
-record Rehearsed : Type 0 where
+record RehearsalMet : Type 0 where
   answers-are : answered (sizes 1000 64) rehearsal ≡ 0 ∷ 0 ∷ 0 ∷ 0 ∷ 25 ∷ 0 ∷ 0 ∷ 0 ∷ 0 ∷ 0 ∷ 0 ∷ 0 ∷ 0 ∷ 0 ∷ 0 ∷ []
   -- round 2 proposes the value voted for in round 1, behind that round
   calls-are : calls (ended (sizes 1000 64) rehearsal .made) ≡ add 1 70 0 ∷ add 2 70 1 ∷ commit 1 ∷ []
@@ -29,11 +29,11 @@ record Rehearsed : Type 0 where
   nodes-are : made-tree (sizes 1000 64) (ended (sizes 1000 64) rehearsal) ≡ node-of 0 0 0 COMMITTED ∷ node-of 1 0 70 COMMITTED ∷ node-of 2 1 70 ADDED ∷ []
   offers-are : offered (sizes 1000 64) (first-office 3) rehearsal ≡ 70 ∷ 80 ∷ []
 
-rehearsed : Rehearsed
+rehearsed : RehearsalMet
 unfolding event-answers offered office-after first-office calls after-calls some struck new-node find path-in commit-node
 rehearsed = record { answers-are = refl; calls-are = refl; nodes-are = refl; offers-are = refl }
 
-record Numbers : Type 0 where
+record NumberListsMet : Type 0 where
   -- rounds 0 and above 1,000,000; a member that doesn't lead the round; the round led already
   starts : answered (sizes 9 9) (start 0 0 5 ∷ start 1 1000001 5 ∷ start 1 2 5 ∷ start 1 1 5 ∷ start 1 1 5 ∷ []) ≡ 3 ∷ 3 ∷ 19 ∷ 0 ∷ 20 ∷ []
   -- no such member; no message sent yet; a number that is too high by one
@@ -52,6 +52,6 @@ record Numbers : Type 0 where
   -- the offer of a refused start isn't offered
   offers : offered (sizes 9 9) (first-office 3) (start 1 2 5 ∷ start 1 1 6 ∷ start 1 1 7 ∷ []) ≡ 6 ∷ []
 
-numbers : Numbers
+number-lists : NumberListsMet
 unfolding event-answers offered first-office some
-numbers = record { starts = refl; absent = refl; late = refl; full = refl; rowless = refl; last-row = refl; both = refl; offers = refl }
+number-lists = record { starts = refl; absent = refl; late = refl; full = refl; rowless = refl; last-row = refl; both = refl; offers = refl }

@@ -50,8 +50,8 @@ module _ (z : Sizes) (o : Office) (offers : List ℕ) (I : Invariant z o offers)
       (m .lead .flags)
   leading-calm gs xs = leading-grows gs [] xs (λ a i. elim i [ ]) (λ h. counts-of z t m M h .own) (S .leading)
 
-  pub start-new : (r : Round) (x : ℕ) → AllPassed (start-call-causes m r) → New z o offers t (start-call-row m r x) (x ∷ [])
-  start-new r x (range, (leader, (above, end))) = record {
+  pub start-call-new : (r : Round) (x : ℕ) → AllPassed (start-call-causes m r) → New z o offers t (start-call-row m r x) (x ∷ [])
+  start-call-new r x (range, (leader, (above, end))) = record {
     stands = record {
       spoken = spoken-quiet (o .sent) (Start r (m .who .me) ∷ []) t (m .durable .joined .0) (m .durable .voted .0) (m .durable .led .0) (m .durable .joined .0)
           (m .durable .voted .0) (r .0)

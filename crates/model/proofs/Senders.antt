@@ -11,6 +11,7 @@ use Rattle.laws.specs.Lists.{_∈_}
 use Rattle.laws.specs.First.{first}
 use Rattle.ids.specs.declared.Round.{Round}
 use Rattle.ids.specs.declared.Member.{Member}
+use Rattle.numbers.specs.Numbers.{OK}
 use Rattle.message.specs.declared.Message.{Message}
 use Rattle.message.specs.declared.Message.the-variants.{Start, Join, JoinVoted, Propose, Vote}
 use Rattle.member_record.specs.declared.MemberState.{MemberState}
@@ -43,8 +44,8 @@ own-refused m k = record { number = refl; size = refl; from = λ g i. elim i [ ]
 pub only : (P : Message → Type 0) (x : Message) → P x → (g : Message) → g ∈ x ∷ [] → P g
 only P x h g i = rw (List·Memᴰ·eq-of-singleton i) h
 
-own-join : (m : MemberState) (r : Round) → sender (join-of m r) ≡ m .who .me .0
-own-join m r = pick (ltb 0 (m .durable .voted .0))
+own-join-of : (m : MemberState) (r : Round) → sender (join-of m r) ≡ m .who .me .0
+own-join-of m r = pick (ltb 0 (m .durable .voted .0))
   where
     pick : (b : Bool) → sender (cond b (JoinVoted r (m .who .me) (m .durable .voted) (m .durable .vote)) (Join r (m .who .me))) ≡ m .who .me .0
     pick true = refl
@@ -70,7 +71,7 @@ pub own-row : (m : MemberState) (e : MemberEvent) → Own m (step-row m e)
 unfolding step-row
 own-row m (starts r offer) = record { number = refl; size = refl; from = only (λ g. sender g ≡ m .who .me .0) (Start r (m .who .me)) refl; one = omega arith }
 own-row m (delivers (Start r s)) = record
-    { number = refl; size = refl; from = only (λ g. sender g ≡ m .who .me .0) (join-of m r) (own-join m r); one = omega arith }
+    { number = refl; size = refl; from = only (λ g. sender g ≡ m .who .me .0) (join-of m r) (own-join-of m r); one = omega arith }
 own-row m (delivers (Join r s)) = own-JOIN m m r s refl refl
 own-row m (delivers (JoinVoted r s q w)) =
     let (p, c) = own-adopting m (ltb (m .lead .source .0) (q .0)) q w in own-JOIN m (adopting m q w) r s p c
@@ -82,6 +83,6 @@ own-row m (delivers (Vote r s)) =
 pub own-step : (m : MemberState) (e : MemberEvent) → Own m (member-step m e)
 unfolding member-step
 own-step m e =
-    either m (eqb (first (unfit m e)) 0) (sound-step m e) (refused (first (unfit m e)) m)
-    (either m (eqb (first (step-causes m e)) 0) (step-row m e) (refused (first (step-causes m e)) m) (own-row m e) (own-refused m (first (step-causes m e))))
+    either m (eqb (first (unfit m e)) OK) (sound-step m e) (refused (first (unfit m e)) m)
+    (either m (eqb (first (step-causes m e)) OK) (step-row m e) (refused (first (step-causes m e)) m) (own-row m e) (own-refused m (first (step-causes m e))))
     (own-refused m (first (unfit m e)))

@@ -7,6 +7,7 @@ use Prim.Native.Nat.{ℕ, _<_}
 use lib.Dec.{eqb}
 use Rattle.laws.specs.Tests.{by-test}
 use Rattle.laws.specs.Lists.{_∈_}
+use Rattle.laws.specs.Widths.{BELOW-64-BITS}
 use Rattle.message.specs.declared.Message.{Message}
 use Rattle.message.specs.declared.Message.the-variants.{Start, Join, JoinVoted, Propose, Vote}
 use Rattle.message.specs.Layout.{ValueFits}
@@ -20,14 +21,14 @@ use Rattle.model.proofs.Events.{holds}
 use Rattle.model.proofs.Demanded.{all-ok}
 
 -- an offer that was accepted is one of the list's
-offered-small : (z : Sizes) (o : Office) (es : List Event) → SmallOffers es → (x : ℕ) → x ∈ offered z o es → x < 18446744073709551616
+offered-small : (z : Sizes) (o : Office) (es : List Event) → SmallOffers es → (x : ℕ) → x ∈ offered z o es → x < BELOW-64-BITS
 unfolding offered
 offered-small z o [] f x m = elim m [ ]
 offered-small z o (e ∷ es) f x m =
     ⊎-elim (λ n. at e (f e (here refl)) n) (λ n. offered-small z (next z o e) es (λ d k. f d (there k)) x n)
     (List·Memᴰ·append-cases (offers-at z o e) m)
   where
-    at : (d : Event) → SmallOffer d → x ∈ offers-at z o d → x < 18446744073709551616
+    at : (d : Event) → SmallOffer d → x ∈ offers-at z o d → x < BELOW-64-BITS
     at (start m r y) small n =
         by-test (eqb (event-answer z o (start m r y)) 0)
         (λ t. let e : x ≡ y = List·Memᴰ·eq-of-singleton (rw t at n) in rw e small)
@@ -42,7 +43,7 @@ module _ (z : Sizes) (es : List Event) (ok : allowed (z .n) ≡ true) (small : S
   invariant = holds z ok es
 
   -- a value that was proposed is a 64-bit number
-  added-small : (r x : ℕ) → ProposalMade (ended z es .made) r x → x < 18446744073709551616
+  added-small : (r x : ℕ) → ProposalMade (ended z es .made) r x → x < BELOW-64-BITS
   added-small r x A = offered-small z (first-office (z .n)) es small x (invariant .made-so .offered-so r x (A .parent) (A .is-made))
 
   backed-small : (g : Message) → Backed (ended z es .made) g → ValueFits g

@@ -6,6 +6,7 @@ use mathlib.Core.List.{List, [], _∷_, _++_}
 use Prim.Native.Nat.{ℕ, suc, _<_}
 use native.Mathlib.Omega.{arith}
 use lib.ListN.{length}
+use Rattle.numbers.specs.Numbers.{OK}
 use Rattle.tree_theory.specs.Machine.{Call, add, commit, fresh, step}
 use Rattle.tree_theory.specs.Machine.{answer as answer-call, after as after-calls}
 use Rattle.tree_theory.specs.Properties.{Properties, InRange, AllOk, adds-in}
@@ -19,7 +20,7 @@ use Rattle.model.specs.Model.{Sizes, Event, Office, first-office, event-
 use Rattle.model.specs.Demand.{calls, ended}
 use Rattle.model.specs.Counts.{made-tree, decisions, committed-nodes}
 use Rattle.model.proofs.Made.{calls-append, adds-in-calls}
-use Rattle.model.proofs.Demanded.{four, rounds-in-range, adds-fit}
+use Rattle.model.proofs.Demanded.{made-properties, rounds-in-range, adds-fit}
 use Rattle.model.proofs.Committed.{commits-in, committed-count}
 use Rattle.model.proofs.Fold.{next-taken, after-last}
 
@@ -53,7 +54,7 @@ module _ (z : Sizes) (o : Office) (e : Event) where
 
 module _ (z : Sizes) (es : List Event) (ok : allowed (z .n) ≡ true) (rows : 0 < z .table) where
   -- the tree says OK to the call of an accepted event
-  module _ (e : Event) (a : event-answer z (ended z es) e ≡ 0) where
+  module _ (e : Event) (a : event-answer z (ended z es) e ≡ OK) where
     -- the calls after the event
     last-calls : (n : Named) (c : Call) → event-outcome z (ended z es) e .named ≡ n → calls (made-by n) ≡ c ∷ [] →
         calls (ended z (es ++ e ∷ []) .made) ≡ calls (ended z es .made) ++ c ∷ []
@@ -61,20 +62,20 @@ module _ (z : Sizes) (es : List Event) (ok : allowed (z .n) ≡ true) (rows : 0 
         rw (after-last z (first-office (z .n)) es e, next-taken z (ended z es) e a, calls-taken z (ended z es) e n h, s) refl
 
     takes : (n : Named) (c : Call) → event-outcome z (ended z es) e .named ≡ n → calls (made-by n) ≡ c ∷ [] →
-        answer-call true (z .table) (made-tree z (ended z es)) c ≡ 0
+        answer-call true (z .table) (made-tree z (ended z es)) c ≡ OK
     takes n c h s =
         let q : calls (ended z (es ++ e ∷ []) .made) ≡ calls (ended z es .made) ++ c ∷ [] = last-calls n c h s in
-        next-ok true (z .table) (calls (ended z es .made)) c (subst (Properties true) q (four z (es ++ e ∷ []) ok))
+        next-ok true (z .table) (calls (ended z es .made)) c (subst (Properties true) q (made-properties z (es ++ e ∷ []) ok))
         (subst InRange q (rounds-in-range z (es ++ e ∷ []) ok))
         (subst (λ l. adds-in l < z .table) q (adds-fit z (es ++ e ∷ []) ok rows))
 
     pub takes-proposal : (r x b : ℕ) → event-outcome z (ended z es) e .named ≡ proposal r x b →
-        answer-call true (z .table) (made-tree z (ended z es)) (add r x b) ≡ 0
+        answer-call true (z .table) (made-tree z (ended z es)) (add r x b) ≡ OK
     unfolding calls
     takes-proposal r x b h = takes (proposal r x b) (add r x b) h refl
 
     pub takes-decision : (r x : ℕ) → event-outcome z (ended z es) e .named ≡ decision r x →
-        answer-call true (z .table) (made-tree z (ended z es)) (commit r) ≡ 0
+        answer-call true (z .table) (made-tree z (ended z es)) (commit r) ≡ OK
     unfolding calls
     takes-decision r x h = takes (decision r x) (commit r) h refl
 

@@ -4,6 +4,7 @@ use mathlib.Core.Bool.{true, cond}
 use mathlib.Core.List.{List, [], _∷_}
 use Prim.Native.Nat.{ℕ, suc}
 use lib.Dec.{eqb}
+use Rattle.numbers.specs.Numbers.{OK}
 use Rattle.tree_theory.specs.Machine.{Node, COMMITTED, fresh}
 use Rattle.tree_theory.specs.Machine.{after as after-calls}
 use Rattle.member.specs.Table.{Named, nothing, proposal, decision}
@@ -29,10 +30,10 @@ committed-nodes (n ∷ ns) = cond (eqb (n .status) COMMITTED) (suc (committed-no
 -- how many answers are 0
 unfoldable pub zeros : List ℕ → ℕ
 zeros [] = 0
-zeros (a ∷ answers) = cond (eqb a 0) (suc (zeros answers)) (zeros answers)
+zeros (a ∷ answers) = cond (eqb a OK) (suc (zeros answers)) (zeros answers)
 
 -- how many events are accepted
 unfoldable pub accepted-events : Sizes → Office → List Event → ℕ
 unfolding event-answer next
 accepted-events z o [] = 0
-accepted-events z o (e ∷ es) = cond (eqb (event-answer z o e) 0) (suc (accepted-events z (next z o e) es)) (accepted-events z (next z o e) es)
+accepted-events z o (e ∷ es) = cond (eqb (event-answer z o e) OK) (suc (accepted-events z (next z o e) es)) (accepted-events z (next z o e) es)

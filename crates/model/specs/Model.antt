@@ -7,7 +7,7 @@ use lib.ListN.{length, getD, set}
 use lib.Dec.{leb, eqb}
 use Rattle.laws.specs.First.{Cause, _gives_, first}
 use Rattle.ids.specs.declared.Member.{Member}
-use Rattle.numbers.specs.Numbers.{NO-FREE-ROW, NO-MEMBER-OR-MESSAGE, STORE-FULL, no-row-left}
+use Rattle.numbers.specs.Numbers.{OK, NO-FREE-ROW, NO-MEMBER-OR-MESSAGE, STORE-FULL, no-row-left}
 use Rattle.message.specs.declared.Message.{Message}
 use Rattle.message.specs.declared.Message.the-variants.{Start}
 use Rattle.member_record.specs.declared.MemberState.{MemberState}
@@ -105,7 +105,7 @@ unfoldable pub event-causes : Sizes → Office → Event → List Cause
 unfolding event-outcome proposals
 event-causes z o e =
     absent z o e gives NO-MEMBER-OR-MESSAGE ∷
-    not (eqb (event-outcome z o e .number) 0) gives (event-outcome z o e .number) ∷
+    not (eqb (event-outcome z o e .number) OK) gives (event-outcome z o e .number) ∷
     no-store-row z o e gives STORE-FULL ∷
     no-table-row z o e gives NO-FREE-ROW ∷ []
 
@@ -132,7 +132,7 @@ taken z o e =
 -- a refused event changes nothing
 unfoldable pub next : Sizes → Office → Event → Office
 unfolding event-answer taken
-next z o e = cond (eqb (event-answer z o e) 0) (taken z o e) o
+next z o e = cond (eqb (event-answer z o e) OK) (taken z o e) o
 
 -- the office after a list of events
 unfoldable pub office-after : Sizes → Office → List Event → Office
@@ -152,7 +152,7 @@ offer-of (deliver k m) = []
 
 -- what an event offers: its offer, if it is an accepted start
 abbrev pub offers-at : Sizes → Office → Event → List ℕ
-offers-at z o e = cond (eqb (event-answer z o e) 0) (offer-of e) []
+offers-at z o e = cond (eqb (event-answer z o e) OK) (offer-of e) []
 
 -- the offers of the accepted starts of a list
 unfoldable pub offered : Sizes → Office → List Event → List ℕ

@@ -5,6 +5,7 @@ use mathlib.Core.List.{List}
 use Prim.Native.Nat.{ℕ, _≤_, _<_}
 use lib.ListN.{length}
 use Rattle.laws.specs.Lists.{_∈_}
+use Rattle.laws.specs.Widths.{BELOW-64-BITS}
 use Rattle.tree_theory.specs.Properties.{AllOk}
 use Rattle.message.specs.declared.Message.{Message}
 use Rattle.message.specs.Fields.{in-range}
@@ -16,7 +17,7 @@ use Rattle.model.specs.Demand.{calls}
 
 -- an offer is a 64-bit number
 abbrev pub SmallOffer : Event → Type 0
-SmallOffer (start m r x) = x < 18446744073709551616
+SmallOffer (start m r x) = x < BELOW-64-BITS
 SmallOffer (deliver k m) = Unit {0}
 
 -- each offer of a start is

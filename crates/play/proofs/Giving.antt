@@ -34,11 +34,11 @@ use Rattle.play_run.proofs.Running.{same-store-rows, same-rows}
 use Rattle.play.specs.Promise.{list-causes, play-number, refused-list, Given}
 
 -- what fresh answers says whether the length is that of a table
-pub fresh-zero : (ws : List ℕ) → fresh-number ws ≡ 0 → sized ws ≡ true
+pub fresh-zero : (ws : List ℕ) → fresh-number ws ≡ OK → sized ws ≡ true
 unfolding fresh-number
 fresh-zero ws e = by-test (sized ws) (λ t. t) (λ t. absurd (omega (arith, rw t at e)))
 
-fresh-refused : (ws : List ℕ) → (fresh-number ws ≡ 0 → ⊥) → (sized ws ≡ false) × (fresh-table ws ≡ ws)
+fresh-refused : (ws : List ℕ) → (fresh-number ws ≡ OK → ⊥) → (sized ws ≡ false) × (fresh-table ws ≡ ws)
 unfolding fresh-number fresh-table
 fresh-refused ws h = by-test (sized ws) (λ t. absurd (h (rw t refl))) (λ t. (t, rw t refl))
 
@@ -51,7 +51,7 @@ pub as-given : {list : List ℕ} {L L′ : Lent} (a : PlayAnswer) {b : PlayAnswe
 as-given {list} {L} {L′} a q G = subst (λ b. Given list L b L′) (sym q) G
 
 module _ {list : List ℕ} {L : Lent} where
-  given-refused : (k : ℕ) → play-number list L ≡ k → (k ≡ 0 → ⊥) → Given list L (refused-list k) L
+  given-refused : (k : ℕ) → play-number list L ≡ k → (k ≡ OK → ⊥) → Given list L (refused-list k) L
   given-refused k e n =
       record {
         number-is = sym e;
@@ -80,7 +80,7 @@ module _ {list : List ℕ} {L : Lent} where
 
         module _ (l : count-of list ≤ length (L .answers)) where
           -- the table is as it was, though fresh was called
-          pub table-odd : {ws : List ℕ} → (fresh-number (L .memory .table) ≡ 0 → ⊥) → ws ≡ fresh-table (L .memory .table) →
+          pub table-odd : {ws : List ℕ} → (fresh-number (L .memory .table) ≡ OK → ⊥) → ws ≡ fresh-table (L .memory .table) →
               Given list L (refused-list TABLE-LENGTH) (as-lent (L .memory .store) ws (L .answers))
           unfolding play-number
           table-odd n e =
@@ -177,7 +177,8 @@ module _ {list : List ℕ} {L : Lent} (P : PassedList list L) where
           taken = λ q.
               record {
                 played = U;
-                demand = demand-met z es (P .members) lent-rows (L′ .memory .table) (U .table-is ∙ ap (λ n. table n ns) (sym (sized-words ws (P .table-length))));
+                demand = demand-met z es (P .members) lent-rows (L′ .memory .table)
+                    (U .table-is ∙ ap (λ n. table n ns) (sym (sized-words ws (P .table-length))));
                 proposals-are = ap suc (U .proposals-made) ∙ sym (ap length held ∙ nodes-counted z (ended z es) ok);
                 decisions-are = ap suc (U .decisions-made) ∙ sym (ap committed-nodes held ∙ committed-counted z (ended z es) ok lent-rows);
               };

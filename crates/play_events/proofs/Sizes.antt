@@ -27,9 +27,9 @@ module _ (s : List ℕ) where
   unfolding event-size
   size-short-start k h = rw (k, lt-leb START-BYTES (length s) h)
 
-  pub size-other : (word-at s 0 ≡ EVENT-START → ⊥) → (word-at s 0 ≡ EVENT-DELIVER → ⊥) → event-size s ≡ 0
+  pub size-no-kind : (word-at s 0 ≡ EVENT-START → ⊥) → (word-at s 0 ≡ EVENT-DELIVER → ⊥) → event-size s ≡ 0
   unfolding event-size
-  size-other j k = rw (ne-eqb (word-at s 0) EVENT-START j, ne-eqb (word-at s 0) EVENT-DELIVER k)
+  size-no-kind j k = rw (ne-eqb (word-at s 0) EVENT-START j, ne-eqb (word-at s 0) EVENT-DELIVER k)
 
   -- the three cases
   by-size {ℓ} : {C : Type ℓ} → (word-at s 0 ≡ EVENT-START → START-BYTES ≤ length s → event-size s ≡ START-BYTES → C) →

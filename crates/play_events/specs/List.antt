@@ -1,7 +1,7 @@
 -- The layout of an event list (01, "Play"; XDR): the head, which is N and the event count, then the events.
 use mathlib.Core.Bool.{Bool, true, false, cond, _&&_, not}
 use mathlib.Core.List.{List, [], _∷_}
-use Prim.Native.Nat.{ℕ, zero, suc}
+use Prim.Native.Nat.{ℕ, zero, suc, _+_, _*_}
 use lib.ListN.{length, drop}
 use lib.Dec.{leb, eqb}
 use Rattle.xdr.specs.Words.{word-at, hyper-at}
@@ -36,6 +36,14 @@ START-BYTES = 20
 
 abbrev pub DELIVER-BYTES : ℕ
 DELIVER-BYTES = 12
+
+-- no list has more events
+abbrev pub MOST-EVENTS : ℕ
+MOST-EVENTS = 1000
+
+-- the longest list that fits: so many starts
+abbrev pub LONGEST-LIST : ℕ
+LONGEST-LIST = HEAD-BYTES + START-BYTES * MOST-EVENTS
 
 -- an event of this kind, of so many bytes, is at the front
 abbrev pub begins-with : ℕ → ℕ → List ℕ → Bool
@@ -76,7 +84,7 @@ exact (suc k) s = not (eqb (event-size s) 0) && exact k (rest s)
 -- the count is at most 1,000, and bytes, count and kinds match exactly
 unfoldable pub list-fits : List ℕ → Bool
 unfolding exact
-list-fits list = leb HEAD-BYTES (length list) && (leb (count-of list) 1000 && exact (count-of list) (body list))
+list-fits list = leb HEAD-BYTES (length list) && (leb (count-of list) MOST-EVENTS && exact (count-of list) (body list))
 
 -- the events of a list
 unfoldable pub events-of : List ℕ → List Event

@@ -21,6 +21,12 @@ const START_BYTES: usize = 20;
 // The bytes of a delivery: kind, message number, member.
 const DELIVER_BYTES: usize = 12;
 
+// No list has more events.
+pub const MOST_EVENTS: usize = 1000;
+
+// The longest list that fits: so many starts.
+pub const LONGEST_LIST: usize = HEAD_BYTES + START_BYTES * MOST_EVENTS;
+
 // N, the event count, and where the events begin.
 pub struct ListHead {
     pub members: u32,
@@ -128,7 +134,7 @@ pub fn fits(list: &[u8]) -> bool
         return false;
     }
     let count = read_head(list).count;
-    if 1000 < count {
+    if MOST_EVENTS < count as usize {
         return false;
     }
     events_fill(list, count)

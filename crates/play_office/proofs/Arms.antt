@@ -1,15 +1,14 @@
 -- What becomes of a step, for each answer of a member: the number, and the memory after it. Assumes nothing.
 use mathlib.Core.Path.{_≡_, refl, sym, ap, subst, _∙_}
 use mathlib.Core.Bool.{true}
-use mathlib.Core.List.{List, [], _∷_, _++_, append-nil, List·Memᴰ·head as here}
+use mathlib.Core.List.{List, [], _∷_, _++_, append-nil}
 use Prim.Native.Nat.{ℕ, _+_, _≤_, _<_}
 use native.Mathlib.Omega.{arith}
 use native.Mathlib.Nat.{add-zero}
 use borrow.Author.Tests.{leb-true, leb-false}
 use Rattle.laws.specs.Tests.{by-test}
-use Rattle.laws.specs.Lists.{_∈_}
 use lib.ListN.{length}
-use Rattle.numbers.specs.Numbers.{NO-FREE-ROW, STORE-FULL}
+use Rattle.numbers.specs.Numbers.{OK, NO-FREE-ROW, STORE-FULL}
 use Rattle.ids.specs.declared.Round.{Round}
 use Rattle.tree_theory.specs.Machine.{Call, add, commit, step}
 use Rattle.tree_theory.specs.Table.{rows, table}
@@ -33,7 +32,7 @@ use Rattle.play_effects.specs.declared.EventEffect.{EventEffect}
 use Rattle.play_effects.specs.declared.Tally.{Tally}
 use Rattle.play_effects.specs.Memory.{Memory, in-memory}
 use Rattle.play_effects.specs.Effects.{counted, refused-event, accepted-event, no-room-to-send, no-room-to-propose, SendEffect, ProposalEffect, DecisionEffect}
-use Rattle.play_office.specs.Represents.{RecordAt, StepBefore, StepAfter, ModelStep, RefusedWith, AnswerIs, AnswerBefore, after-event}
+use Rattle.play_office.specs.Represents.{RecordAt, StepBefore, StepAfter, ModelStep, AnswerIs, AnswerBefore, after-event}
 use Rattle.play_office.proofs.Before.{nodes-held}
 use Rattle.play_office.proofs.Settling.{refused-step, store-full-answer, table-full-answer, sent-one, proposed-one, silent-one}
 use Rattle.play_office.proofs.Settling.{as-result, refused-after, accepted-after}
@@ -149,7 +148,7 @@ module _ {t : Tally} {M : Memory} (B : StepBefore t M) {e : Event} {i : ℕ} (wa
     refuses m R = refused-after B was m H R
 
     -- no row of the store is free
-    fills : (m : MemberState) {u : Outcome} → ModelStep (B .z) (B .o) e i u → u .number ≡ 0 → sends-one (u .sent) ≡ true → store-rows (M .store) ≤ t .sent →
+    fills : (m : MemberState) {u : Outcome} → ModelStep (B .z) (B .o) e i u → u .number ≡ OK → sends-one (u .sent) ≡ true → store-rows (M .store) ≤ t .sent →
         StepAfter B e i (after-event was m (refused-event t STORE-FULL)) M
     fills m T n s h =
         refused-after B was m H

@@ -14,7 +14,7 @@ use Rattle.tree_theory.specs.Table.{nodes, rows, sized, table, Tree}
 use Rattle.tree_theory.proofs.Words.{nodes-table}
 use Rattle.tree_theory.proofs.Grown.{Grown}
 use Rattle.tree_theory.proofs.History.{all-grown}
-use Rattle.tree_theory.proofs.Trees.{grown-fit, grown-stated, sized-rows}
+use Rattle.tree_theory.proofs.Trees.{grown-fit, grown-stated, sized-bounds, sized-rows}
 use Rattle.tree_theory.proofs.Steps.{written-tree}
 use Rattle.member_record.specs.declared.MemberState.{MemberState}
 use Rattle.member_record.specs.Record.{allowed}
@@ -53,9 +53,7 @@ allowed-seven n h =
 
 -- no table and no store has more rows
 rows-most : (ws : List ℕ) → sized ws ≡ true → rows ws ≤ 256
-rows-most ws h =
-    let lengths = and-right (eqb (length ws % 4) 0) (leb 4 (length ws) && leb (length ws) 1024) h in
-    omega (arith, leb-true (length ws) 1024 (and-right (leb 4 (length ws)) (leb (length ws) 1024) lengths))
+rows-most ws h = omega (arith, sized-bounds ws h .most)
 
 store-rows-most : (s : List ℕ) → store-sized s ≡ true → store-rows s ≤ most-rows
 store-rows-most s h =

@@ -33,30 +33,30 @@ module _ {z : Sizes} {o : Office} {e : Event} {i : ℕ} {u : Outcome} (T : Model
   -- the event's number is the step's, or 30, or 9
   number : event-answer z o e ≡
       first
-      (not (eqb (u .number) 0) gives (u .number) ∷
+      (not (eqb (u .number) OK) gives (u .number) ∷
       (sends-one (u .sent) && no-row-left (z .store) (length (o .sent))) gives STORE-FULL ∷
       (proposes-one (u .named) && no-row-left (z .table) (suc (proposals (o .made)))) gives NO-FREE-ROW ∷ [])
   unfolding event-answer event-causes
   number = rw (lt-leb (z .n) (at-member e) (T .member), T .there, T .equals) refl
 
-  pub refused-step : (u .number ≡ 0 → ⊥) → event-answer z o e ≡ u .number
-  refused-step n = number ∙ rw (ne-eqb (u .number) 0 n) refl
+  pub refused-step : (u .number ≡ OK → ⊥) → event-answer z o e ≡ u .number
+  refused-step n = number ∙ rw (ne-eqb (u .number) OK n) refl
 
-  module _ (ok : u .number ≡ 0) where
+  module _ (ok : u .number ≡ OK) where
     pub store-full-answer : sends-one (u .sent) ≡ true → z .store ≤ length (o .sent) → event-answer z o e ≡ STORE-FULL
     store-full-answer s f = number ∙ rw (ok, s, le-leb (z .store) (length (o .sent)) f) refl
 
-    pub silent-one : sends-one (u .sent) ≡ false → proposes-one (u .named) ≡ false → event-answer z o e ≡ 0
+    pub silent-one : sends-one (u .sent) ≡ false → proposes-one (u .named) ≡ false → event-answer z o e ≡ OK
     silent-one s p = number ∙ rw (ok, s, p) refl
 
     module _ (s : sends-one (u .sent) ≡ true) (f : length (o .sent) < z .store) where
       pub table-full-answer : proposes-one (u .named) ≡ true → z .table ≤ suc (proposals (o .made)) → event-answer z o e ≡ NO-FREE-ROW
       table-full-answer p r = number ∙ rw (ok, s, lt-leb (z .store) (length (o .sent)) f, p, le-leb (z .table) (suc (proposals (o .made))) r) refl
 
-      pub sent-one : proposes-one (u .named) ≡ false → event-answer z o e ≡ 0
+      pub sent-one : proposes-one (u .named) ≡ false → event-answer z o e ≡ OK
       sent-one p = number ∙ rw (ok, s, lt-leb (z .store) (length (o .sent)) f, p) refl
 
-      pub proposed-one : proposes-one (u .named) ≡ true → suc (proposals (o .made)) < z .table → event-answer z o e ≡ 0
+      pub proposed-one : proposes-one (u .named) ≡ true → suc (proposals (o .made)) < z .table → event-answer z o e ≡ OK
       proposed-one p r = number ∙ rw (ok, s, lt-leb (z .store) (length (o .sent)) f, p, lt-leb (z .table) (suc (proposals (o .made))) r) refl
 
 module _ {t : Tally} {M : Memory} (B : StepBefore t M) {e : Event} {i : ℕ} where
@@ -70,12 +70,12 @@ module _ {t : Tally} {M : Memory} (B : StepBefore t M) {e : Event} {i : ℕ} whe
       StepAfter B e i (after-event was m (refused-event t k)) M
   unfolding next
   refused-after was m {k} H R =
-      let r : eqb (event-answer (B .z) (B .o) e) 0 ≡ false = ne-eqb (event-answer (B .z) (B .o) e) 0 (λ q. R .some (sym (R .number-is) ∙ q)) in
+      let r : eqb (event-answer (B .z) (B .o) e) OK ≡ false = ne-eqb (event-answer (B .z) (B .o) e) OK (λ q. R .some (sym (R .number-is) ∙ q)) in
       let n : eqb k OK ≡ false = ne-eqb k OK (R .some) in
       record { number-is = sym (R .number-is); small = R .small; represents = rw (r, n, set-same (B .members) i was H) (B .represents) }
 
   -- an accepted one takes its step
-  pub accepted-after : (was : MemberState) {u : Outcome} (M′ : Memory) (a b c : ℕ) → ModelStep (B .z) (B .o) e i u → event-answer (B .z) (B .o) e ≡ 0 →
+  pub accepted-after : (was : MemberState) {u : Outcome} (M′ : Memory) (a b c : ℕ) → ModelStep (B .z) (B .o) e i u → event-answer (B .z) (B .o) e ≡ OK →
       length (u .sent) ≡ a → proposals (made-by (u .named)) ≡ b → decisions (made-by (u .named)) ≡ c →
       M′ .store ≡ stored (length (M′ .store)) (B .o .sent ++ u .sent) →
       M′ .table ≡ table (length (M′ .table)) (made-tree (B .z) (taken (B .z) (B .o) e)) →
@@ -85,7 +85,7 @@ module _ {t : Tally} {M : Memory} (B : StepBefore t M) {e : Event} {i : ℕ} whe
       let z = B .z in
       let o = B .o in
       let R = B .represents in
-      let yes : eqb (event-answer z o e) 0 ≡ true = eq-eqb (event-answer z o e) 0 zero-answer in
+      let yes : eqb (event-answer z o e) OK ≡ true = eq-eqb (event-answer z o e) OK zero-answer in
       let R′ : Represents z (taken z o e) (counted t a b c) (set (B .members) i (u .state)) M′ =
       record {
         shared = record {

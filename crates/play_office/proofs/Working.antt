@@ -38,8 +38,8 @@ module _ {t : Tally} {m : MemberState} {e : Event} {M : Memory} (E : EventBefore
   unfolding AnswerIs
   no-such h q = rw q (missed h)
 
-  pub no-member : t .n ≤ at-member e → {s : MemberStep} → s ≡ missed-step m → AnswerTo E s
-  no-member h = no-such (rw (le-leb (E .before .z .n) (at-member e) (omega (arith, E .before .represents .slot .size))) refl)
+  pub no-such-member : t .n ≤ at-member e → {s : MemberStep} → s ≡ missed-step m → AnswerTo E s
+  no-such-member h = no-such (rw (le-leb (E .before .z .n) (at-member e) (omega (arith, E .before .represents .slot .size))) refl)
 
   module _ (h : at-member e < t .n) where
     within : at-member e < E .before .z .n

@@ -27,7 +27,8 @@ use Rattle.model.proofs.Fold.{after-last, answers-last, length-answers, zeros-a
 use Rattle.model.proofs.Sound.{ended-sound}
 use Rattle.play_events.specs.declared.EventRead.{EventRead}
 use Rattle.play_events.specs.declared.ListHead.{ListHead}
-use Rattle.play_events.specs.List.{HEAD-BYTES, members-of, count-of, head-of, body, list-fits, exact, events-in, events-of, event-at, event-size, behind, rest}
+use Rattle.play_events.specs.List.{HEAD-BYTES, MOST-EVENTS, members-of, count-of, head-of, body, list-fits, exact}
+use Rattle.play_events.specs.List.{events-in, events-of, event-at, event-size, behind, rest}
 use Rattle.play_events.specs.Value.{model-event, ReadsEvent}
 use Rattle.play_events.proofs.Events.{events-suc, behind-suc, length-events, due-stands, offers-small, bytes-left}
 use Rattle.play_store.specs.Rows.{most-rows, store-rows, store-sized, stored}
@@ -101,19 +102,19 @@ pub record Running (list : List ℕ) (L₀ : Lent) (count : ℕ) (L : Lent) (mem
 -- a list that fits, part by part
 pub record FittingList (list : List ℕ) : Type 0 where
   pub head : HEAD-BYTES ≤ length list
-  pub few : count-of list ≤ 1000
+  pub few : count-of list ≤ MOST-EVENTS
   pub filled : exact (count-of list) (body list) ≡ true
 
 pub list-parts : {list : List ℕ} → list-fits list ≡ true → FittingList list
 unfolding list-fits
 list-parts {list} h =
     let enough = leb HEAD-BYTES (length list) in
-    let few = leb (count-of list) 1000 in
+    let few = leb (count-of list) MOST-EVENTS in
     let filled = exact (count-of list) (body list) in
     let behind-head = and-right enough (few && filled) h in
     record {
       head = leb-true HEAD-BYTES (length list) (and-left enough (few && filled) h);
-      few = leb-true (count-of list) 1000 (and-left few filled behind-head);
+      few = leb-true (count-of list) MOST-EVENTS (and-left few filled behind-head);
       filled = and-right few filled behind-head;
     }
 
@@ -198,7 +199,7 @@ module _ {list : List ℕ} {L₀ : Lent} {count : ℕ} {L : Lent} {members : Lis
   pub at-next : k < count → at + event-size (drop at list) ≤ length list
   at-next h = omega (arith, due h .1, length-drop at list, G .at-within)
 
-  pub few-events : count ≤ 1000
+  pub few-events : count ≤ MOST-EVENTS
   few-events = omega (arith, G .count-is, list-parts (G .ready .fits) .few)
 
   pub answer-room : k < count → k < length (L .answers)
@@ -290,9 +291,10 @@ module _ {list : List ℕ} {L₀ : Lent} {count : ℕ} {L : Lent} {members : Lis
   counts-small = (sent-few before, proposals-few before, decisions-few before)
 
   -- after the last event
-  pub ran : count ≤ k → Ran list L₀ (record { number = OK; accepted = accepted; messages = t .sent; proposals = t .proposals; decisions = t .decisions }) L
+  pub running-ended : count ≤ k →
+      Ran list L₀ (record { number = OK; accepted = accepted; messages = t .sent; proposals = t .proposals; decisions = t .decisions }) L
   unfolding events-of
-  ran h =
+  running-ended h =
       let z = sizes-of list (L₀ .memory) in
       let last = count-of list in
       let end = played-to list (L₀ .memory) last in

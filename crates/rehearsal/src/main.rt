@@ -2,6 +2,7 @@
 // writing fails it says so on standard error.
 use libc::STDIN_FILENO;
 use libc::STDOUT_FILENO;
+use play_events::LONGEST_LIST;
 ghost use Prim.Native.Nat.{_≤_};
 ghost use lib.ListN.{length};
 ghost use Rattle.rehearsal_output.specs.Output.{ENOUGH};
@@ -41,9 +42,11 @@ fn read_input(list: &mut [u8]) -> Input
     }
 }
 
-// The longest list has 20,008 bytes; one byte more is read, so that a longer input is refused.
+// One byte more than the longest list has, so that a longer input is refused.
+const ROOM_FOR_LIST: usize = LONGEST_LIST + 1;
+
 fn main() {
-    let mut list = [0u8; 20009];
+    let mut list = [0u8; ROOM_FOR_LIST];
     let input = read_input(&mut list);
     if input.failed {
         os::fail(b"rehearsal: can't read standard input");

@@ -10,9 +10,9 @@ use lib.Seq.{take-all, length-take-le}
 use lib.Dec.{ltb, eqb}
 use Rattle.laws.specs.Tests.{tests, by-test, clash, and-right}
 use Rattle.play_events.specs.List.{EVENT-START, EVENT-DELIVER, START-BYTES, DELIVER-BYTES, HEAD-BYTES, begins-with}
-use Rattle.play_events.specs.List.{body, count-of, event-size, rest, exact, list-fits}
+use Rattle.play_events.specs.List.{LONGEST-LIST, body, count-of, event-size, rest, exact, list-fits}
 use Rattle.play_run.proofs.Running.{list-parts}
-use Rattle.rehearsal_output.specs.Output.{LONGEST-LIST, ENOUGH, rehearsal-number, rehearsal-output}
+use Rattle.rehearsal_output.specs.Output.{ENOUGH, rehearsal-number, rehearsal-output}
 
 size-most : (s : List ℕ) → event-size s ≤ START-BYTES
 unfolding event-size

@@ -9,6 +9,7 @@ use lib.ListN.{length, getD, take, length-append}
 use lib.Seq.{take-suc, take-all}
 use lib.Dec.{eqb}
 use borrow.Author.Tests.{ne-eqb}
+use Rattle.laws.specs.Widths.{BELOW-64-BITS}
 use Rattle.decimal.specs.Digits.{decimal}
 use Rattle.decimal.specs.Text.{PutText}
 use Rattle.decimal.proofs.Text.{text-none, text-behind, text-room}
@@ -57,7 +58,7 @@ in-line-long : (first : Bool) (n k : ℕ) → length (decimal n) ≤ k → lengt
 in-line-long true n k h = omega arith
 in-line-long false n k h = omega arith
 
-pub in-line-64 : (first : Bool) (n : ℕ) → n < 18446744073709551616 → length (in-line first n) ≤ ROOM-FOR-NUMBER
+pub in-line-64 : (first : Bool) (n : ℕ) → n < BELOW-64-BITS → length (in-line first n) ≤ ROOM-FOR-NUMBER
 in-line-64 first n h = in-line-long first n 20 (decimal-of-64-bits n h)
 
 pub in-line-8 : (first : Bool) (n : ℕ) → n < 256 → length (in-line first n) ≤ ROOM-FOR-ANSWER
@@ -89,7 +90,7 @@ within-room j k P h = text-room k (P .put) (omega (arith, P .within))
 
 -- one number of 64 bits more
 pub room-for-next : {out u mid : List ℕ} {at to : ℕ} (j : ℕ) (first : Bool) (n : ℕ) → PutWithin out at u to mid j → at + j + ROOM-FOR-NUMBER ≤ length out →
-    n < 18446744073709551616 → to + length (in-line first n) ≤ length mid
+    n < BELOW-64-BITS → to + length (in-line first n) ≤ length mid
 room-for-next j first n P h fits = omega (arith, within-room j ROOM-FOR-NUMBER P h, in-line-64 first n fits)
 
 -- one answer more

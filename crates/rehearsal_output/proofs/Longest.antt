@@ -10,9 +10,9 @@ use borrow.Author.Tests.{le-leb}
 use Rattle.laws.specs.Tests.{and-intro}
 use Rattle.numbers.specs.Numbers.{OK, LIST-SHAPE}
 use Rattle.xdr.specs.Words.{word-at}
-use Rattle.play_events.specs.List.{HEAD-BYTES, START-BYTES, event-size, exact, list-fits}
+use Rattle.play_events.specs.List.{HEAD-BYTES, START-BYTES, MOST-EVENTS, LONGEST-LIST, event-size, exact, list-fits}
 use Rattle.play_events.proofs.Sizes.{size-start}
-use Rattle.rehearsal_output.specs.Output.{LONGEST-LIST, MOST-EVENTS, rehearsal-number}
+use Rattle.rehearsal_output.specs.Output.{rehearsal-number}
 use Rattle.rehearsal_output.proofs.Enough.{too-long}
 
 -- a start before l

@@ -2,7 +2,7 @@
 -- numbers, a line feed after each line.
 use mathlib.Core.Bool.{Bool, true, false, cond, not}
 use mathlib.Core.List.{List, [], _∷_, _++_}
-use Prim.Native.Nat.{ℕ, suc, _+_, _*_}
+use Prim.Native.Nat.{ℕ, suc}
 use lib.Dec.{eqb}
 use Rattle.laws.specs.First.{_gives_, first}
 use Rattle.numbers.specs.Numbers.{OK, LIST-SHAPE, OFFICE-SIZE}
@@ -12,16 +12,13 @@ use Rattle.member_record.specs.Record.{allowed}
 use Rattle.model.specs.Model.{Sizes, Event, first-office, event-answers}
 use Rattle.model.specs.Demand.{ended}
 use Rattle.model.specs.Counts.{made-tree}
-use Rattle.play_events.specs.List.{HEAD-BYTES, START-BYTES, members-of, list-fits, events-of}
+use Rattle.play_events.specs.List.{LONGEST-LIST, members-of, list-fits, events-of}
 
 abbrev pub REHEARSAL-TABLE-ROWS : ℕ
 REHEARSAL-TABLE-ROWS = 64
 
 abbrev pub REHEARSAL-STORE-ROWS : ℕ
 REHEARSAL-STORE-ROWS = 1000
-
-abbrev pub MOST-EVENTS : ℕ
-MOST-EVENTS = 1000
 
 abbrev pub LINE-FEED : ℕ
 LINE-FEED = 10
@@ -74,10 +71,6 @@ unfoldable pub rehearsal-output : List ℕ → List ℕ
 unfolding rehearsal-number run-output
 rehearsal-output list =
     cond (eqb (rehearsal-number list) OK) (run-output (rehearsal-sizes list) (events-of list)) (line (rehearsal-number list ∷ []))
-
--- the longest list that isn't refused with 26: 1,000 starts
-abbrev pub LONGEST-LIST : ℕ
-LONGEST-LIST = HEAD-BYTES + START-BYTES * MOST-EVENTS
 
 -- so many bytes from the front of an input tell what is printed for it: one more than the longest list
 abbrev pub ENOUGH : ℕ

@@ -4,8 +4,9 @@ use mathlib.Core.List.{List, _++_}
 use Prim.Native.Nat.{ℕ, _+_, _*_, _≤_}
 use lib.ListN.{length, drop}
 use Rattle.decimal.specs.Text.{PutText}
+use Rattle.play_events.specs.List.{MOST-EVENTS}
 use Rattle.play_store.specs.Rows.{row-length}
-use Rattle.rehearsal_output.specs.Output.{REHEARSAL-TABLE-ROWS, REHEARSAL-STORE-ROWS, MOST-EVENTS, rehearsal-output}
+use Rattle.rehearsal_output.specs.Output.{REHEARSAL-TABLE-ROWS, REHEARSAL-STORE-ROWS, rehearsal-output}
 
 -- the output stands at the front, bytes behind it stay, and its length is answered
 pub record Printed (list old : List ℕ) (n : ℕ) (new : List ℕ) : Type 0 where

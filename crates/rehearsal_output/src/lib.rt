@@ -1,4 +1,6 @@
 // What the rehearsal prints (01, "Play" and "Cases from the rig"), put into lent bytes.
+use play_events::MOST_EVENTS;
+use play_store::ROW_LENGTH;
 ghost use mathlib.Core.Path.{_≡_};
 ghost use mathlib.Core.List.{[], _∷_, _++_};
 ghost use Prim.Native.Nat.{_+_, _*_, _≤_, _<_};
@@ -11,16 +13,27 @@ ghost use Rattle.rehearsal_output.specs.Promise.{ROOM-FOR-ANSWER, ROOM-F
 
 const LINE_FEED: u8 = 10;
 
-// The bytes of 1,000 store rows.
-const STORE_BYTES: usize = 28000;
+// The store's rows, and their bytes.
+const STORE_ROWS: usize = 1000;
 
-// The words of 64 table rows.
-const TABLE_WORDS: usize = 256;
+const STORE_BYTES: usize = ROW_LENGTH * STORE_ROWS;
 
-const MOST_EVENTS: usize = 1000;
+// The table's rows, and their words.
+const TABLE_ROWS: usize = 64;
 
-// Room for any output.
-pub const ROOM_FOR_OUTPUT: usize = 9441;
+const TABLE_WORDS: usize = 4 * TABLE_ROWS;
+
+// Room for an answer: a blank, and the three digits of a byte.
+const ROOM_FOR_ANSWER: usize = 4;
+
+// Room for a number of 64 bits: a blank, and its 20 digits.
+const ROOM_FOR_NUMBER: usize = 21;
+
+// Room for a node: four numbers and a line feed.
+const ROOM_FOR_NODE: usize = 4 * ROOM_FOR_NUMBER + 1;
+
+// Room for any output: the answers, a line feed, the nodes.
+pub const ROOM_FOR_OUTPUT: usize = ROOM_FOR_ANSWER * MOST_EVENTS + 1 + ROOM_FOR_NODE * TABLE_ROWS;
 
 // A byte, as a wider number.
 fn wide(b: u8) -> u64

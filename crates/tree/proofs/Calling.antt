@@ -1,18 +1,18 @@
 -- Calls on a tree: refused, or done; calls on any words: refused by 1 or 2, or those of a tree. Assumes nothing.
 use mathlib.Core.Path.{_≡_, refl, sym, ap, subst, _∙_}
-use mathlib.Core.Bool.{Bool, true, false, _&&_}
+use mathlib.Core.Bool.{Bool, true, false}
 use mathlib.Core.List.{List, [], _∷_, _++_}
-use Prim.Native.Nat.{ℕ, _%_, _≤_}
+use Prim.Native.Nat.{ℕ, _≤_}
 use lib.ListN.{length}
-use lib.Dec.{leb, eqb}
-use borrow.Author.Tests.{eq-eqb, ne-eqb, leb-true, not-false}
-use Rattle.laws.specs.Tests.{by-test, and-left, and-right}
+use lib.Dec.{eqb}
+use borrow.Author.Tests.{eq-eqb, ne-eqb, not-false}
+use Rattle.laws.specs.Tests.{by-test}
 use Rattle.laws.specs.First.{Cause, first, passed}
 use Rattle.numbers.specs.Numbers.{OK}
 use Rattle.tree_theory.specs.Machine.{Call, answer, causes}
 use Rattle.tree_theory.specs.Table.{rows, nodes, sized, table, Tree, is-tree, table-causes, call-number}
 use Rattle.tree_theory.proofs.History.{step-ok, step-refused}
-use Rattle.tree_theory.proofs.Trees.{tree-held, is-tree-exact}
+use Rattle.tree_theory.proofs.Trees.{sized-bounds, tree-held, is-tree-exact}
 use Rattle.tree_theory.proofs.Steps.{step-tree, tree-number, tree-table, table-refused}
 use Rattle.tree_steps.specs.Planned.{call-written, Planned}
 use Rattle.tree.specs.Promises.{stepped-table, CalledOnTable, CalledOnTree}
@@ -20,8 +20,8 @@ use Rattle.tree.specs.Promises.{stepped-table, CalledOnTable, CalledOnTr
 module _ {valued : Bool} {ws : List ℕ} (h : sized ws ≡ true) (T : Tree valued ws) {c : Call} {number row status : ℕ} {strikes : Bool}
     (P : Planned valued ws c number row status strikes) where
   -- a refused call leaves the table
-  pub refused : (number ≡ OK → ⊥) → CalledOnTree valued ws c number ws
-  refused z =
+  pub call-refused : (number ≡ OK → ⊥) → CalledOnTree valued ws c number ws
+  call-refused z =
       let t : eqb (answer valued (rows ws) (nodes ws) c) OK ≡ false = ne-eqb _ _ (λ q. z (P .number-is ∙ q)) in
       let w : ws ≡ stepped-table valued ws c =
       tree-held valued ws h T .whole ∙ ap (table (length ws)) (sym (step-refused valued (rows ws) (nodes ws) c t)) in
@@ -62,6 +62,4 @@ of-tree {valued = valued} {ws = ws} {c = c} (s, T) S =
     record { number-is = S .number-is ∙ sym (tree-number valued ws s T c); table-is = S .table-is ∙ sym (tree-table valued ws s T c) }
 
 pub four : (ws : List ℕ) → sized ws ≡ true → 4 ≤ length ws
-four ws s =
-    let within : Bool = leb 4 (length ws) && leb (length ws) 1024 in
-    leb-true 4 (length ws) (and-left (leb 4 (length ws)) (leb (length ws) 1024) (and-right (eqb (length ws % 4) 0) within s))
+four ws s = sized-bounds ws s .least

@@ -1,30 +1,28 @@
 -- What a call of path comes to: each refusal, and what the recursion to the parent left. Assumes nothing.
 use mathlib.Core.Path.{_≡_, refl, sym, subst, _∙_}
-use mathlib.Core.Bool.{Bool, true, false, _&&_}
+use mathlib.Core.Bool.{Bool, true, false}
 use mathlib.Core.List.{List}
-use Prim.Native.Nat.{ℕ, _+_, _%_, _≤_}
+use Prim.Native.Nat.{ℕ, _+_, _≤_}
 use native.Mathlib.Omega.{arith}
 use lib.ListN.{length}
 use lib.Dec.{leb, ltb, eqb}
-use borrow.Author.Tests.{leb-true, ne-eqb}
-use Rattle.laws.specs.Tests.{by-test, and-right, tests}
+use borrow.Author.Tests.{ne-eqb}
+use Rattle.laws.specs.Tests.{by-test, tests}
 use Rattle.laws.specs.First.{first}
 use Rattle.ids.specs.Ranges.{above-range}
 use Rattle.numbers.specs.Numbers.{OK, ROUND-RANGE, ROUND-ABSENT, PATH-TOO-LONG}
 use Rattle.tree_theory.specs.Machine.{present, path}
-use Rattle.tree_theory.specs.Table.{rows, used, nodes, sized, Tree, is-tree, table-causes, path-causes, path-number, path-count, path-slice}
+use Rattle.tree_theory.specs.Table.{MOST-WORDS, rows, used, nodes, sized, Tree, is-tree, table-causes, path-causes, path-number, path-count, path-slice}
 use Rattle.tree_theory.proofs.Words.{length-rows, used-rows}
 use Rattle.tree_theory.proofs.Paths.{path-length}
-use Rattle.tree_theory.proofs.Trees.{tree-held, is-tree-exact}
+use Rattle.tree_theory.proofs.Trees.{sized-bounds, tree-held, is-tree-exact}
 use Rattle.tree_steps.specs.Climbed.{PathOf, PathWritten}
 use Rattle.tree_steps.proofs.Climbing.{path-some}
 use Rattle.tree.specs.Promises.{PathGiven}
 use Rattle.tree.proofs.Calling.{first-left}
 
-short-table : (ws : List ℕ) → sized ws ≡ true → length ws ≤ 1024
-short-table ws s =
-    let within : Bool = leb 4 (length ws) && leb (length ws) 1024 in
-    leb-true (length ws) 1024 (and-right (leb 4 (length ws)) (leb (length ws) 1024) (and-right (eqb (length ws % 4) 0) within s))
+short-table : (ws : List ℕ) → sized ws ≡ true → length ws ≤ MOST-WORDS
+short-table ws s = sized-bounds ws s .most
 
 module _ (valued : Bool) (ws : List ℕ) (r : ℕ) (out : List ℕ) where
   -- a refused call gives no count and leaves the slice

@@ -48,5 +48,5 @@ module _ {valued : Bool} {ws : List ℕ} {n i : ℕ} (F : Fitted valued ws n i) 
   unfolding row-fits
   unfit-row h a t = unfit valued ws n i n h (rw (ne-eqb i 0 (λ q. omega (arith, F .begun))) (sym a ∙ not-true b t))
 
-pub fits-all : {valued : Bool} {ws : List ℕ} {n i : ℕ} → Fitted valued ws n i → n ≤ i → fits-to valued ws n n ≡ true
-fits-all {n = n} {i = i} F h = let e : i ≡ n = omega (arith, F .within) in rw e at (F .all)
+pub fitted-all : {valued : Bool} {ws : List ℕ} {n i : ℕ} → Fitted valued ws n i → n ≤ i → fits-to valued ws n n ≡ true
+fitted-all {n = n} {i = i} F h = let e : i ≡ n = omega (arith, F .within) in rw e at (F .all)

@@ -48,5 +48,5 @@ module _ {ws : List ℕ} {a i : ℕ} (Z : ZeroTo ws a i) where
   pub zeros-stop : i < length ws → (getD ws i 0 ≡ 0 → ⊥) → zeros-to ws a (length ws) ≡ false
   zeros-stop h e = zeros-hit ws a i (length ws) h (Z .begun) e
 
-  pub zeros-all : length ws ≤ i → zeros-to ws a (length ws) ≡ true
-  zeros-all h = let e : i ≡ length ws = omega (arith, Z .within) in rw e at (Z .all)
+  pub zero-to-all : length ws ≤ i → zeros-to ws a (length ws) ≡ true
+  zero-to-all h = let e : i ≡ length ws = omega (arith, Z .within) in rw e at (Z .all)

@@ -168,11 +168,11 @@ module _ {ws : List ℕ} {r p : ℕ} {l : Look} (L : LookedAt ws r p l) where
   pub parent-present : l .parent < l .used → present p (nodes ws) ≡ true
   parent-present h = found-there ws (used ws) p parent-is (omega (arith, used-is))
 
-  pub parent-absent : l .used ≤ l .parent → present p (nodes ws) ≡ false
-  parent-absent h = found-none ws (used ws) p parent-is (omega (arith, used-is))
+  pub parent-missing : l .used ≤ l .parent → present p (nodes ws) ≡ false
+  parent-missing h = found-none ws (used ws) p parent-is (omega (arith, used-is))
 
   pub parent-node : l .parent < l .used → find p (nodes ws) ≡ row ws (l .parent)
   parent-node h = found-at ws (used ws) p parent-is (omega (arith, used-is))
 
-  pub parent-fits : l .parent < l .used → 4 * l .parent + 4 ≤ length ws
-  parent-fits h = omega (arith, used-is, used-rows ws)
+  pub parent-row-fits : l .parent < l .used → 4 * l .parent + 4 ≤ length ws
+  parent-row-fits h = omega (arith, used-is, used-rows ws)

@@ -20,7 +20,7 @@ use Rattle.tree_theory.proofs.Grown.{absent-crossed}
 use Rattle.tree_theory.proofs.Paths.{crossing-alone}
 use Rattle.tree_theory.proofs.Calls.{NextCall, AddNext, CommitNext, grow, adds-elim, commits-elim, edge-elim, adds-intro, commits-intro}
 use Rattle.tree_theory.proofs.Calls.{adds-with-elim, adds-with-intro, committed-added, adds-in-append}
-use Rattle.tree_theory.proofs.Rebuilt.{cons-same, history-committed, history-ghost, Story, grown, added-append, length-added}
+use Rattle.tree_theory.proofs.Rebuilt.{cons-same, history-committed, history-ghost, Story, rebuilt-grown, added-append, length-added}
 use Rattle.tree_theory.proofs.Rebuilt.{in-added, of-added, map-added, crossed-rebuilt, present-rebuilt, find-rebuilt, round-positive}
 
 -- an add needs a row beside those used
@@ -188,7 +188,8 @@ module _ (valued : Bool) (rows : ℕ) (h : List Call) (S : Story valued rows h) 
   struck-made r v p A s w q m =
       let N : AddNext valued h r v p = A .next in
       rw (
-        crossing-alone valued rows (rebuilt h) (grown valued rows h S) r p (present-parent v p (N .parent)) (N .lower) (made h s w q) (there (in-added h h m)),
+        crossing-alone valued rows (rebuilt h) (rebuilt-grown valued rows h S) r p (present-parent v p (N .parent)) (N .lower) (made h s w q)
+            (there (in-added h h m)),
         history-add h r v p s,
       )
       (by-test (eqb (history h s) ADDED && crosses r p s) (λ t. rw t refl) (λ t. rw t refl))
@@ -198,7 +199,7 @@ module _ (valued : Bool) (rows : ℕ) (h : List Call) (S : Story valued rows h) 
   above-crossed r pos new = same-test (any (above r) (rebuilt h)) (any (edge-crosses r) h)
       (λ t. any-elim (above r) (rebuilt h) t (λ n m e.
       sym (crossed-rebuilt valued rows h S r) ∙
-      absent-crossed valued rows (rebuilt h) (grown valued rows h S) r n m (ltb-true r (n .round) e) (present-rebuilt valued rows h S r pos ∙ new)))
+      absent-crossed valued rows (rebuilt h) (rebuilt-grown valued rows h S) r n m (ltb-true r (n .round) e) (present-rebuilt valued rows h S r pos ∙ new)))
       (λ t. edge-elim r h t (λ s v p m e. any-intro (above r) (rebuilt h) (there (in-added h h m)) (and-right (ltb p r) (ltb r s) e)))
 
   new-made : (r v p : ℕ) → CallAllowed valued rows h (add r v p) → new-node (rebuilt h) r v p ≡ made (h ++ add r v p ∷ []) r v p

@@ -13,7 +13,7 @@ use Rattle.tree_theory.specs.Properties.{adds-in}
 use Rattle.tree_theory.specs.Rebuilt.{with-ok, accepted, added-nodes, rebuilt, ToldNodes}
 use Rattle.tree_theory.proofs.Grown.{Grown}
 use Rattle.tree_theory.proofs.Calls.{none}
-use Rattle.tree_theory.proofs.Rebuilt.{Story, grown}
+use Rattle.tree_theory.proofs.Rebuilt.{Story, rebuilt-grown}
 use Rattle.tree_theory.proofs.Accepted.{CallAllowed, ok-allowed, story-next, changed}
 
 pub step-ok : (valued : Bool) (rows : ℕ) (ns : List Node) (c : Call) → eqb (answer valued rows ns c) 0 ≡ true → step valued rows ns c ≡ change ns c
@@ -77,7 +77,7 @@ pub told-of : (valued : Bool) (rows : ℕ) (cs : List Call) → Told valued rows
 told-of valued rows cs = told-all valued rows cs [] fresh (told-fresh valued rows)
 
 pub told-grown : (valued : Bool) (rows : ℕ) (h : List Call) (ns : List Node) → Told valued rows h ns → Grown valued rows ns
-told-grown valued rows h ns T = rw (T .nodes) (grown valued rows h (T .story))
+told-grown valued rows h ns T = rw (T .nodes) (rebuilt-grown valued rows h (T .story))
 
 -- what holds of the nodes that any list of calls leaves
 pub all-grown : (valued : Bool) (rows : ℕ) (cs : List Call) → Grown valued rows (after valued rows fresh cs)

@@ -180,8 +180,8 @@ module _ (valued : Bool) (rows : ℕ) (h : List Call) (S : Story valued rows h) 
             (λ v₁ p₁ i w. rw (found-made k (add r v p ∷ l) e i) (sym (w q)));
       }
 
-  pub grown : Grown valued rows (rebuilt h)
-  grown = record {
+  pub rebuilt-grown : Grown valued rows (rebuilt h)
+  rebuilt-grown = record {
     rooted = refl;
     fit = λ pos. omega (arith, length-added h h, S .room pos);
     placed = λ pre post n e. added-cut h h pre post n e (λ k l r v p a b c. rw (b, c) (placed-made k l r v p a));

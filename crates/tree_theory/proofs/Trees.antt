@@ -8,11 +8,11 @@ use Prim.Native.Nat.{ℕ, _*_, _%_, _<_, _≤_}
 use native.Mathlib.Omega.{arith}
 use lib.ListN.{length}
 use lib.Dec.{leb, eqb}
-use borrow.Author.Tests.{eqb-true, eq-eqb}
-use Rattle.laws.specs.Tests.{clash, tests, and-left, and-right, and-intro}
+use borrow.Author.Tests.{eqb-true, eq-eqb, leb-true}
+use Rattle.laws.specs.Tests.{clash, and-left, and-right, and-intro}
 use Rattle.laws.specs.Lists.{_∈_}
 use Rattle.tree_theory.specs.Machine.{Node, FREE, fresh, after}
-use Rattle.tree_theory.specs.Table.{sized, rows, table, Tree, nodes, calls-of, same-words, is-tree}
+use Rattle.tree_theory.specs.Table.{MOST-WORDS, sized, rows, table, Tree, nodes, calls-of, same-words, is-tree}
 use Rattle.tree_theory.proofs.Grown.{Grown}
 use Rattle.tree_theory.proofs.History.{all-grown}
 use Rattle.tree_theory.proofs.Regrown.{regrown}
@@ -23,17 +23,30 @@ pub record HoldsGrown (valued : Bool) (ws : List ℕ) : Type 0 where
   pub grown : Grown valued (rows ws) (nodes ws)
   pub whole : ws ≡ table (length ws) (nodes ws)
 
+-- what `sized` says of a length
+pub record SizedBounds (ws : List ℕ) : Type 0 where
+  pub whole-rows : length ws % 4 ≡ 0
+  pub least : 4 ≤ length ws
+  pub most : length ws ≤ MOST-WORDS
+
+pub sized-bounds : (ws : List ℕ) → sized ws ≡ true → SizedBounds ws
+sized-bounds ws h =
+    let whole : Bool = eqb (length ws % 4) 0 in
+    let low : Bool = leb 4 (length ws) in
+    let high : Bool = leb (length ws) MOST-WORDS in
+    let within : (low && high) ≡ true = and-right whole (low && high) h in
+    record {
+      whole-rows = eqb-true (length ws % 4) 0 (and-left whole (low && high) h);
+      least = leb-true 4 (length ws) (and-left low high within);
+      most = leb-true (length ws) MOST-WORDS (and-right low high within);
+    }
+
 pub sized-rows : (ws : List ℕ) → sized ws ≡ true → 0 < rows ws
-sized-rows ws h =
-    let within : Bool = leb 4 (length ws) && leb (length ws) 1024 in
-    let b : leb 4 (length ws) ≡ true = and-left (leb 4 (length ws)) (leb (length ws) 1024) (and-right (eqb (length ws % 4) 0) within h) in
-    omega tests
+sized-rows ws h = omega (arith, sized-bounds ws h .least)
 
 -- four words a row are all words
 pub sized-words : (ws : List ℕ) → sized ws ≡ true → 4 * rows ws ≡ length ws
-sized-words ws h =
-    let b : eqb (length ws % 4) 0 ≡ true = and-left (eqb (length ws % 4) 0) (leb 4 (length ws) && leb (length ws) 1024) h in
-    omega tests
+sized-words ws h = omega (arith, sized-bounds ws h .whole-rows)
 
 -- ---- a tree holds grown nodes
 

@@ -1,7 +1,7 @@
 -- Rows and words: what is written for nodes reads back as these nodes, and the rows of a table are its words. Assumes nothing.
 use mathlib.Core.Path.{_≡_, refl, sym, ap, _∙_}
 use mathlib.Core.Bool.{true, false}
-use mathlib.Core.List.{List, [], _∷_, _++_, append-assoc, List·Memᴰ·head as here, List·Memᴰ·tail as there, Memᴰ·append-left}
+use mathlib.Core.List.{List, [], _∷_, _++_, append-assoc, Memᴰ·append-left}
 use mathlib.Core.Logic.{_≢_}
 use Prim.Native.Nat.{ℕ, zero, suc, _+_, _-_, _*_, _<_, _≤_}
 use native.Mathlib.Omega.{arith}
@@ -11,6 +11,7 @@ use lib.Dec.{eqb}
 use borrow.Author.Tests.{ne-eqb, eq-eqb, eqb-true}
 use Rattle.laws.specs.Tests.{by-test, tests}
 use Rattle.laws.specs.Lists.{_∈_, by-last, in-last}
+use Rattle.laws.specs.Elements.{getD-in}
 use Rattle.tree_theory.specs.Machine.{Node, FREE, root}
 use Rattle.tree_theory.specs.Table.{words, table, row, rows, rows-of, used, used-from, nodes}
 
@@ -174,18 +175,13 @@ free-word len ns i h =
     zero-at (suc n) zero = refl
     zero-at (suc n) (suc j) = zero-at n j
 
-pub getD-in : (ns : List Node) (i : ℕ) → i < length ns → getD ns i root ∈ ns
-getD-in [] i h = absurd (omega arith)
-getD-in (n ∷ ns) zero h = here refl
-getD-in (n ∷ ns) (suc i) h = there (getD-in ns i (omega arith))
-
 -- the nodes of a table of nodes with no status 0
 module _ (len : ℕ) (ns : List Node) (fit : 4 * length ns ≤ len) (stated : (n : Node) → n ∈ ns → n .status ≢ FREE) where
   pub used-table : used (table len ns) ≡ length ns
   unfolding table
   used-table =
       used-is (table len ns) (length ns) (rows (table len ns)) 0 (omega arith) (omega (arith, length-table len ns fit))
-      (λ j l. rw (status-word ns (replicate (len - 4 * length ns) 0) j l) (stated (getD ns j root) (getD-in ns j l)))
+      (λ j l. rw (status-word ns (replicate (len - 4 * length ns) 0) j l) (stated (getD ns j root) (getD-in ns j root l)))
       (λ l. free-word len ns (4 * length ns + 3) (omega arith))
 
   pub nodes-table : nodes (table len ns) ≡ ns

@@ -6,6 +6,7 @@ use Prim.Native.Nat.{ℕ, suc, _<_}
 use lib.Dec.{eqb}
 use Rattle.laws.specs.Lists.{_∈_, any}
 use Rattle.ids.specs.Ranges.{out-of-range}
+use Rattle.numbers.specs.Numbers.{OK}
 use Rattle.tree_theory.specs.Machine.{Call, add, commit, crosses, ADDED, GHOST, COMMITTED, answers, fresh}
 
 abbrev pub round-of : Call → ℕ
@@ -55,7 +56,7 @@ adds-in (commit r ∷ cs) = adds-in cs
 
 -- each call of a list from fresh gets OK
 abbrev pub AllOk : Bool → ℕ → List Call → Type 0
-AllOk valued rows cs = (n : ℕ) → n ∈ answers valued rows fresh cs → n ≡ 0
+AllOk valued rows cs = (n : ℕ) → n ∈ answers valued rows fresh cs → n ≡ OK
 
 -- COMMITTED for the root and committed rounds, else GHOST if some edge crosses the round, else ADDED
 unfoldable pub history : List Call → ℕ → ℕ

@@ -7,7 +7,7 @@ use Prim.Native.Nat.{ℕ, _-_}
 use lib.ListN.{length, replicate}
 use lib.Dec.{eqb}
 use Rattle.numbers.specs.Numbers.{OK}
-use Rattle.tree_theory.specs.Machine.{Call, add, commit, Node, node-of, root, fresh, answers, after}
+use Rattle.tree_theory.specs.Machine.{Call, add, commit, COMMITTED, Node, node-of, root, fresh, answers, after}
 use Rattle.tree_theory.specs.Properties.{history}
 use Rattle.tree_theory.specs.Table.{call-numbers, calls-table, fresh-table}
 
@@ -45,7 +45,7 @@ added-words h (add r v p ∷ cs) = r ∷ p ∷ v ∷ history h r ∷ added-words
 added-words h (commit r ∷ cs) = added-words h cs
 
 abbrev pub rebuilt-words : List Call → List ℕ
-rebuilt-words h = 0 ∷ 0 ∷ 0 ∷ 3 ∷ added-words h h
+rebuilt-words h = 0 ∷ 0 ∷ 0 ∷ COMMITTED ∷ added-words h h
 
 -- the table of `len` words that they tell: the root, a row for each add, free rows all zeros
 abbrev pub rebuilt-table : ℕ → List Call → List ℕ

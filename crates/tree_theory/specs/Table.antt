@@ -11,9 +11,13 @@ use Rattle.ids.specs.Ranges.{above-range}
 use Rattle.numbers.specs.Numbers.{OK, TABLE-LENGTH, NOT-A-TREE, ROUND-RANGE, ROUND-ABSENT, PATH-TOO-LONG}
 use Rattle.tree_theory.specs.Machine.{Node, node-of, Call, add, commit, FREE, COMMITTED, fresh, present, path, causes, change, after}
 
+-- the longest table: 256 rows
+abbrev pub MOST-WORDS : ℕ
+MOST-WORDS = 1024
+
 -- a multiple of 4 from 4 to 1,024
 abbrev pub sized : List ℕ → Bool
-sized ws = eqb (length ws % 4) 0 && (leb 4 (length ws) && leb (length ws) 1024)
+sized ws = eqb (length ws % 4) 0 && (leb 4 (length ws) && leb (length ws) MOST-WORDS)
 
 abbrev pub rows : List ℕ → ℕ
 rows ws = length ws / 4

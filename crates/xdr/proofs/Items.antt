@@ -6,6 +6,7 @@ use Prim.Native.Nat.{ℕ, _+_, _≤_, _<_}
 use native.Mathlib.Omega.{arith}
 use lib.ListN.{length, take, drop, length-append, drop-of-length-le}
 use Rattle.laws.specs.Parts.{written-on}
+use Rattle.laws.specs.Widths.{BELOW-64-BITS}
 use Rattle.xdr.specs.Words.{AllBytes, word, hyper, word-at, hyper-at}
 use Rattle.xdr.specs.Items.{Item, integer, long, width, span, item-bytes, encoded, Stand}
 use Rattle.xdr.proofs.Laws.{length-word, length-hyper, word-found, hyper-found, word-whole, hyper-whole}
@@ -30,7 +31,7 @@ pub integer-found : (is js : List Item) (x at : ℕ) → length (encoded is) ≡
 unfolding encoded
 integer-found is js x at e h = rw (encoded-append is (integer x ∷ js)) (word-found (encoded is) (encoded js) x at e h)
 
-pub long-found : (is js : List Item) (x at : ℕ) → length (encoded is) ≡ at → x < 18446744073709551616 → hyper-at (encoded (is ++ long x ∷ js)) at ≡ x
+pub long-found : (is js : List Item) (x at : ℕ) → length (encoded is) ≡ at → x < BELOW-64-BITS → hyper-at (encoded (is ++ long x ∷ js)) at ≡ x
 unfolding encoded
 long-found is js x at e h = rw (encoded-append is (long x ∷ js)) (hyper-found (encoded is) (encoded js) x at e h)
 

@@ -10,6 +10,7 @@ use lib.ListN.{length, take, drop, getD, set, length-append, length-take, length
 use lib.Seq.{take-suc, take-all, take-at, drop-at, length-take-le, take-append-le, drop-append-le, drop-drop, drop-cons, take-add, sets-eq}
 use Rattle.laws.specs.Lists.{_∈_, in-last, every-snoc}
 use Rattle.laws.specs.Parts.{written-on}
+use Rattle.laws.specs.Widths.{BELOW-64-BITS}
 use Rattle.xdr.specs.Words.{AllBytes, big-endian, value-after, value, word, hyper, word-at, hyper-at}
 
 value-snoc : (a b : ℕ) (l : List ℕ) → value-after a (l ++ b ∷ []) ≡ value-after a l * 256 + b
@@ -114,7 +115,7 @@ pub word-found : (front rest : List ℕ) (x at : ℕ) → length front ≡ at �
 unfolding word word-at
 word-found front rest x at e h = found 4 x at front rest h e
 
-pub hyper-found : (front rest : List ℕ) (x at : ℕ) → length front ≡ at → x < 18446744073709551616 → hyper-at (front ++ (hyper x ++ rest)) at ≡ x
+pub hyper-found : (front rest : List ℕ) (x at : ℕ) → length front ≡ at → x < BELOW-64-BITS → hyper-at (front ++ (hyper x ++ rest)) at ≡ x
 unfolding hyper hyper-at
 hyper-found front rest x at e h = found 8 x at front rest h e
 
@@ -126,7 +127,7 @@ pub hyper-whole : (at : ℕ) (s : List ℕ) → AllBytes s → at + 8 ≤ length
 unfolding hyper hyper-at
 hyper-whole at s k h = whole 8 at s k h
 
-pub hyper-at-small : (at : ℕ) (s : List ℕ) → AllBytes s → hyper-at s at < 18446744073709551616
+pub hyper-at-small : (at : ℕ) (s : List ℕ) → AllBytes s → hyper-at s at < BELOW-64-BITS
 unfolding hyper-at
 hyper-at-small at s k =
     let part = take 8 (drop at s) in
@@ -154,7 +155,7 @@ big-endian-parts m n high low h k =
     λ b p. ⊎-elim (bytes-big-endian m high b) (bytes-big-endian n low b) (List·Memᴰ·append-cases (big-endian m high) p) in
     rw v at (respelt (m + n) both size bytes)
 
-pub hyper-words : (x : ℕ) → x < 18446744073709551616 → hyper x ≡ word (x / 4294967296) ++ word (x % 4294967296)
+pub hyper-words : (x : ℕ) → x < BELOW-64-BITS → hyper x ≡ word (x / 4294967296) ++ word (x % 4294967296)
 unfolding hyper word
 hyper-words x h =
     let e : x ≡ x / 4294967296 * 4294967296 + x % 4294967296 = omega arith in
@@ -195,7 +196,7 @@ word-stored l at x h =
     rw (e1, e2, e3, b1, b2) (sets-eq (x / 256 / 256 / 256 % 256 ∷ x / 256 / 256 % 256 ∷ x / 256 % 256 ∷ x % 256 ∷ []) l at h)
 
 -- two words one behind the other write a hyper
-pub hyper-stored : (l m r : List ℕ) (at x : ℕ) → x < 18446744073709551616 → at + 8 ≤ length l →
+pub hyper-stored : (l m r : List ℕ) (at x : ℕ) → x < BELOW-64-BITS → at + 8 ≤ length l →
     m ≡ take at l ++ word (x / 4294967296) ++ drop (at + 4) l →
     r ≡ take (at + 4) m ++ word (x % 4294967296) ++ drop (at + 4 + 4) m →
     r ≡ take at l ++ hyper x ++ drop (at + 8) l

@@ -1,5 +1,4 @@
 -- `member_fields::widened` meets its contract, by the flag. Assumes nothing.
-use mathlib.Core.Path.{refl}
 use native.Mathlib.Omega.{arith}
 use borrow.Author.Needs.{needs}
 use Rattle.member_fields.proofs.widened.Statement.{statement}

@@ -4,6 +4,7 @@ use mathlib.Core.Bool.{true, _&&_}
 use Prim.Native.Nat.{_≤_}
 use borrow.Author.Tests.{le-leb, lt-leb, not-true, not-false}
 use native.Mathlib.Omega.{arith}
+use Rattle.member_record.specs.declared.MemberState.{MemberState}
 use Rattle.member_record.specs.Record.{sound, sound-number, sound-durable, sound-flags, sound-lead}
 use Rattle.member_record.proofs.Flags.{number-sizes}
 use borrow.Author.Needs.{needs}
@@ -17,8 +18,12 @@ returns : tie.Need-returns
 unfolding sound
 returns c = rw (← c .before .number-sound .ensures, not-true (c .before .number-sound .result) (c .if1 .taken))
 
+-- the record that is asked about
+abbrev asked : tie.Else1 → MemberState
+asked c = c .before .before .before .before .before .before .args .m
+
 -- where the first test fails, and then each of the next, what is known and what is left
-numbered : (c : tie.Else1) → let m = c .before .before .before .before .before .before .args .m in sound-number (m .who .me) (m .who .n) ≡ true
+numbered : (c : tie.Else1) → let m = asked c in sound-number (m .who .me) (m .who .n) ≡ true
 numbered c = sym (c .before .number-sound .ensures) ∙ not-false (c .before .number-sound .result) (c .if1 .left)
 
 returns-2 : tie.Need-returns-2
@@ -26,7 +31,7 @@ unfolding sound
 returns-2 c = rw (numbered (c .before .before), lt-leb _ _ (c .if2 .taken))
 
 left : (c : tie.Else2) →
-    let m = c .before .before .before .before .before .before .before .before .args .m in
+    let m = asked (c .before .before) in
     sound m ≡ (sound-durable (m .durable) && (sound-flags (m .who) (m .lead) && sound-lead m))
 unfolding sound
 left c = rw (numbered (c .before .before), le-leb _ _ (c .if2 .left))
@@ -38,11 +43,11 @@ returns-3 : tie.Need-returns-3
 returns-3 c = rw (left (c .before .before), ← c .before .durable-sound .ensures, not-true (c .before .durable-sound .result) (c .if3 .taken))
 
 left-2 : (c : tie.Else3) →
-    let m = c .before .before .before .before .before .before .before .before .before .before .args .m in
+    let m = asked (c .before .before .before .before) in
     (sound m ≡ (sound-flags (m .who) (m .lead) && sound-lead m)) × (1 ≤ m .who .n) × (m .who .n ≤ 7)
 left-2 c =
     let b = c .before .before in
-    let m = b .before .before .before .before .before .before .before .before .args .m in
+    let m = asked (b .before .before) in
     let (own, low, high) = number-sizes (m .who .me) (m .who .n) (numbered (b .before .before)) in
     (rw (left b, ← c .before .durable-sound .ensures, not-false (c .before .durable-sound .result) (c .if3 .left)), omega arith, high)
 

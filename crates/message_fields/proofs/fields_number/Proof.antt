@@ -1,6 +1,9 @@
 -- `message_fields::fields_number` meets its contract: each return goes by the tests that led there. Assumes nothing.
-use mathlib.Core.Path.{sym, _∙_}
+use mathlib.Core.Path.{_≡_, refl, sym, _∙_}
+use mathlib.Core.Bool.{cond}
 use borrow.Author.Tests.{eq-eqb, ne-eqb, lt-ltb, le-ltb}
+use Rattle.laws.specs.First.{first}
+use Rattle.numbers.specs.Numbers.{OK, MESSAGE-FIELD}
 use Rattle.message_fields.specs.Fields.{fields-row}
 use borrow.Author.Needs.{needs}
 use Rattle.message_fields.proofs.fields_number.Statement.{statement}
@@ -26,29 +29,26 @@ returns-3 c =
 spare-fields-requires : tie.Need-spare-fields-requires
 spare-fields-requires c κs = search needs
 
-returns-4 : tie.Need-returns-4
+-- where kind and presence are right, a field too many decides
+left : (c : tie.After-spare-fields) →
+    let a = c .before .before .before .before .before .args in
+    first (fields-row (a .kind) (a .present) (a .voted) (a .value)) ≡ cond (c .spare-fields .result) MESSAGE-FIELD OK
 unfolding fields-row
-returns-4 c =
-    let presence = c .before .before in
+left c =
+    let presence = c .before in
     let kind = presence .before .before in
     simp (
       ne-eqb _ _ (kind .before .if1 .left),
       le-ltb _ _ (kind .if2 .left),
       sym (presence .before .wrong-presence .ensures) ∙ presence .if3 .left,
-      sym (c .before .spare-fields .ensures) ∙ c .if4 .taken,
+      sym (c .spare-fields .ensures),
     )
 
+returns-4 : tie.Need-returns-4
+returns-4 c = rw (left (c .before), c .if4 .taken) refl
+
 returns-5 : tie.Need-returns-5
-unfolding fields-row
-returns-5 c =
-    let presence = c .before .before in
-    let kind = presence .before .before in
-    simp (
-      ne-eqb _ _ (kind .before .if1 .left),
-      le-ltb _ _ (kind .if2 .left),
-      sym (presence .before .wrong-presence .ensures) ∙ presence .if3 .left,
-      sym (c .before .spare-fields .ensures) ∙ c .if4 .left,
-    )
+returns-5 c = rw (left (c .before), c .if4 .left) refl
 
 pub fields-number-spec : {M : Type 1} → statement M
 fields-number-spec =

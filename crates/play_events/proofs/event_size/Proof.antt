@@ -4,7 +4,7 @@ use borrow.Author.Needs.{needs}
 use denote.Ref.{now}
 use Rattle.xdr.specs.Words.{word-at}
 use Rattle.play_events.specs.List.{EVENT-START}
-use Rattle.play_events.proofs.Sizes.{size-start, size-deliver, size-short-start, size-other, size-short}
+use Rattle.play_events.proofs.Sizes.{size-start, size-deliver, size-short-start, size-no-kind, size-short}
 use Rattle.play_events.proofs.event_size.Statement.{statement}
 use Rattle.play_events.proofs.event_size.Tie as tie
 
@@ -29,7 +29,7 @@ returns-4 c = sym (size-short-start _ (is-start (c .before)) (c .if4 .left))
 returns-5 : tie.Need-returns-5
 returns-5 c =
     let kind = c .before .before .word-at .ensures in
-    sym (size-other _ (λ e. c .if3 .left (kind ∙ e)) (λ e. c .before .if2 .left (kind ∙ e)))
+    sym (size-no-kind _ (λ e. c .if3 .left (kind ∙ e)) (λ e. c .before .if2 .left (kind ∙ e)))
 
 pub event-size-spec : {M : Type 1} → statement M
 event-size-spec =

@@ -13,7 +13,7 @@ use Rattle.play_office.proofs.Before.{place-below}
 use Rattle.play_office.proofs.Working.{worked}
 use Rattle.play_run.specs.Lent.{as-lent}
 use Rattle.play_run.proofs.Running.{Running, list-parts, bytes-of, running-first, event-before, due, at-next, few-events}
-use Rattle.play_run.proofs.Running.{answer-room, answer-small, running-next, counts-small, ran}
+use Rattle.play_run.proofs.Running.{answer-room, answer-small, running-next, counts-small, running-ended}
 use Rattle.play_run.proofs.run.Statement.{statement}
 use Rattle.play_run.proofs.run.Tie as tie
 
@@ -189,7 +189,7 @@ same-length-3 : tie.Need-same-length-3 Inv-loop μ-loop
 same-length-3 c = over c .before .loop .inv .answers-long
 
 returns : tie.Need-returns Inv-loop μ-loop
-returns c = ran (over c .before .loop .inv) (over c .loop-test .left)
+returns c = running-ended (over c .before .loop .inv) (over c .loop-test .left)
 
 pub run-spec : {M : Type 1} → statement M
 run-spec =

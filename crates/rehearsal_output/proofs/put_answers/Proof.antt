@@ -46,8 +46,9 @@ loop-again c =
     let put = c .before .before in
     let byte = put .before in
     let test = byte .before .before .before in
-    let turn = test .before .loop in
-    let answered = now (test .before .before .before .before .args .answered) in
+    let top = test .before in
+    let turn = top .loop in
+    let answered = now (top .before .before .before .args .answered) in
     let same = byte .wide .ensures in (
       omega arith,
       turn .inv .1,

@@ -1,6 +1,6 @@
 -- `tree::call_on_tree` meets its contract: the number is the plan's, and the table is changed only where it is OK. Assumes nothing.
 use borrow.Author.Needs.{needs}
-use Rattle.tree.proofs.Calling.{refused, done}
+use Rattle.tree.proofs.Calling.{call-refused, done}
 use Rattle.tree.proofs.call_on_tree.Statement.{statement}
 use Rattle.tree.proofs.call_on_tree.Tie as tie
 
@@ -35,7 +35,7 @@ returns-2 : tie.Need-returns-2
 returns-2 c =
     let q = c .before .before in
     let s = begun q in
-    refused (s .pre .0) (s .pre .1) (q .plan-call .ensures) (c .if1 .left)
+    call-refused (s .pre .0) (s .pre .1) (q .plan-call .ensures) (c .if1 .left)
 
 pub call-on-tree-spec : {M : Type 1} → statement M
 call-on-tree-spec = tie.close (tie.spec plan-call-requires write-call-requires same-length returns same-length-2 returns-2)

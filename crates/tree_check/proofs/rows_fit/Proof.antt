@@ -3,7 +3,7 @@ use mathlib.Core.Path.{sym}
 use Prim.Native.Nat.{_-_}
 use native.Mathlib.Omega.{arith}
 use denote.Ref.{now}
-use Rattle.tree_check.proofs.Fits.{Fitted, fits-root, unfit-root, fits-more, unfit-row, fits-all}
+use Rattle.tree_check.proofs.Fits.{Fitted, fits-root, unfit-root, fits-more, unfit-row, fitted-all}
 use Rattle.tree_check.proofs.rows_fit.Statement.{statement}
 use Rattle.tree_check.proofs.rows_fit.Tie as tie
 
@@ -45,7 +45,7 @@ loop-again c =
     fits-more (t .before .loop .inv) (t .loop-test .taken) (c .before .row-fits .ensures) (c .if2 .left)
 
 returns-3 : tie.Need-returns-3 Inv-loop μ-loop
-returns-3 c = sym (fits-all (c .before .loop .inv) (c .loop-test .left))
+returns-3 c = sym (fitted-all (c .before .loop .inv) (c .loop-test .left))
 
 pub rows-fit-spec : {M : Type 1} → statement M
 rows-fit-spec =

@@ -4,7 +4,7 @@ use Prim.Native.Nat.{_-_}
 use native.Mathlib.Omega.{arith}
 use lib.ListN.{length}
 use borrow.Author.Needs.{needs}
-use Rattle.tree_check.proofs.Zeros.{ZeroTo, zeros-start, zeros-more, zeros-stop, zeros-all}
+use Rattle.tree_check.proofs.Zeros.{ZeroTo, zeros-start, zeros-more, zeros-stop, zero-to-all}
 use Rattle.tree_check.proofs.zeros_from.Statement.{statement}
 use Rattle.tree_check.proofs.zeros_from.Tie as tie
 
@@ -40,7 +40,7 @@ loop-again c =
     zeros-more (t .before .loop .inv) (t .loop-test .taken) (c .if1 .left)
 
 returns-2 : tie.Need-returns-2 Inv-loop μ-loop
-returns-2 c = sym (zeros-all (c .before .loop .inv) (c .loop-test .left))
+returns-2 c = sym (zero-to-all (c .before .loop .inv) (c .loop-test .left))
 
 pub zeros-from-spec : {M : Type 1} → statement M
 zeros-from-spec =

@@ -1,5 +1,5 @@
 -- `play_office::event::step_deliver` meets its contract: 29, or the step of the model's member at the message of that row. Assumes nothing.
-use Rattle.play_office.proofs.Working.{no-member, no-message, sound-member, row-within, row-ranged, step-deliver}
+use Rattle.play_office.proofs.Working.{no-such-member, no-message, sound-member, row-within, row-ranged, step-deliver}
 use borrow.Author.Needs.{needs}
 use Rattle.play_office.proofs.event.step_deliver.Statement.{statement}
 use Rattle.play_office.proofs.event.step_deliver.Tie as tie
@@ -15,7 +15,7 @@ no-such-requires : tie.Need-no-such-requires
 no-such-requires c κs = search needs
 
 returns : tie.Need-returns
-returns c = λ ws E. no-member E (c .before .if1 .taken) (c .no-such .ensures)
+returns c = λ ws E. no-such-member E (c .before .if1 .taken) (c .no-such .ensures)
 
 no-such-requires-2 : tie.Need-no-such-requires-2
 no-such-requires-2 c κs = search needs

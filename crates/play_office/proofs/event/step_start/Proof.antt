@@ -1,5 +1,5 @@
 -- `play_office::event::step_start` meets its contract: 29, or the step of the model's member. Assumes nothing.
-use Rattle.play_office.proofs.Working.{no-member, sound-member, step-start}
+use Rattle.play_office.proofs.Working.{no-such-member, sound-member, step-start}
 use borrow.Author.Needs.{needs}
 use Rattle.play_office.proofs.event.step_start.Statement.{statement}
 use Rattle.play_office.proofs.event.step_start.Tie as tie
@@ -8,7 +8,7 @@ no-such-requires : tie.Need-no-such-requires
 no-such-requires c κs = search needs
 
 returns : tie.Need-returns
-returns c = λ M E. no-member E (c .before .if1 .taken) (c .no-such .ensures)
+returns c = λ M E. no-such-member E (c .before .if1 .taken) (c .no-such .ensures)
 
 start-sound-requires : tie.Need-start-sound-requires
 start-sound-requires c κs = sound-member (c .before .before .before .pre .event) (c .if1 .left)

@@ -17,7 +17,7 @@ use Rattle.tree_theory.specs.Machine.{other-value, blocks, causes, answer, add}
 use Rattle.tree_theory.specs.Table.{rows, nodes}
 use Rattle.tree_theory.proofs.Words.{length-rows}
 use Rattle.tree_crossing.proofs.Looking.{LookedAt, used-is, present-is, blocked-is}
-use Rattle.tree_crossing.proofs.Looking.{parent-present, parent-absent, parent-node, parent-fits}
+use Rattle.tree_crossing.proofs.Looking.{parent-present, parent-missing, parent-node, parent-row-fits}
 use Rattle.tree_steps.proofs.Planning.{beyond, within}
 use Rattle.tree_steps.proofs.add.add_number.Statement.{statement}
 use Rattle.tree_steps.proofs.add.add_number.Tie as tie
@@ -83,7 +83,7 @@ unfolding answer causes
 returns-3 c =
     let b = tested (c .before) in
     let s = begun-2 b in
-    rw (ranged (b .before), sym (present-is (looked s)) ∙ b .if2 .left, parent-absent (looked s) (leb-true _ _ (c .if3 .taken))) refl
+    rw (ranged (b .before), sym (present-is (looked s)) ∙ b .if2 .left, parent-missing (looked s) (leb-true _ _ (c .if3 .taken))) refl
 
 -- the parent is one of the rows
 parent-within : (c : tie.Else3) → let l = begun-3 c .args .l in l .parent < l .used
@@ -111,7 +111,7 @@ value-at-requires : tie.Need-value-at-requires
 value-at-requires c κs =
     let d = c .before in
     let s = begun-4 d in
-    parent-fits (looked s) (parent-within (d .before))
+    parent-row-fits (looked s) (parent-within (d .before))
 
 other-value-requires : tie.Need-other-value-requires
 other-value-requires c κs = search needs
