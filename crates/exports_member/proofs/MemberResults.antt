@@ -1,13 +1,13 @@
 -- What the C functions of one member use: lengths that fit 32 bits, and a call's result as that of its outcome. Assumes nothing.
 use mathlib.Core.Path.{_≡_, refl, sym, ap, _∙_}
-use mathlib.Core.List.{List, [], _∷_, _++_}
+use mathlib.Core.List.{List, [], _∷_}
 use Prim.Native.Nat.{ℕ, _≤_}
 use native.Mathlib.Omega.{arith}
 use lib.Dec.{eqb}
 use lib.ListN.{length}
 use Rattle.laws.specs.Tests.{by-test}
 use borrow.Author.Tests.{ne-eqb}
-use Rattle.laws.specs.First.{Cause, first, AllPassed, passed}
+use Rattle.laws.specs.First.{first, passed, first-front, first-behind}
 use Rattle.numbers.specs.Numbers.{OK}
 use Rattle.message.specs.declared.Message.{Message}
 use Rattle.message.specs.declared.Message.the-variants.{Start, Join, JoinVoted, Propose, Vote}
@@ -56,18 +56,6 @@ module _ (f : MemberFields) (c : AfterCall) (o : Outcome) (a : LeavesReport o (c
   same-result =
       ap (λ (m : MemberState). call-result f (record { state = m; report = c .report })) (a .state) ∙
       ap (λ (r : Report). call-result f (record { state = o .state; report = r })) (a .report)
-
--- a row of causes in front of others
-first-front : (cs ds : List Cause) → (first cs ≡ 0 → ⊥) → first (cs ++ ds) ≡ first cs
-first-front [] ds nz = absurd (nz refl)
-first-front (c ∷ cs) ds nz =
-    by-test (c .holds)
-    (λ t. rw t)
-    (λ t. rw t (first-front cs ds (λ z. nz (rw t z))))
-
-first-behind : (cs ds : List Cause) → AllPassed cs → first (cs ++ ds) ≡ first ds
-first-behind [] ds p = refl
-first-behind (c ∷ cs) ds p = rw (p .0) (first-behind cs ds (p .1))
 
 -- what is written, by the number of the fields
 module _ (k r s p q v : ℕ) (old : List ℕ) (n : ℕ) (row : n ≡ first (fields-row k p q v)) where

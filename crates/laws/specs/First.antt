@@ -1,7 +1,7 @@
 -- Refusals in order: a list of causes, each with its number; the answer is the first number whose cause holds, else 0.
 use mathlib.Core.Path.{_≡_, refl}
 use mathlib.Core.Bool.{Bool, true, false, cond, _&&_, not}
-use mathlib.Core.List.{List, [], _∷_}
+use mathlib.Core.List.{List, [], _∷_, _++_}
 use Prim.Native.Nat.{ℕ}
 use lib.Dec.{eqb}
 use borrow.Author.Tests.{eq-eqb}
@@ -42,3 +42,12 @@ passed (c ∷ cs) n h =
 pub zero-of : (cs : List Cause) → AllPassed cs → first cs ≡ 0
 zero-of [] p = refl
 zero-of (c ∷ cs) p = rw (p .0) (zero-of cs (p .1))
+
+-- where a cause of the first list holds, the causes behind it don't count; where none does, they alone do
+pub first-front : (cs ds : List Cause) → (first cs ≡ 0 → ⊥) → first (cs ++ ds) ≡ first cs
+first-front [] ds z = absurd (z refl)
+first-front (c ∷ cs) ds z = by-test (c .holds) (λ t. rw t refl) (λ t. rw t (first-front cs ds (λ q. z (rw t q))))
+
+pub first-behind : (cs ds : List Cause) → AllPassed cs → first (cs ++ ds) ≡ first ds
+first-behind [] ds p = refl
+first-behind (c ∷ cs) ds p = rw (p .0) (first-behind cs ds (p .1))

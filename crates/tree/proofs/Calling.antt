@@ -1,13 +1,12 @@
 -- Calls on a tree: refused, or done; calls on any words: refused by 1 or 2, or those of a tree. Assumes nothing.
 use mathlib.Core.Path.{_≡_, refl, sym, ap, subst, _∙_}
 use mathlib.Core.Bool.{Bool, true, false}
-use mathlib.Core.List.{List, [], _∷_, _++_}
+use mathlib.Core.List.{List}
 use Prim.Native.Nat.{ℕ, _≤_}
 use lib.ListN.{length}
 use lib.Dec.{eqb}
 use borrow.Author.Tests.{eq-eqb, ne-eqb, not-false}
-use Rattle.laws.specs.Tests.{by-test}
-use Rattle.laws.specs.First.{Cause, first, passed}
+use Rattle.laws.specs.First.{first, first-front, passed}
 use Rattle.numbers.specs.Numbers.{OK}
 use Rattle.tree_theory.specs.Machine.{Call, answer, causes}
 use Rattle.tree_theory.specs.Table.{rows, nodes, sized, table, Tree, is-tree, table-causes, call-number}
@@ -34,11 +33,6 @@ module _ {valued : Bool} {ws : List ℕ} (h : sized ws ≡ true) (T : Tree value
       let w′ : ws′ ≡ stepped-table valued ws c = w ∙ P .makes z ∙ ap (table (length ws)) (sym (step-ok valued (rows ws) (nodes ws) c t)) in
       record { number-is = P .number-is; table-is = w′; tree = subst (Tree valued) (sym w′) (step-tree valued ws h T c) }
 
--- where a cause of the first list holds, the causes behind it don't count
-pub first-left : (cs ds : List Cause) → (first cs ≡ OK → ⊥) → first (cs ++ ds) ≡ first cs
-first-left [] ds z = absurd (z refl)
-first-left (c ∷ cs) ds z = by-test (c .holds) (λ t. rw t refl) (λ t. rw t (first-left cs ds (λ q. z (rw t q))))
-
 -- what the number of the row "table" says, where 0 is OK
 module _ (valued : Bool) (ws : List ℕ) {number : ℕ} (e : number ≡ first (table-causes valued ws)) where
   pub table-passed : number ≡ OK → (sized ws ≡ true) × (is-tree valued ws ≡ true)
@@ -53,7 +47,7 @@ module _ (valued : Bool) (ws : List ℕ) {number : ℕ} (e : number ≡ first (t
   unfolding call-number
   table-refuses c z =
       let n : number ≡ call-number valued ws c =
-      e ∙ sym (first-left (table-causes valued ws) (causes valued (rows ws) (nodes ws) c) (λ q. z (e ∙ q))) in
+      e ∙ sym (first-front (table-causes valued ws) (causes valued (rows ws) (nodes ws) c) (λ q. z (e ∙ q))) in
       record { number-is = n; table-is = sym (table-refused valued ws c (ne-eqb _ _ (λ q. z (n ∙ q)))) }
 
 pub of-tree : {valued : Bool} {ws : List ℕ} {c : Call} {number : ℕ} {ws′ : List ℕ} → (sized ws ≡ true) × Tree valued ws →

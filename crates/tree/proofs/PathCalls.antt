@@ -8,7 +8,7 @@ use lib.ListN.{length}
 use lib.Dec.{leb, ltb, eqb}
 use borrow.Author.Tests.{ne-eqb}
 use Rattle.laws.specs.Tests.{by-test, tests}
-use Rattle.laws.specs.First.{first}
+use Rattle.laws.specs.First.{first, first-front}
 use Rattle.ids.specs.Ranges.{above-range}
 use Rattle.numbers.specs.Numbers.{OK, ROUND-RANGE, ROUND-ABSENT, PATH-TOO-LONG}
 use Rattle.tree_theory.specs.Machine.{present, path}
@@ -19,7 +19,6 @@ use Rattle.tree_theory.proofs.Trees.{sized-bounds, tree-held, is-tree-exact}
 use Rattle.tree_steps.specs.Climbed.{PathOf, PathWritten}
 use Rattle.tree_steps.proofs.Climbing.{path-some}
 use Rattle.tree.specs.Promises.{PathGiven}
-use Rattle.tree.proofs.Calling.{first-left}
 
 short-table : (ws : List ℕ) → sized ws ≡ true → length ws ≤ MOST-WORDS
 short-table ws s = sized-bounds ws s .most
@@ -33,7 +32,7 @@ module _ (valued : Bool) (ws : List ℕ) (r : ℕ) (out : List ℕ) where
 
   pub path-of-table : (k : ℕ) → k ≡ first (table-causes valued ws) → (k ≡ OK → ⊥) → PathGiven valued ws r out k 0 out
   unfolding path-number
-  path-of-table k e z = path-refused k (first-left (table-causes valued ws) (path-causes ws r out) (λ q. z (e ∙ q)) ∙ sym e) z
+  path-of-table k e z = path-refused k (first-front (table-causes valued ws) (path-causes ws r out) (λ q. z (e ∙ q)) ∙ sym e) z
 
   module _ (s : sized ws ≡ true) (t : is-tree valued ws ≡ true) where
     pub path-above : above-range r ≡ true → PathGiven valued ws r out ROUND-RANGE 0 out
