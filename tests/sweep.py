@@ -36,7 +36,7 @@ BEFORE_OPERAND = {"return", "in", "if", "while", "match", "let", "mut", "as", "e
 SHAPE = re.compile(r"that can be named from here|has no field `|is not in scope|does not define it|[Pp]arse error| error: `[^`]*-spec`:")
 Token = namedtuple("Token", "text start end")
 # edits: (start, end, new text) of the file, not overlapping
-Change = namedtuple("Change", "crate unit path line shown edits")
+Change = namedtuple("Change", "crate unit path shown edits")
 
 
 def tokens_of(text):
@@ -144,12 +144,18 @@ def changes_of(crate, path):
     tokens = tokens_of(text)
     for name, first, last in units_of(tokens):
         for shown, edits in changes_in(text, tokens, first, last):
-            yield Change(crate, name, path, text.count("\n", 0, edits[0][0]) + 1, shown, edits)
+            yield Change(crate, name, path, shown, edits)
+
+
+def place(text, at):
+    line, column = text.count("\n", 0, at) + 1, at - text.rfind("\n", 0, at)
+    return f"{line}:{column}"
 
 
 def key(change):
-    column = change.edits[0][0] - open(change.path, encoding="utf-8").read().rfind("\n", 0, change.edits[0][0])
-    return f"{change.crate}\t{change.unit}\t{change.path}:{change.line}:{column}\t{change.shown}"
+    text = open(change.path, encoding="utf-8").read()
+    places = "-".join(place(text, start) for start, _, _ in change.edits)
+    return f"{change.crate}\t{change.unit}\t{change.path}:{places}\t{change.shown}"
 
 
 def sources():
