@@ -1,49 +1,16 @@
 #!/usr/bin/env bash
-# The host packages over the proved core. Where there is no archive they check, clippy has nothing to say, and all of their pages can be made.
-# With it: a package that depends on the library alone, and cargo's tests, among them the comparison of the core with the second implementation.
-# It needs cargo and clippy, which .ci/run installs where they are missing.
+# The host packages over the proved core: a package that depends on the library alone, and cargo's tests, among them the comparison of the core
+# with the second implementation. It needs cargo, which .ci/run installs where it is missing.
 cd "$(dirname "$0")/.." || exit 2
 . tests/archive.bash
 . tests/cargo.bash
-work=$(mktemp -d)
-trap 'rm -rf "$work"' EXIT
-passed=0
-failed=0
-
-# Counts a command; where it fails, shows what it said.
-check() {
-    local what=$1
-    shift
-    if "$@" >"$work/said" 2>&1; then
-        passed=$((passed + 1))
-    else
-        cat "$work/said"
-        echo "host: $what"
-        failed=$((failed + 1))
-    fi
-}
-
-# A command of cargo with an empty folder for the archive.
-without_archive() {
-    (cd host && KALEBASIN_LIB=$work cargo "$@")
-}
-
-pages() {
-    RUSTDOCFLAGS="-D warnings" without_archive doc --offline
-}
+. tests/quiet.bash
 
 # A package elsewhere that depends on the library alone, as a vault does.
 vault() {
     mkdir -p "$work/vault/src" && cp host/kalebasin/examples/office.rs "$work/vault/src/main.rs" &&
         printf '%s\n' '[package]' 'name = "vault"' 'edition = "2021"' '[dependencies]' "kalebasin.path = \"$PWD/host/kalebasin\"" >"$work/vault/Cargo.toml" &&
         (cd "$work/vault" && cargo run --offline --quiet | tee "$work/told") && [ "$(tail -n 1 "$work/told")" = "2 proposals, 0 decisions" ]
-}
-
-# A relative folder for the archives, which isn't the same one to cargo and to the compiler, is told in one line.
-relative_folder_told() {
-    (cd host && KALEBASIN_LIB=../target/staticlib cargo check --offline) 2>"$work/told" &&
-        [ "$(grep -c '^warning: ' "$work/told")" -eq 1 ] &&
-        grep -q ': KALEBASIN_LIB takes a folder from the root on, so nothing links: \.\./target/staticlib$' "$work/told"
 }
 
 # An archive of another version, which the function of this name tells, ends a program at its first call.
@@ -87,12 +54,6 @@ arguments_told() {
     done
 }
 
-check "cargo check fails without the archive" without_archive check --offline
-check "clippy warns" without_archive clippy --offline --all-targets -- -D warnings
-check "clippy warns of the test of the lent calls" without_archive clippy --offline --test lent -- -D warnings
-check "clippy warns of the packages without the core" without_archive clippy --offline --all-targets --no-default-features -- -D warnings
-check "the pages can't be made without the archive" pages
-check "a relative folder for the archives isn't told" relative_folder_told
 if ! built; then
     echo "host: an archive wasn't built"
     echo "$passed passed, $((failed + 1)) failed"
