@@ -1,8 +1,8 @@
--- `member_record::flags_sound` meets its contract: two counts are equal exactly if there is no flag between. Assumes nothing.
+-- `member_sound::flags_sound` meets its contract: two counts are equal exactly if there is no flag between. Assumes nothing.
 use Rattle.member_record.proofs.Flags.{counts-agree}
 use borrow.Author.Needs.{needs}
-use Rattle.member_record.proofs.flags_sound.Statement.{statement}
-use Rattle.member_record.proofs.flags_sound.Tie as tie
+use Rattle.member_sound.proofs.flags_sound.Statement.{statement}
+use Rattle.member_sound.proofs.flags_sound.Tie as tie
 
 cast-n : tie.Need-cast-n
 cast-n c = search needs

@@ -1,12 +1,12 @@
--- `member_record::leading_sound` meets its contract: each return goes by the tests that led there. Assumes nothing.
+-- `member_sound::leading_sound` meets its contract: each return goes by the tests that led there. Assumes nothing.
 use mathlib.Core.Path.{_≡_, sym, _∙_}
 use mathlib.Core.Bool.{_&&_}
 use lib.Dec.{ltb}
 use borrow.Author.Tests.{eq-eqb, ne-eqb, lt-ltb, le-ltb, not-true, not-false}
 use Rattle.member_record.specs.Record.{sound-count, leads, sound-leading}
 use borrow.Author.Needs.{needs}
-use Rattle.member_record.proofs.leading_sound.Statement.{statement}
-use Rattle.member_record.proofs.leading_sound.Tie as tie
+use Rattle.member_sound.proofs.leading_sound.Statement.{statement}
+use Rattle.member_sound.proofs.leading_sound.Tie as tie
 
 returns : tie.Need-returns
 returns c = simp (eq-eqb _ _ (c .if1 .taken))

@@ -1,12 +1,12 @@
--- `member_record::durable_sound` meets its contract: each return goes by the tests that led there. Assumes nothing.
+-- `member_sound::durable_sound` meets its contract: each return goes by the tests that led there. Assumes nothing.
 use mathlib.Core.Path.{_≡_, sym, _∙_}
 use mathlib.Core.Bool.{not, _||_}
 use lib.Dec.{eqb}
 use borrow.Author.Tests.{eq-eqb, ne-eqb, le-leb, lt-leb}
 use Rattle.member_record.specs.Record.{sound-durable}
 use borrow.Author.Needs.{needs}
-use Rattle.member_record.proofs.durable_sound.Statement.{statement}
-use Rattle.member_record.proofs.durable_sound.Tie as tie
+use Rattle.member_sound.proofs.durable_sound.Statement.{statement}
+use Rattle.member_sound.proofs.durable_sound.Tie as tie
 
 returns : tie.Need-returns
 returns c = simp (lt-leb _ _ (c .if1 .taken))

@@ -1,8 +1,8 @@
--- `member_record::count_sound` meets its contract: each return goes by the tests that led there. Assumes nothing.
+-- `member_sound::count_sound` meets its contract: each return goes by the tests that led there. Assumes nothing.
 use borrow.Author.Tests.{eq-eqb, ne-eqb}
 use borrow.Author.Needs.{needs}
-use Rattle.member_record.proofs.count_sound.Statement.{statement}
-use Rattle.member_record.proofs.count_sound.Tie as tie
+use Rattle.member_sound.proofs.count_sound.Statement.{statement}
+use Rattle.member_sound.proofs.count_sound.Tie as tie
 
 count-flags-requires : tie.Need-count-flags-requires
 count-flags-requires c κs = search needs

@@ -1,8 +1,8 @@
--- `member_record::lead_sound` meets its contract: each return goes by the tests that led there. Assumes nothing.
+-- `member_sound::lead_sound` meets its contract: each return goes by the tests that led there. Assumes nothing.
 use borrow.Author.Tests.{eq-eqb, ne-eqb}
 use borrow.Author.Needs.{needs}
-use Rattle.member_record.proofs.lead_sound.Statement.{statement}
-use Rattle.member_record.proofs.lead_sound.Tie as tie
+use Rattle.member_sound.proofs.lead_sound.Statement.{statement}
+use Rattle.member_sound.proofs.lead_sound.Tie as tie
 
 idle-sound-requires : tie.Need-idle-sound-requires
 idle-sound-requires c κs = search needs

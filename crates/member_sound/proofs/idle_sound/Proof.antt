@@ -1,8 +1,8 @@
--- `member_record::idle_sound` meets its contract: each return goes by the tests that led there. Assumes nothing.
+-- `member_sound::idle_sound` meets its contract: each return goes by the tests that led there. Assumes nothing.
 use borrow.Author.Tests.{eq-eqb, ne-eqb}
 use borrow.Author.Needs.{needs}
-use Rattle.member_record.proofs.idle_sound.Statement.{statement}
-use Rattle.member_record.proofs.idle_sound.Tie as tie
+use Rattle.member_sound.proofs.idle_sound.Statement.{statement}
+use Rattle.member_sound.proofs.idle_sound.Tie as tie
 
 returns : tie.Need-returns
 returns c = simp (ne-eqb _ _ (c .if1 .taken))
