@@ -54,7 +54,7 @@ impl Row {
 }
 
 fn main() -> ExitCode {
-    let args: Vec<String> = std::env::args().skip(1).collect();
+    let args: Vec<String> = std::env::args_os().skip(1).map(|word| word.to_string_lossy().into_owned()).collect();
     match args.iter().map(String::as_str).collect::<Vec<_>>()[..] {
         [] => match print_times(&mut io::stdout().lock()) {
             Ok(()) => ExitCode::SUCCESS,
