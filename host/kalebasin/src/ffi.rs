@@ -114,7 +114,7 @@ pub struct WriteResult {
     pub length: u32,
 }
 
-/// The version of the C functions that this crate is written for. A call of the front of this crate ends the program
+/// The version of the C functions that this crate is written for. A call of the front of this crate panics
 /// where an archive's version ([`kalebasin_version`], [`kalebasin_member_version`]) is another.
 pub const API_VERSION: u32 = 1;
 

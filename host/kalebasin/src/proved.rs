@@ -5,7 +5,7 @@ use crate::ffi;
 use crate::{Made, Member, MemberFields, Message, Played, Refusal, Report, Round, Vote};
 use std::sync::Once;
 
-/// Ends the program where an archive is of another version, before a result of it is read wrongly.
+/// Panics where an archive is of another version, before a result of it is read wrongly; so does each later call.
 fn compare_versions() {
     static COMPARED: Once = Once::new();
     COMPARED.call_once(|| {

@@ -25,7 +25,7 @@ use std::time::{Duration, Instant};
 
 /// A run ends after this time at the latest, and after so many datagrams.
 pub const LONGEST_RUN: Duration = Duration::from_secs(20);
-const MOST_DATAGRAMS: usize = 100_000;
+pub const MOST_DATAGRAMS: usize = 100_000;
 
 /// The first word of a datagram that tells a decision; no message of the protocol has this kind.
 const KNOWN: [u8; 4] = *b"KNOW";
@@ -39,6 +39,7 @@ struct Office {
     seed: u64,
     lost: usize,
     until: Instant,
+    most: usize,
     datagrams: AtomicUsize,
     knowing: AtomicUsize,
 }
@@ -50,7 +51,7 @@ impl Office {
 
     fn is_over(&self) -> bool {
         let all_know = self.knowing.load(Ordering::SeqCst) == self.addresses.len();
-        all_know || Instant::now() > self.until || self.datagrams.load(Ordering::SeqCst) >= MOST_DATAGRAMS
+        all_know || Instant::now() > self.until || self.datagrams.load(Ordering::SeqCst) >= self.most
     }
 }
 
@@ -104,7 +105,7 @@ impl Shim<'_> {
     }
 
     fn put(&mut self, to: Member, bytes: &[u8]) -> Result<(), Error> {
-        if self.office.datagrams.fetch_add(1, Ordering::SeqCst) < MOST_DATAGRAMS {
+        if self.office.datagrams.fetch_add(1, Ordering::SeqCst) < self.office.most {
             self.weather.sent += 1;
             self.socket.send_to(bytes, self.office.addresses[to.0 as usize])?;
         }
@@ -117,6 +118,7 @@ struct Machine<'a> {
     number: Member,
     record: MemberRecord,
     shim: Shim<'a>,
+    waits: Random,
     /// What it sent last, to all and to a leader, and when it sends that again.
     to_all: Vec<u8>,
     to_leader: Option<(Member, Vec<u8>)>,
@@ -131,6 +133,7 @@ struct Machine<'a> {
 impl<'a> Machine<'a> {
     fn new(office: &'a Office, number: Member, socket: UdpSocket) -> Result<Machine<'a>, Refusal> {
         let random = Random::of(office.seed, u64::from(number.0));
+        let waits = Random::of(office.seed, u64::from(office.members() + number.0));
         let shim = Shim { office, socket, random, held: Vec::new(), weather: Weather::default() };
         let record = MemberRecord::fresh(number, office.members())?;
         let now = Instant::now();
@@ -138,6 +141,7 @@ impl<'a> Machine<'a> {
             number,
             record,
             shim,
+            waits,
             to_all: Vec::new(),
             to_leader: None,
             again_at: now,
@@ -152,7 +156,7 @@ impl<'a> Machine<'a> {
 
     /// Puts the next start off, seldom for as long as another member does.
     fn wait(&mut self) {
-        self.start_at = Instant::now() + Duration::from_millis(self.shim.random.between(30, 300) as u64);
+        self.start_at = Instant::now() + Duration::from_millis(self.waits.between(30, 300) as u64);
     }
 
     fn say_again(&mut self) -> Result<(), Error> {
@@ -276,12 +280,12 @@ pub fn asked(arguments: impl Iterator<Item = OsString>) -> Option<(u32, u64, usi
 }
 
 /// Runs the office; what it prints, and whether all know the same value.
-pub fn run(members: u32, seed: u64, lost: usize, longest: Duration) -> Result<(String, bool), Error> {
+pub fn run(members: u32, seed: u64, lost: usize, longest: Duration, most: usize) -> Result<(String, bool), Error> {
     let sockets = (0..members).map(|_| UdpSocket::bind("127.0.0.1:0")).collect::<Result<Vec<_>, _>>()?;
     let addresses = sockets.iter().map(UdpSocket::local_addr).collect::<Result<Vec<_>, _>>()?;
     let until = Instant::now() + longest;
     let (datagrams, knowing) = (AtomicUsize::new(0), AtomicUsize::new(0));
-    let office = Office { addresses, seed, lost, until, datagrams, knowing };
+    let office = Office { addresses, seed, lost, until, most, datagrams, knowing };
     let machines = sockets.into_iter().zip(0..).map(|(socket, number)| Machine::new(&office, Member(number), socket));
     let mut machines = machines.collect::<Result<Vec<_>, _>>().map_err(|refusal| Error::other(refusal.to_string()))?;
     std::thread::scope(|scope| {
@@ -334,7 +338,7 @@ fn main() -> ExitCode {
             "machines [MEMBERS [SEED [LOST]]]: 3, 5 or 7 members, a seed, 0 to 90 of a hundred datagrams lost",
         );
     };
-    let told = run(members, seed, lost, LONGEST_RUN)
+    let told = run(members, seed, lost, LONGEST_RUN, MOST_DATAGRAMS)
         .and_then(|(text, agreed)| stdout().write_all(text.as_bytes()).map(|()| agreed));
     match told {
         Ok(true) => ExitCode::SUCCESS,

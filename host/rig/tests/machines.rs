@@ -12,7 +12,7 @@ use std::time::Duration;
 
 /// The lines of a run that ends well.
 fn run(members: u32, seed: u64, lost: usize) -> Vec<String> {
-    let (text, agreed) = machines::run(members, seed, lost, machines::LONGEST_RUN).unwrap();
+    let (text, agreed) = machines::run(members, seed, lost, machines::LONGEST_RUN, machines::MOST_DATAGRAMS).unwrap();
     assert!(agreed, "{members} members, seed {seed}, {lost} in a hundred lost:\n{text}");
     text.lines().map(str::to_owned).collect()
 }
@@ -50,10 +50,17 @@ fn the_shim_loses_repeats_and_holds_back() {
 /// With all datagrams lost nobody knows anything, and that is told.
 #[test]
 fn no_decision_is_told() {
-    let (text, agreed) = machines::run(3, 6, 100, Duration::from_secs(1)).unwrap();
+    let (text, agreed) = machines::run(3, 6, 100, Duration::from_secs(1), machines::MOST_DATAGRAMS).unwrap();
     assert!(
         !agreed && text.contains("member 2 knows of no decision\n") && text.ends_with("NOT all know the same value\n")
     );
+}
+
+/// A run sends no more datagrams than it may, and ends then.
+#[test]
+fn datagrams_are_bounded() {
+    let (text, agreed) = machines::run(3, 7, 0, machines::LONGEST_RUN, 5).unwrap();
+    assert!(!agreed && text.contains("\n5 datagrams: "), "{text}");
 }
 
 #[test]
