@@ -13,7 +13,7 @@
 //! - [`shape`]: where the bytes of a list go wrong
 //! - [`rehearsal`]: what the rehearsal program prints
 //! - [`suite`]: the whole comparison, part by part
-//! - [`search`]: random orders, for a property that fails
+//! - [`search`]: random lists, random orders of one list, or all lists of a few events, for a property that fails
 
 #![deny(missing_docs)]
 

@@ -674,7 +674,6 @@ fn arguments_that_are_not_text() {
     }
 }
 
-/// The numbers of refusals are 1 to 30 in order, and the C header has the same causes.
 /// The name of a refusal's number in the header: that of the variant in capitals.
 fn header_name(refusal: &Refusal) -> String {
     let mut name = String::from("KALEBASIN");
@@ -687,6 +686,7 @@ fn header_name(refusal: &Refusal) -> String {
     name
 }
 
+/// The numbers of refusals are 1 to 30 in order, and the C header has the same causes.
 #[test]
 fn refusals_and_the_header() {
     let header = include_str!("../../include/kalebasin.h");

@@ -211,7 +211,7 @@ const CHOICES: &[Choice] = &[
     Choice {
         name: "--random",
         value: None,
-        uses: &[(&["compare"], "only the random trees and lists, for another seed or more of them")],
+        uses: &[(&["compare"], "only the random trees, members and lists, for another seed or more of them")],
         set: |options, _| {
             options.random = true;
             Ok(())
