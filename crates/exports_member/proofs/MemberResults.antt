@@ -10,11 +10,10 @@ use borrow.Author.Tests.{ne-eqb}
 use Rattle.laws.specs.First.{first, passed, first-front, first-behind}
 use Rattle.numbers.specs.Numbers.{OK}
 use Rattle.message.specs.declared.Message.{Message}
-use Rattle.message.specs.declared.Message.the-variants.{Start, Join, JoinVoted, Propose, Vote}
-use Rattle.message.specs.Layout.{bytes, byte-count, longest-message}
+use Rattle.message.specs.Layout.{longest-message}
 use Rattle.message.specs.declared.Written.{Written}
 use Rattle.message.specs.Writing.{writer-row, writing, buffer-after, WriterLeaves}
-use Rattle.message.proofs.RoundTrip.{length-bytes}
+use Rattle.message.proofs.RoundTrip.{bytes-short}
 use Rattle.message_fields.specs.Fields.{fields-row}
 use Rattle.member_record.specs.declared.MemberState.{MemberState}
 use Rattle.member.specs.Table.{Outcome}
@@ -24,17 +23,6 @@ use Rattle.member_calls.specs.Reports.{reply-length, LeavesReport}
 use Rattle.member_fields.specs.declared.MemberFields.{MemberFields}
 use Rattle.exports_member.specs.declared.WriteResult.{WriteResult}
 use Rattle.exports_member.specs.Members.{call-result, member-result, fields-message, write-row, write-result, written-after}
-
--- no message is longer than the longest
-count-short : (m : Message) → byte-count m ≤ longest-message
-count-short (Start r s) = omega arith
-count-short (Join r s) = omega arith
-count-short (JoinVoted r s q w) = omega arith
-count-short (Propose r s v) = omega arith
-count-short (Vote r s) = omega arith
-
-bytes-short : (m : Message) → length (bytes m) ≤ longest-message
-bytes-short m = rw (length-bytes m) (count-short m)
 
 sent-short : (gs : List Message) → reply-length gs ≤ longest-message
 sent-short [] = omega arith

@@ -35,7 +35,7 @@ use Rattle.message.specs.Layout.{presence-in, message-voted, voted-value
 use Rattle.message.specs.Reading.{is-join, size, decoded, message-row, read-answer, read-number, reading, ReaderGives}
 use Rattle.message.specs.Writing.{writer-row, writing, buffer-after, in-front}
 use Rattle.message.specs.RoundTrip.{AcceptedAreWritten, WrittenAreAccepted}
-use Rattle.message.proofs.Checks.{Known, right-size, size-least, size-front, size-join-least, size-join, size-join-voted, size-propose, size-other}
+use Rattle.message.proofs.Checks.{count-most, Known, right-size, size-least, size-front, size-join-least, size-join, size-join-voted, size-propose, size-other}
 use Rattle.message.proofs.Checks.{decoded-start, decoded-join, decoded-join-voted, decoded-propose, decoded-vote}
 
 -- an answer has the number of the first cause of its row
@@ -65,6 +65,10 @@ length-bytes (Join r s) = length-encoded (layout (Join r s))
 length-bytes (JoinVoted r s q w) = length-encoded (layout (JoinVoted r s q w))
 length-bytes (Propose r s v) = length-encoded (layout (Propose r s v))
 length-bytes (Vote r s) = length-encoded (layout (Vote r s))
+
+-- no message is longer than the longest
+pub bytes-short : (m : Message) → length (bytes m) ≤ longest-message
+bytes-short m = rw (length-bytes m) (count-most m)
 
 -- what every message starts with is found, whatever comes after
 module _ (k : ℕ) (r : Round) (s : Member) (small : k ≤ VOTE-KIND) (h : head-in-range r s ≡ true) (js : List Item) where

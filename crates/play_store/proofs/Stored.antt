@@ -15,13 +15,8 @@ use Rattle.message.specs.Fields.{in-range}
 use Rattle.message.specs.Layout.{bytes, ValueFits}
 use Rattle.message.specs.Reading.{size, decoded}
 use Rattle.message.specs.Writing.{in-front}
-use Rattle.message.proofs.Checks.{count-most}
-use Rattle.message.proofs.RoundTrip.{length-bytes, spelt-front}
+use Rattle.message.proofs.RoundTrip.{bytes-short, spelt-front}
 use Rattle.play_store.specs.Rows.{row-length, row-start, row-with, rows-with, stored, row-at, put-row, fetched}
-
--- no message is longer than a row
-within-row : (g : Message) → length (bytes g) ≤ row-length
-within-row g = rw (length-bytes g) (count-most g)
 
 abbrev zeros : ℕ → List ℕ
 zeros n = replicate n 0
@@ -34,7 +29,7 @@ zeros-cut n a b e = ap zeros e ∙ sym (replicate-append-replicate a b 0)
 
 pub length-row : (g : Message) → length (row-with g) ≡ row-length
 unfolding row-with
-length-row g = simp (length-append, length-replicate) (omega (arith, within-row g))
+length-row g = simp (length-append, length-replicate) (omega (arith, bytes-short g))
 
 pub length-stored-rows : (gs : List Message) → length (rows-with gs) ≡ row-start (length gs)
 unfolding rows-with
@@ -85,7 +80,7 @@ put-stored s gs g k e q h =
     let front : length (rows-with gs) ≡ row-start k = rw q (length-stored-rows gs) in
     ap (λ (t : List ℕ). put-row t k g) shape
     ∙ put-between g (rows-with gs) (zeros row-length) (zeros free) (row-start k) front (length-zeros row-length)
-    ∙ ap (λ (r : List ℕ). rows-with gs ++ r ++ zeros free) (in-zeros g row-length (within-row g))
+    ∙ ap (λ (r : List ℕ). rows-with gs ++ r ++ zeros free) (in-zeros g row-length (bytes-short g))
     ∙ ap (λ (r : List ℕ). r ++ zeros free) (sym (rows-snoc gs g))
 
 -- row k is that of message k, whatever comes behind the rows
