@@ -86,7 +86,9 @@ ranged-requires-3 : tie.Need-ranged-requires-3
 ranged-requires-3 c κs = search needs
 
 a-vote : (c : tie.Else5) → kind-in (bytes-at (c .before .before .before)) ≡ VOTE-KIND
-a-vote c = omega (arith, c .before .before .before .before .word-at .ensures, c .before .before .before .before .before .before .pre)
+a-vote c =
+    let word = c .before .before .before .before in
+    omega (arith, word .word-at .ensures, word .before .before .pre)
 
 returns-6 : tie.Need-returns-6
 returns-6 c =

@@ -31,8 +31,9 @@ loop-less c = omega arith
 
 loop-again : tie.Need-loop-again Inv-loop μ-loop
 loop-again c =
-    let a = c .before .before .before .before .before .before .before .args in
-    let l = c .before .before .before .before .before .loop in
+    let turn = c .before .before .before .before .before in
+    let a = turn .before .before .args in
+    let l = turn .loop in
     let h : 4 * l .i + 4 ≤ length (now (a .t)) = omega arith in
     let w = c .before .before in
     (omega arith, w .strike-row .kept .0 ∙ l .inv .1, struck-more (a .r) (a .p) (now (a .t)) (l .i) (l .t) _ (l .inv .2) h (w .strike-row .ensures))
