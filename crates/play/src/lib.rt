@@ -22,7 +22,7 @@ pub fn play(list: &[u8], messages: &mut [u8], nodes: &mut [u64], answered: &mut 
     ensures { λ a. ⌜ Given (now (list .entry)) (as-lent (now (messages .entry)) (now (nodes .entry)) (now (answered .entry))) a
         (as-lent (now (messages .exit)) (now (nodes .exit)) (now (answered .exit))) ⌝ }
 {
-    if !play_events::fits(list) {
+    if !play_events::list_fits(list) {
         return refused_list(numbers::LIST_SHAPE);
     }
     let head = play_events::read_head(list);

@@ -127,7 +127,7 @@ fn events_fill(list: &[u8], count: u32) -> bool
 }
 
 // Whether the bytes, the count and the kinds match, with at most 1,000 events (number 26).
-pub fn fits(list: &[u8]) -> bool
+pub fn list_fits(list: &[u8]) -> bool
     ensures { λ b. ⌜ b ≡ list-fits (now (list .entry)) ⌝ }
 {
     if list.len() < HEAD_BYTES {

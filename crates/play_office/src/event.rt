@@ -81,7 +81,7 @@ fn step_deliver(
 }
 
 // The step of an event's member.
-pub fn step(tally: Tally, m: MemberState, e: PlayEvent, messages: &[u8]) -> MemberStep
+pub fn step_event(tally: Tally, m: MemberState, e: PlayEvent, messages: &[u8]) -> MemberStep
     requires { ⌜ StepDue tally m (model-event e) (now messages) ⌝ }
     ensures { λ s. ⌜ StepTaken tally m (model-event e) (now (messages .entry)) s ⌝ }
 {

@@ -31,7 +31,7 @@ pub fn run(list: &[u8], messages: &mut [u8], nodes: &mut [u64], answered: &mut [
         let e = r.event;
         let i = play_office::event::place(e);
         let m = members[i];
-        let s = play_office::event::step(tally, m, e, messages);
+        let s = play_office::event::step_event(tally, m, e, messages);
         let a = s.answer;
         let w = play_office::settle(tally, a, messages, nodes);
         if w.number == numbers::OK {

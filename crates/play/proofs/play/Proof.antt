@@ -19,7 +19,7 @@ use Rattle.play.proofs.play.Statement.{statement}
 use Rattle.play.proofs.play.Tie as tie
 
 -- the entry, from the first test; each test, from the next
-abbrev entry : tie.After-fits2 → tie.Start
+abbrev entry : tie.After-list-fits → tie.Start
 entry c = c .before .before .before .before .before
 
 abbrev first-test : tie.After-is-allowed → tie.Else1
@@ -62,7 +62,7 @@ lent s = as-lent (now (s .args .messages)) (now (s .args .nodes)) (now (s .args 
 
 -- what each test left behind
 fitting : (c : tie.Else1) → list-fits (now (entry (c .before) .args .list)) ≡ true
-fitting c = sym (c .before .fits2 .ensures) ∙ not-false _ (c .if1 .left)
+fitting c = sym (c .before .list-fits .ensures) ∙ not-false _ (c .if1 .left)
 
 members-read : (c : tie.After-is-allowed) → allowed (members-of (now (entry-2 c .args .list))) ≡ c .is-allowed .result
 members-read c = ap (λ (h : ListHead). allowed (h .members)) (sym (c .before .read-head .ensures)) ∙ sym (c .is-allowed .ensures)
@@ -95,14 +95,14 @@ passed-list c =
       table-length = right-length c;
     }
 
-fits-requires : tie.Need-fits-requires
-fits-requires c κs = search needs
+list-fits-requires : tie.Need-list-fits-requires
+list-fits-requires c κs = search needs
 
 refused-list-requires : tie.Need-refused-list-requires
 refused-list-requires c κs = search needs
 
 returns : tie.Need-returns
-returns c = as-given _ (c .refused-list .ensures) (not-exact (sym (c .before .before .fits2 .ensures) ∙ not-true _ (c .before .if1 .taken)))
+returns c = as-given _ (c .refused-list .ensures) (not-exact (sym (c .before .before .list-fits .ensures) ∙ not-true _ (c .before .if1 .taken)))
 
 read-head-requires : tie.Need-read-head-requires
 read-head-requires c κs = list-parts (fitting c) .head
@@ -202,7 +202,7 @@ pub play-spec : {M : Type 1} → statement M
 play-spec =
     tie.close
     (tie.spec
-    fits-requires
+    list-fits-requires
     refused-list-requires
     returns
     read-head-requires

@@ -40,10 +40,10 @@ head c = made-fresh c .before .before
 abbrev turn : tie.After-struct-known2 Inv-loop μ-loop → tie.In-loop Inv-loop μ-loop
 turn c = c .before .before .before
 
-abbrev placed : tie.After-step-arg Inv-loop μ-loop → tie.After-place Inv-loop μ-loop
+abbrev placed : tie.After-step-event-arg Inv-loop μ-loop → tie.After-place Inv-loop μ-loop
 placed c = c .before .before
 
-abbrev stepped : tie.After-settle-arg2 Inv-loop μ-loop → tie.After-step Inv-loop μ-loop
+abbrev stepped : tie.After-settle-arg2 Inv-loop μ-loop → tie.After-step-event Inv-loop μ-loop
 stepped c = c .before .before
 
 abbrev settled : tie.After-struct-known3 Inv-loop μ-loop → tie.After-settle Inv-loop μ-loop
@@ -114,20 +114,20 @@ array-copy-out-m : tie.Need-array-copy-out-m Inv-loop μ-loop
 array-copy-out-m c = omega (arith, in-array c)
 
 -- what the turn's event was worked on
-abbrev turn-of : tie.After-step-arg Inv-loop μ-loop → tie.In-loop Inv-loop μ-loop
+abbrev turn-of : tie.After-step-event-arg Inv-loop μ-loop → tie.In-loop Inv-loop μ-loop
 turn-of c = turn (placed c .before)
 
-step-requires : tie.Need-step-requires Inv-loop μ-loop
-step-requires c κs = record { table = _; event = event-before (turn-of c .before .loop .inv) _ _ _ (placed c .place .ensures) }
+step-event-requires : tie.Need-step-event-requires Inv-loop μ-loop
+step-event-requires c κs = record { table = _; event = event-before (turn-of c .before .loop .inv) _ _ _ (placed c .place .ensures) }
 
 settle-requires : tie.Need-settle-requires Inv-loop μ-loop
 settle-requires c κs =
     let s = stepped c in
     let E = event-before (turn-of (s .before) .before .loop .inv) _ _ _ (placed (s .before) .place .ensures) in
-    record { before = E .before; e = _; i = _; m = s .step .result .state; is = s .step .ensures _ E }
+    record { before = E .before; e = _; i = _; m = s .step-event .result .state; is = s .step-event .ensures _ E }
 
 -- the step, from where its number is known; and the turn
-abbrev step-of : tie.After-struct-known3 Inv-loop μ-loop → tie.After-step Inv-loop μ-loop
+abbrev step-of : tie.After-struct-known3 Inv-loop μ-loop → tie.After-step-event Inv-loop μ-loop
 step-of c = stepped (settled c .before)
 
 abbrev turned : tie.After-struct-known3 Inv-loop μ-loop → tie.In-loop Inv-loop μ-loop
@@ -146,7 +146,7 @@ cast-answered : tie.Need-cast-answered Inv-loop μ-loop
 cast-answered c =
     let n = joined c .before in
     let s = step-of n in
-    let done = worked (s .step .result) (s .step .ensures) (settled n .settle .ensures) in
+    let done = worked (s .step-event .result) (s .step-event .ensures) (settled n .settle .ensures) in
     let small : settled n .settle .result .number < 256 = answer-small (turned n .before .loop .inv) (placed (s .before) .place .ensures) _ done in
     omega arith
 
@@ -167,7 +167,7 @@ loop-again c =
     let p = placed (s .before) in
     let w = settled n .settle in
     running-next (t .before .loop .inv) (t .loop-test .taken) (to-end (t .before .loop .at) _) (p .before .before .read-event .ensures) (p .place .ensures) _
-    (s .step .result .state) (w .kept .1 .1 .0) (w .kept .1 .1 .1 .0) (worked (s .step .result) (s .step .ensures) (w .ensures))
+    (s .step-event .result .state) (w .kept .1 .1 .0) (w .kept .1 .1 .1 .0) (worked (s .step-event .result) (s .step-event .ensures) (w .ensures))
     (⊎-elim (λ q. inl (q .0 .taken, q .2, q .3)) (λ q. inr (q .0 .left, q .1, q .2)) (joined c .if1 .came))
 
 cast-t40 : tie.Need-cast-t40 Inv-loop μ-loop
@@ -209,7 +209,7 @@ run-spec =
     place-requires
     mul-m
     array-copy-out-m
-    step-requires
+    step-event-requires
     settle-requires
     mul-members
     array-set-from-members

@@ -1,4 +1,4 @@
--- `play_office::event::step` meets its contract: each kind of event has its own function. Assumes nothing.
+-- `play_office::event::step_event` meets its contract: each kind of event has its own function. Assumes nothing.
 use mathlib.Core.Path.{_≡_, sym, subst}
 use Prim.Native.Nat.{ℕ}
 use mathlib.Core.List.{List}
@@ -9,8 +9,8 @@ use Rattle.play_events.specs.Value.{model-event}
 use Rattle.play_effects.specs.declared.Tally.{Tally}
 use Rattle.play_office.specs.Represents.{StepDue, StepTaken}
 use borrow.Author.Needs.{needs}
-use Rattle.play_office.proofs.event.step.Statement.{statement}
-use Rattle.play_office.proofs.event.step.Tie as tie
+use Rattle.play_office.proofs.event.step_event.Statement.{statement}
+use Rattle.play_office.proofs.event.step_event.Tie as tie
 
 -- the entry, from the match
 abbrev entry : tie.After-shared-slice-known → tie.Start
@@ -45,7 +45,7 @@ returns c = taken (c .step-start .result) (c .before .before .e .given .1) (λ w
 returns-2 : tie.Need-returns-2
 returns-2 c = taken (c .step-deliver .result) (c .before .before .e2 .given .1) (c .step-deliver .ensures)
 
-pub step-spec : {M : Type 1} → statement M
-step-spec =
+pub step-event-spec : {M : Type 1} → statement M
+step-event-spec =
     tie.close
     (tie.spec enum-known-e step-start-requires enum-known-e-2 step-deliver-requires returns returns-2)

@@ -1,4 +1,4 @@
--- `play_events::fits` meets its contract: each return goes by the tests that led there. Assumes nothing.
+-- `play_events::list_fits` meets its contract: each return goes by the tests that led there. Assumes nothing.
 use mathlib.Core.Path.{_≡_, ap}
 use Prim.Native.Nat.{_≤_, _<_}
 use native.Mathlib.Omega.{arith}
@@ -7,8 +7,8 @@ use borrow.Author.Tests.{le-leb, lt-leb}
 use denote.Ref.{now}
 use Rattle.play_events.specs.declared.ListHead.{ListHead}
 use Rattle.play_events.specs.List.{MOST-EVENTS, count-of, list-fits}
-use Rattle.play_events.proofs.fits.Statement.{statement}
-use Rattle.play_events.proofs.fits.Tie as tie
+use Rattle.play_events.proofs.list_fits.Statement.{statement}
+use Rattle.play_events.proofs.list_fits.Tie as tie
 
 returns : tie.Need-returns
 unfolding list-fits
@@ -41,5 +41,5 @@ returns-3 c =
     let few : count-of (now (head .before .before .before .args .list)) ≤ MOST-EVENTS = omega (arith, counted head) in
     simp (le-leb _ _ (head .before .if1 .left), le-leb _ _ few) (rw (counted head) at (c .events-fill .ensures))
 
-pub fits-spec : {M : Type 1} → statement M
-fits-spec = tie.close (tie.spec returns read-head-requires cast-if2 returns-2 events-fill-requires returns-3)
+pub list-fits-spec : {M : Type 1} → statement M
+list-fits-spec = tie.close (tie.spec returns read-head-requires cast-if2 returns-2 events-fill-requires returns-3)
