@@ -8,10 +8,10 @@ use native.Mathlib.Omega.{arith}
 use lib.ListN.{length, take, drop, take-append-drop}
 use lib.Dec.{eqb}
 use Rattle.laws.specs.Tests.{by-test, clash, and-right}
-use Rattle.xdr.specs.Words.{AllBytes, word-at}
+use Rattle.xdr.specs.Words.{AllBytes}
 use Rattle.xdr.proofs.Laws.{hyper-at-small}
 use Rattle.model.specs.Sound.{SmallOffer, SmallOffers}
-use Rattle.play_events.specs.List.{event-size, event-at, rest, behind, events-in, exact, EVENT-START}
+use Rattle.play_events.specs.List.{event-kind, event-size, event-at, rest, behind, events-in, exact, EVENT-START}
 use Rattle.play_events.proofs.Sizes.{size-within, exact-stop}
 
 pub behind-suc : (k : ℕ) (s : List ℕ) → behind (suc k) s ≡ rest (behind k s)
@@ -49,7 +49,7 @@ bytes-left n s k b m = k b (rw (take-append-drop n s) at (Memᴰ·append-right (
 
 event-offer : (s : List ℕ) → AllBytes s → SmallOffer (event-at s)
 unfolding event-at
-event-offer s k = by-test (eqb (word-at s 0) EVENT-START) (λ t. rw t (hyper-at-small 12 s k)) (λ t. rw t tt)
+event-offer s k = by-test (eqb (event-kind s) EVENT-START) (λ t. rw t (hyper-at-small _ s k)) (λ t. rw t tt)
 
 pub offers-small : (k : ℕ) (s : List ℕ) → AllBytes s → SmallOffers (events-in k s)
 unfolding events-in

@@ -10,38 +10,37 @@ use lib.Seq.{drop-cons}
 use lib.Dec.{leb, eqb}
 use borrow.Author.Tests.{le-leb, lt-leb, ne-eqb}
 use Rattle.laws.specs.Tests.{tests, by-test}
-use Rattle.xdr.specs.Words.{word-at}
-use Rattle.play_events.specs.List.{EVENT-START, EVENT-DELIVER, START-BYTES, DELIVER-BYTES, event-size, rest, exact}
+use Rattle.play_events.specs.List.{EVENT-START, EVENT-DELIVER, START-BYTES, DELIVER-BYTES, event-kind, event-size, rest, exact}
 
 module _ (s : List ℕ) where
-  pub size-start : word-at s 0 ≡ EVENT-START → START-BYTES ≤ length s → event-size s ≡ START-BYTES
+  pub size-start : event-kind s ≡ EVENT-START → START-BYTES ≤ length s → event-size s ≡ START-BYTES
   unfolding event-size
   size-start k h = rw (k, le-leb START-BYTES (length s) h)
 
-  pub size-deliver : word-at s 0 ≡ EVENT-DELIVER → DELIVER-BYTES ≤ length s → event-size s ≡ DELIVER-BYTES
+  pub size-deliver : event-kind s ≡ EVENT-DELIVER → DELIVER-BYTES ≤ length s → event-size s ≡ DELIVER-BYTES
   unfolding event-size
   size-deliver k h = rw (k, le-leb DELIVER-BYTES (length s) h)
 
   -- none stands there: a start without room, another kind, or no room for either
-  pub size-short-start : word-at s 0 ≡ EVENT-START → length s < START-BYTES → event-size s ≡ 0
+  pub size-short-start : event-kind s ≡ EVENT-START → length s < START-BYTES → event-size s ≡ 0
   unfolding event-size
   size-short-start k h = rw (k, lt-leb START-BYTES (length s) h)
 
-  pub size-no-kind : (word-at s 0 ≡ EVENT-START → ⊥) → (word-at s 0 ≡ EVENT-DELIVER → ⊥) → event-size s ≡ 0
+  pub size-no-kind : (event-kind s ≡ EVENT-START → ⊥) → (event-kind s ≡ EVENT-DELIVER → ⊥) → event-size s ≡ 0
   unfolding event-size
-  size-no-kind j k = rw (ne-eqb (word-at s 0) EVENT-START j, ne-eqb (word-at s 0) EVENT-DELIVER k)
+  size-no-kind j k = rw (ne-eqb (event-kind s) EVENT-START j, ne-eqb (event-kind s) EVENT-DELIVER k)
 
   -- the three cases
-  by-size {ℓ} : {C : Type ℓ} → (word-at s 0 ≡ EVENT-START → START-BYTES ≤ length s → event-size s ≡ START-BYTES → C) →
-      (word-at s 0 ≡ EVENT-DELIVER → DELIVER-BYTES ≤ length s → event-size s ≡ DELIVER-BYTES → C) → (event-size s ≡ 0 → C) → C
+  by-size {ℓ} : {C : Type ℓ} → (event-kind s ≡ EVENT-START → START-BYTES ≤ length s → event-size s ≡ START-BYTES → C) →
+      (event-kind s ≡ EVENT-DELIVER → DELIVER-BYTES ≤ length s → event-size s ≡ DELIVER-BYTES → C) → (event-size s ≡ 0 → C) → C
   unfolding event-size
   by-size f g n =
-      by-test (eqb (word-at s 0) EVENT-START)
-      (λ k. let e : word-at s 0 ≡ EVENT-START = omega tests in by-test (leb START-BYTES (length s))
+      by-test (eqb (event-kind s) EVENT-START)
+      (λ k. let e : event-kind s ≡ EVENT-START = omega tests in by-test (leb START-BYTES (length s))
       (λ h. f e (omega tests) (rw (k, h)))
       (λ h. n (rw (k, h, e))))
-      (λ j. by-test (eqb (word-at s 0) EVENT-DELIVER)
-      (λ k. let e : word-at s 0 ≡ EVENT-DELIVER = omega tests in by-test (leb DELIVER-BYTES (length s))
+      (λ j. by-test (eqb (event-kind s) EVENT-DELIVER)
+      (λ k. let e : event-kind s ≡ EVENT-DELIVER = omega tests in by-test (leb DELIVER-BYTES (length s))
       (λ h. g e (omega tests) (rw (j, k, h)))
       (λ h. n (rw (j, k, h))))
       (λ k. n (rw (j, k))))
@@ -57,10 +56,10 @@ module _ (s : List ℕ) where
   pub room : (event-size s ≡ 0 → ⊥) → DELIVER-BYTES ≤ length s
   room h = by-size (λ k l e. omega arith) (λ k l e. omega arith) (λ e. absurd (h e))
 
-  pub start-room : (event-size s ≡ 0 → ⊥) → word-at s 0 ≡ EVENT-START → START-BYTES ≤ length s
+  pub start-room : (event-size s ≡ 0 → ⊥) → event-kind s ≡ EVENT-START → START-BYTES ≤ length s
   start-room h t = by-size (λ k l e. omega arith) (λ k l e. omega arith) (λ e. absurd (h e))
 
-  pub size-else : (event-size s ≡ 0 → ⊥) → (word-at s 0 ≡ EVENT-START → ⊥) → event-size s ≡ DELIVER-BYTES
+  pub size-else : (event-size s ≡ 0 → ⊥) → (event-kind s ≡ EVENT-START → ⊥) → event-size s ≡ DELIVER-BYTES
   size-else h j = by-size (λ k l e. absurd (j k)) (λ k l e. e) (λ e. absurd (h e))
 
 -- no event where one is due

@@ -45,16 +45,20 @@ MOST-EVENTS = 1000
 abbrev pub LONGEST-LIST : ℕ
 LONGEST-LIST = HEAD-BYTES + START-BYTES * MOST-EVENTS
 
+-- the kind that the event at the front has
+abbrev pub event-kind : List ℕ → ℕ
+event-kind s = word-at s 0
+
 -- an event of this kind, of so many bytes, is at the front
 abbrev pub begins-with : ℕ → ℕ → List ℕ → Bool
-begins-with kind bytes s = eqb (word-at s 0) kind && leb bytes (length s)
+begins-with kind bytes s = eqb (event-kind s) kind && leb bytes (length s)
 
 -- how many bytes the event at the front takes; 0 where there is none
 unfoldable pub event-size : List ℕ → ℕ
 event-size s = cond (begins-with EVENT-START START-BYTES s) START-BYTES (cond (begins-with EVENT-DELIVER DELIVER-BYTES s) DELIVER-BYTES 0)
 
 unfoldable pub event-at : List ℕ → Event
-event-at s = cond (eqb (word-at s 0) EVENT-START) (start (word-at s 4) (word-at s 8) (hyper-at s 12)) (deliver (word-at s 4) (word-at s 8))
+event-at s = cond (eqb (event-kind s) EVENT-START) (start (word-at s 4) (word-at s 8) (hyper-at s 12)) (deliver (word-at s 4) (word-at s 8))
 
 -- what is left from where the event at the front ends
 abbrev pub rest : List ℕ → List ℕ

@@ -7,10 +7,11 @@ ghost use lib.ListN.{length};
 ghost use Rattle.play_events.specs.List.{HEAD-BYTES, event-size, head-of, exact, body, list-fits};
 ghost use Rattle.play_events.specs.Value.{ReadsEvent};
 
-// The bytes of the head.
 const HEAD_BYTES: usize = 8;
 
-// The kinds of events.
+// Where an event's kind stands.
+const EVENT_KIND_PLACE: usize = 0;
+
 const EVENT_START: u32 = 1;
 
 const EVENT_DELIVER: u32 = 2;
@@ -53,7 +54,6 @@ pub struct EventRead {
     pub size: usize,
 }
 
-// The head of a list.
 pub fn read_head(list: &[u8]) -> ListHead
     requires { ⌜ HEAD-BYTES ≤ length (now list) ⌝ }
     ensures { λ h. ⌜ h ≡ head-of (now (list .entry)) ⌝ }
@@ -72,7 +72,7 @@ fn event_size(rest: &[u8]) -> usize
     if rest.len() < DELIVER_BYTES {
         return 0;
     }
-    let kind = xdr::word_at(rest, 0);
+    let kind = xdr::word_at(rest, EVENT_KIND_PLACE);
     if kind == EVENT_DELIVER {
         return DELIVER_BYTES;
     }
@@ -89,7 +89,7 @@ pub fn read_event(rest: &[u8]) -> EventRead
     requires { ⌜ (event-size (now rest) ≡ 0 → ⊥) ⌝ }
     ensures { λ r. ⌜ ReadsEvent (now (rest .entry)) r ⌝ }
 {
-    if xdr::word_at(rest, 0) == EVENT_START {
+    if xdr::word_at(rest, EVENT_KIND_PLACE) == EVENT_START {
         return EventRead {
             event: PlayEvent::Start {
                 member: Member(xdr::word_at(rest, 4)),
