@@ -20,7 +20,6 @@ pub fn put_byte(out: &mut [u8], at: usize, b: u8) -> usize
     at + 1
 }
 
-// A digit.
 fn put_digit(out: &mut [u8], at: usize, d: u64) -> usize
     requires { ⌜ (at < length (now out)) × (d < 10) ⌝ }
     ensures { λ r. ⌜ PutText (now (out .entry)) at (digit d ∷ []) r (now (out .exit)) ⌝ }

@@ -154,7 +154,6 @@ pub extern "C" fn kalebasin_tree_fresh(nodes: &mut [u64]) -> u32
     tree::fresh(nodes)
 }
 
-// add(round, value, parent).
 #[no_mangle]
 pub extern "C" fn kalebasin_tree_add(nodes: &mut [u64], round: u32, value: u64, parent: u32) -> u32
     ensures { λ n. ⌜ CalledOnTable true (now (nodes .entry)) (add round value parent) n (now (nodes .exit)) ⌝ }
@@ -162,7 +161,6 @@ pub extern "C" fn kalebasin_tree_add(nodes: &mut [u64], round: u32, value: u64, 
     tree::add(nodes, Round(round), value, Round(parent))
 }
 
-// commit(round).
 #[no_mangle]
 pub extern "C" fn kalebasin_tree_commit(nodes: &mut [u64], round: u32) -> u32
     ensures { λ n. ⌜ CalledOnTable true (now (nodes .entry)) (commit round) n (now (nodes .exit)) ⌝ }

@@ -46,7 +46,7 @@ pub struct WriteResult {
     pub length: u32,
 }
 
-// A refused call.
+// A refused call gives the record back as it came.
 fn refuse(f: MemberFields, number: u32) -> MemberResult
     ensures { λ r. ⌜ r ≡ refused-call f number ⌝ }
 {

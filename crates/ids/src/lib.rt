@@ -10,7 +10,6 @@ pub struct Round(pub u32);
 #[repr(C)]
 pub struct Member(pub u32);
 
-// The highest round.
 const LAST_ROUND: u64 = 1000000;
 
 // Whether a number is above every round.

@@ -32,7 +32,7 @@ fn bit(mask: u32) -> bool
     mask % 2 == 1
 }
 
-// The flags of a mask.
+// Bit s of a mask is the flag of member s.
 fn flags_of(mask: u32) -> [bool; 7]
     ensures { λ fs. ⌜ fs ≡ flags-of mask ⌝ }
 {
@@ -64,7 +64,6 @@ fn widened(flag: bool, mask: u32) -> u32
     2 * mask
 }
 
-// The mask of flags.
 fn mask_of(flags: [bool; 7]) -> u32
     ensures { λ k. ⌜ k ≡ mask-of flags ⌝ }
 {

@@ -53,7 +53,6 @@ pub struct Lead {
     pub flags: [bool; 7],
 }
 
-// The member record.
 #[repr(C)]
 pub struct MemberState {
     pub who: Who,
@@ -152,7 +151,6 @@ pub fn number_sound(me: Member, n: u32) -> bool
     me.0 < n
 }
 
-// Whether s leads round r.
 pub fn is_leader(n: u32, s: Member, r: Round) -> bool
     requires { ⌜ 1 ≤ n ⌝ }
     ensures { λ b. ⌜ b ≡ leads n s r ⌝ }

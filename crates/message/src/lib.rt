@@ -43,7 +43,6 @@ pub struct Written {
     pub length: usize,
 }
 
-// The kinds.
 pub const START_KIND: u32 = 1;
 
 pub const JOIN_KIND: u32 = 2;
@@ -83,7 +82,7 @@ pub const PROPOSE_LENGTH: usize = PROPOSED_PLACE + 8;
 // The length of the longest message: what a reply buffer has room for.
 pub const LONGEST: usize = JOIN_VOTED_LENGTH;
 
-// The highest sender.
+// An office has at most seven members, numbered from 0.
 const LAST_SENDER: u32 = 6;
 
 // Whether the round is one of 1 to 1,000,000 and the sender one of 0 to 6.

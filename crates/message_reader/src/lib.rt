@@ -46,7 +46,6 @@ fn sender_of(s: &[u8]) -> Member
     Member(xdr::word_at(s, SENDER_PLACE))
 }
 
-// Bytes as a START.
 fn as_start(s: &[u8]) -> Message
     requires { ⌜ head-length ≤ length (now s) ⌝ }
     ensures { λ m. ⌜ m ≡ Start (message-round (now (s .entry))) (message-sender (now (s .entry))) ⌝ }
@@ -82,7 +81,6 @@ fn as_join_voted(s: &[u8]) -> Message
     }
 }
 
-// Bytes as a PROPOSE.
 fn as_propose(s: &[u8]) -> Message
     requires { ⌜ propose-length ≤ length (now s) ⌝ }
     ensures { λ m. ⌜ m ≡ Propose (message-round (now (s .entry))) (message-sender (now (s .entry))) (proposed-in (now (s .entry))) ⌝ }
@@ -94,7 +92,6 @@ fn as_propose(s: &[u8]) -> Message
     }
 }
 
-// Bytes as a VOTE.
 fn as_vote(s: &[u8]) -> Message
     requires { ⌜ head-length ≤ length (now s) ⌝ }
     ensures { λ m. ⌜ m ≡ Vote (message-round (now (s .entry))) (message-sender (now (s .entry))) ⌝ }

@@ -71,7 +71,6 @@ fn write_join_voted(
     w.at
 }
 
-// A PROPOSE.
 fn write_propose(buf: &mut [u8], kind: u32, round: u32, sender: u32, value: u64) -> usize
     requires { ⌜ span (integer kind ∷ integer round ∷ integer sender ∷ long value ∷ []) ≤ length (now buf) ⌝ }
     ensures { λ n. ⌜ Fronts (integer kind ∷ integer round ∷ integer sender ∷ long value ∷ []) (now (buf .entry)) n (now (buf .exit)) ⌝ }

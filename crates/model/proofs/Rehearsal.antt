@@ -1,4 +1,4 @@
--- 01's rehearsal list in the model, and short lists that end in each of the other numbers that an event can get. By computation.
+-- 01's rehearsal list in the model, and short lists with each of the other numbers that an event can get. By computation.
 -- Assumes nothing.
 use mathlib.Core.Path.{_≡_, refl}
 use mathlib.Core.List.{List, [], _∷_}

@@ -7,7 +7,7 @@ ghost use lib.ListN.{length, replicate};
 ghost use Rattle.message.specs.Fields.{in-range};
 ghost use Rattle.play_store.specs.Rows.{store-sized, HasRow, put-row, fetched};
 
-// The length of a row.
+// A row has room for the longest message.
 pub const ROW_LENGTH: usize = LONGEST;
 
 const MOST_ROWS: usize = 2000;

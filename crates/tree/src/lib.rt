@@ -50,7 +50,6 @@ fn call_on_table(valued: bool, t: &mut [u64], call: TreeCall) -> u32
     call_on_tree(valued, t, call)
 }
 
-// add(r, v, p).
 pub fn add(t: &mut [u64], r: Round, v: u64, p: Round) -> u32
     ensures { λ n. ⌜ CalledOnTable true (now (t .entry)) (add (r .0) v (p .0)) n (now (t .exit)) ⌝ }
 {
@@ -81,7 +80,6 @@ pub fn add_in_tree(t: &mut [u64], r: Round, v: u64, p: Round) -> u32
     )
 }
 
-// commit(r).
 pub fn commit(t: &mut [u64], r: Round) -> u32
     ensures { λ n. ⌜ CalledOnTable true (now (t .entry)) (commit (r .0)) n (now (t .exit)) ⌝ }
 {

@@ -53,7 +53,6 @@ pub fn set_status(t: &mut [u64], i: usize, s: u64)
     t[4 * i + 3] = s;
 }
 
-// Writes row i.
 pub fn put_row(t: &mut [u64], i: usize, r: u64, p: u64, v: u64, s: u64)
     requires { ⌜ 4 * i + 4 ≤ length (now t) ⌝ }
     ensures { λ _. ⌜ now (t .exit) ≡ take (4 * i) (now (t .entry)) ++ r ∷ p ∷ v ∷ s ∷ drop (4 * i + 4) (now (t .entry)) ⌝ }
