@@ -10,7 +10,7 @@ use Rattle.laws.specs.Tests.{by-test}
 use Rattle.laws.specs.First.{passed}
 use Rattle.numbers.specs.Numbers.{OK}
 use Rattle.tree_theory.specs.Table.{MOST-WORDS, used, table-causes, path-causes, path-number, path-count}
-use Rattle.tree.proofs.PathCalls.{path-of}
+use Rattle.tree.proofs.PathCalls.{PathPassed, path-of}
 
 pub count-fits : (ws : List ℕ) (r : ℕ) (out : List ℕ) → path-count true ws r out ≤ MOST-WORDS
 unfolding path-number path-count
@@ -18,5 +18,6 @@ count-fits ws r out =
     by-test (eqb (path-number true ws r out) OK)
     (λ y.
     let (s, (t, (a, (p, rest)))) = passed (table-causes true ws ++ path-causes ws r out) refl (eqb-true _ _ y) in
-    rw y (omega (arith, path-of true ws r out (not-false _ s) (not-false _ t) a (not-false _ p) {n = used ws} refl .short)))
+    let P : PathPassed true ws r = record { length-is = not-false _ s; tree = not-false _ t; low = a; there = not-false _ p } in
+    rw y (omega (arith, path-of P {n = used ws} refl .short)))
     (λ y. rw y (omega arith))

@@ -43,48 +43,57 @@ module _ (valued : Bool) (ws : List ℕ) (r : ℕ) (out : List ℕ) where
     unfolding path-number
     path-absent a p = path-refused ROUND-ABSENT (rw (s, t, a, p) refl) (λ q. omega arith)
 
-    module _ (a : above-range r ≡ false) (p : present r (nodes ws) ≡ true) where
-      -- what the recursion asks of the first call
-      pub path-of : {n : ℕ} → n ≡ used ws → PathOf ws n r 0
-      path-of e =
-          let T : Tree valued ws = is-tree-exact valued ws s .0 t in
-          record {
-            length-is = s;
-            valued = valued;
-            tree = T;
-            rows-are = e;
-            there = p;
-            short =
-                omega (
-                  arith,
-                  path-length valued (rows ws) (nodes ws) (tree-held valued ws s T .grown) r p,
-                  length-rows ws (used ws),
-                  used-rows ws,
-                  short-table ws s,
-                );
-          }
+-- what a call has passed before the recursion to the parent begins
+pub record PathPassed (valued : Bool) (ws : List ℕ) (r : ℕ) : Type 0 where
+  pub length-is : sized ws ≡ true
+  pub tree : is-tree valued ws ≡ true
+  pub low : above-range r ≡ false
+  pub there : present r (nodes ws) ≡ true
 
-      module _ {k : ℕ} {out′ : List ℕ} (W : PathWritten ws r 0 out k out′) where
-        pub path-short : k ≡ 0 → PathGiven valued ws r out PATH-TOO-LONG 0 out′
-        unfolding path-number
-        path-short z =
-            let G = tree-held valued ws s (is-tree-exact valued ws s .0 t) .grown in
-            by-test (leb (length (path (nodes ws) r) + 0) (length out))
-            (λ y. absurd (omega (arith, rw y at (W .count-is), path-some valued ws G r p)))
-            (λ y.
-            let short : ltb (length out) (length (path (nodes ws) r)) ≡ true = omega tests in
-            subst (PathGiven valued ws r out PATH-TOO-LONG 0) (sym (rw y at (W .slice-is)))
-            (path-refused PATH-TOO-LONG (rw (s, t, a, p, short) refl) (λ q. omega arith)))
+module _ {valued : Bool} {ws : List ℕ} {r : ℕ} (P : PathPassed valued ws r) where
+  tree-is : Tree valued ws
+  tree-is = is-tree-exact valued ws (P .length-is) .0 (P .tree)
 
-        pub path-done : (k ≡ 0 → ⊥) → PathGiven valued ws r out OK k out′
-        unfolding path-number path-count path-slice
-        path-done z =
-            by-test (leb (length (path (nodes ws) r) + 0) (length out))
-            (λ y.
-            let long : ltb (length out) (length (path (nodes ws) r)) ≡ false = omega tests in
-            record {
-              number-is = rw (s, t, a, p, long) refl;
-              count-is = rw (s, t, a, p, long) (rw y at (W .count-is));
-              slice-is = rw (s, t, a, p, long) (rw y at (W .slice-is));
-            })
-            (λ y. absurd (z (rw y at (W .count-is))))
+  -- what the recursion asks of the first call
+  pub path-of : {n : ℕ} → n ≡ used ws → PathOf ws n r 0
+  path-of e =
+      record {
+        length-is = P .length-is;
+        valued = valued;
+        tree = tree-is;
+        rows-are = e;
+        there = P .there;
+        short =
+            omega (
+              arith,
+              path-length valued (rows ws) (nodes ws) (tree-held valued ws (P .length-is) tree-is .grown) r (P .there),
+              length-rows ws (used ws),
+              used-rows ws,
+              short-table ws (P .length-is),
+            );
+      }
+
+  module _ {out : List ℕ} {k : ℕ} {out′ : List ℕ} (W : PathWritten ws r 0 out k out′) where
+    pub path-short : k ≡ 0 → PathGiven valued ws r out PATH-TOO-LONG 0 out′
+    unfolding path-number
+    path-short z =
+        let G = tree-held valued ws (P .length-is) tree-is .grown in
+        by-test (leb (length (path (nodes ws) r) + 0) (length out))
+        (λ y. absurd (omega (arith, rw y at (W .count-is), path-some valued ws G r (P .there))))
+        (λ y.
+        let short : ltb (length out) (length (path (nodes ws) r)) ≡ true = omega tests in
+        subst (PathGiven valued ws r out PATH-TOO-LONG 0) (sym (rw y at (W .slice-is)))
+        (path-refused valued ws r out PATH-TOO-LONG (rw (P .length-is, P .tree, P .low, P .there, short) refl) (λ q. omega arith)))
+
+    pub path-done : (k ≡ 0 → ⊥) → PathGiven valued ws r out OK k out′
+    unfolding path-number path-count path-slice
+    path-done z =
+        by-test (leb (length (path (nodes ws) r) + 0) (length out))
+        (λ y.
+        let long : ltb (length out) (length (path (nodes ws) r)) ≡ false = omega tests in
+        record {
+          number-is = rw (P .length-is, P .tree, P .low, P .there, long) refl;
+          count-is = rw (P .length-is, P .tree, P .low, P .there, long) (rw y at (W .count-is));
+          slice-is = rw (P .length-is, P .tree, P .low, P .there, long) (rw y at (W .slice-is));
+        })
+        (λ y. absurd (z (rw y at (W .count-is))))

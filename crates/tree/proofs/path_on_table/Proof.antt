@@ -13,7 +13,7 @@ use Rattle.tree_theory.proofs.Words.{used-rows}
 use Rattle.tree_table.specs.Rows.{row-index}
 use Rattle.tree_table.proofs.Rows.{found-there, found-none}
 use Rattle.tree.proofs.Calling.{table-passed}
-use Rattle.tree.proofs.PathCalls.{path-of-table, path-above, path-absent, path-of, path-short, path-done}
+use Rattle.tree.proofs.PathCalls.{path-of-table, path-above, path-absent, PathPassed, path-of, path-short, path-done}
 use Rattle.tree.proofs.path_on_table.Statement.{statement}
 use Rattle.tree.proofs.path_on_table.Tie as tie
 
@@ -105,13 +105,14 @@ there c =
     let s = start-3 c in
     found-there (table s) (used (table s)) (s .args .r .0) (sought f) (omega (arith, f .before .used-rows .ensures))
 
+passed : (c : tie.Else3) → let s = start-3 c in PathPassed (s .args .valued) (table s) (s .args .r .0)
+passed c =
+    let d = ranged c in
+    let (sized-table, a-tree) = grown (checked d) in
+    record { length-is = sized-table; tree = a-tree; low = low d; there = there c }
+
 path-into-requires : tie.Need-path-into-requires
-path-into-requires c κs =
-    let g = c .before in
-    let d = ranged g in
-    let b = checked d in
-    let s = start b in
-    path-of (s .args .valued) (table s) (s .args .r .0) (slice s) (grown b .0) (grown b .1) (low d) (there g) (g .before .before .used-rows .ensures)
+path-into-requires c κs = path-of (passed (c .before)) (c .before .before .before .used-rows .ensures)
 
 same-length : tie.Need-same-length
 same-length c = search needs
@@ -119,11 +120,7 @@ same-length c = search needs
 returns-4 : tie.Need-returns-4
 returns-4 c =
     let w = c .before .before .before in
-    let g = climbed w in
-    let d = ranged g in
-    let b = checked d in
-    let s = start b in
-    path-short (s .args .valued) (table s) (s .args .r .0) (slice s) (grown b .0) (grown b .1) (low d) (there g) (w .path-into .ensures) (c .if4 .taken)
+    path-short (passed (climbed w)) (w .path-into .ensures) (c .if4 .taken)
 
 same-length-2 : tie.Need-same-length-2
 same-length-2 c = search needs
@@ -131,11 +128,7 @@ same-length-2 c = search needs
 returns-5 : tie.Need-returns-5
 returns-5 c =
     let w = c .before .before .before in
-    let g = climbed w in
-    let d = ranged g in
-    let b = checked d in
-    let s = start b in
-    path-done (s .args .valued) (table s) (s .args .r .0) (slice s) (grown b .0) (grown b .1) (low d) (there g) (w .path-into .ensures) (c .if4 .left)
+    path-done (passed (climbed w)) (w .path-into .ensures) (c .if4 .left)
 
 pub path-on-table-spec : {M : Type 1} → statement M
 path-on-table-spec =
