@@ -41,6 +41,7 @@ mod played;
 mod proved;
 mod refusal;
 mod store;
+mod tree;
 
 pub use event::{Event, EventList};
 pub use ids::{Member, MessageNumber, Round};
@@ -52,3 +53,4 @@ pub use played::{Played, STORE_ROW, STORE_ROWS, TABLE_ROW, TABLE_ROWS};
 pub use proved::{play, read_message, tree_add, tree_commit, tree_fresh, tree_path, MemberRecord};
 pub use refusal::{number_of, NoRefusal, Refusal};
 pub use store::sent;
+pub use tree::TreeKind;
