@@ -7,12 +7,13 @@ pub mod Rebuilt
 pub mod Accepted
 pub mod History
 pub mod FourProperties
-pub mod Agreement
 pub mod ReadOff
 pub mod Regrown
 pub mod Words
 pub mod Fits
 pub mod Trees
+pub mod Agreement
+pub mod TreeKinds
 pub mod Checks
 pub mod Steps
 pub mod CallsOnWords

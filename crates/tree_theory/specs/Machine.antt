@@ -1,5 +1,5 @@
 -- The machine (01, "The tree"; Algorithm 1 of source document 001, with 01's tests), and lists of calls of it.
--- `valued` says whether the value test, number 7, is made.
+-- `valued` says which kind of tree it is: a value tree, where the value test, number 7, is made, or a command tree (02, ticket 1), where it isn't.
 use mathlib.Core.Bool.{Bool, true, false, cond, _&&_, _||_, not}
 use mathlib.Core.List.{List, [], _∷_, _++_, map}
 use Prim.Native.Nat.{ℕ, zero, suc}

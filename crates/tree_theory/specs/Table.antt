@@ -32,7 +32,7 @@ unfoldable pub table : ℕ → List Node → List ℕ
 unfolding words
 table len ns = words ns ++ replicate (len - 4 * length ns) 0
 
--- A table is a tree if some list of calls from fresh leaves it.
+-- A table is a tree if some list of calls from fresh leaves it, calls of that kind of tree.
 pub record Tree (valued : Bool) (ws : List ℕ) : Type 0 where
   pub calls : List Call
   pub left : table (length ws) (after valued (rows ws) fresh calls) ≡ ws
