@@ -1,9 +1,9 @@
-// The quorum tree in lent memory (01, "The tree"): fresh, add, commit and path over a slice of 64-bit words, four a row. `valued` says
-// whether a tree's values are compared, and the public calls have it true.
+// The quorum tree in lent memory (01, "The tree"): fresh, add, commit and path over a slice of 64-bit words, four a row. `valued` says which
+// kind of tree it is: true for a value tree, 01's, whose values are compared; false for a command tree (02, ticket 1), whose aren't.
 use ids::Round;
 use tree_steps::call::TreeCall;
 ghost use mathlib.Core.Path.{_≡_};
-ghost use mathlib.Core.Bool.{true};
+ghost use mathlib.Core.Bool.{true, false};
 ghost use Rattle.tree_theory.specs.Machine.{add, commit};
 ghost use Rattle.tree_theory.specs.Table.{sized, Tree, fresh-number, fresh-table};
 ghost use Rattle.tree_steps.specs.Planned.{call-of};
@@ -15,7 +15,7 @@ pub struct PathAnswer {
     pub count: usize,
 }
 
-// Makes the table fresh: the root 0, 0, 0, 3 and zeros all else. It checks the length only.
+// Makes the table fresh, for either kind of tree: the root 0, 0, 0, 3 and zeros all else. It checks the length only.
 pub fn fresh(t: &mut [u64]) -> u32
     ensures number { λ n. ⌜ n ≡ fresh-number (now (t .entry)) ⌝ }
     ensures left { λ _. ⌜ now (t .exit) ≡ fresh-table (now (t .entry)) ⌝ }
@@ -50,11 +50,12 @@ fn call_on_table(valued: bool, t: &mut [u64], call: TreeCall) -> u32
     call_on_tree(valued, t, call)
 }
 
-pub fn add(t: &mut [u64], r: Round, v: u64, p: Round) -> u32
-    ensures { λ n. ⌜ CalledOnTable true (now (t .entry)) (add (r .0) v (p .0)) n (now (t .exit)) ⌝ }
+// add on any table.
+fn add_on_table(valued: bool, t: &mut [u64], r: Round, v: u64, p: Round) -> u32
+    ensures { λ n. ⌜ CalledOnTable valued (now (t .entry)) (add (r .0) v (p .0)) n (now (t .exit)) ⌝ }
 {
     call_on_table(
-        true,
+        valued,
         t,
         TreeCall::Add {
             round: r,
@@ -62,6 +63,19 @@ pub fn add(t: &mut [u64], r: Round, v: u64, p: Round) -> u32
             parent: p,
         },
     )
+}
+
+pub fn add(t: &mut [u64], r: Round, v: u64, p: Round) -> u32
+    ensures { λ n. ⌜ CalledOnTable true (now (t .entry)) (add (r .0) v (p .0)) n (now (t .exit)) ⌝ }
+{
+    add_on_table(true, t, r, v, p)
+}
+
+// add of a command tree: 01's without check 7.
+pub fn command_add(t: &mut [u64], r: Round, v: u64, p: Round) -> u32
+    ensures { λ n. ⌜ CalledOnTable false (now (t .entry)) (add (r .0) v (p .0)) n (now (t .exit)) ⌝ }
+{
+    add_on_table(false, t, r, v, p)
 }
 
 // add on a table that is a tree already: the same step without the check of the table.
@@ -86,6 +100,12 @@ pub fn commit(t: &mut [u64], r: Round) -> u32
     call_on_table(true, t, TreeCall::Commit { round: r })
 }
 
+pub fn command_commit(t: &mut [u64], r: Round) -> u32
+    ensures { λ n. ⌜ CalledOnTable false (now (t .entry)) (commit (r .0)) n (now (t .exit)) ⌝ }
+{
+    call_on_table(false, t, TreeCall::Commit { round: r })
+}
+
 // commit on a table that is a tree already: the same step without the check of the table.
 pub fn commit_in_tree(t: &mut [u64], r: Round) -> u32
     requires { ⌜ (sized (now t) ≡ true) × Tree true (now t) ⌝ }
@@ -95,7 +115,7 @@ pub fn commit_in_tree(t: &mut [u64], r: Round) -> u32
 }
 
 // path on any table.
-fn path_on_table(valued: bool, t: &[u64], r: Round, out: &mut [u64]) -> PathAnswer
+pub fn path_on_table(valued: bool, t: &[u64], r: Round, out: &mut [u64]) -> PathAnswer
     ensures { λ a. ⌜ PathGiven valued (now (t .entry)) (r .0) (now (out .entry)) (a .number) (a .count) (now (out .exit)) ⌝ }
 {
     let number = tree_check::table_number(valued, t);
@@ -134,4 +154,10 @@ pub fn path(t: &[u64], r: Round, out: &mut [u64]) -> PathAnswer
     ensures { λ a. ⌜ PathGiven true (now (t .entry)) (r .0) (now (out .entry)) (a .number) (a .count) (now (out .exit)) ⌝ }
 {
     path_on_table(true, t, r, out)
+}
+
+pub fn command_path(t: &[u64], r: Round, out: &mut [u64]) -> PathAnswer
+    ensures { λ a. ⌜ PathGiven false (now (t .entry)) (r .0) (now (out .entry)) (a .number) (a .count) (now (out .exit)) ⌝ }
+{
+    path_on_table(false, t, r, out)
 }
