@@ -1,4 +1,4 @@
-// The C functions that the host calls: play, the message reader and the calls of the tree, thin over the proved crates. A slice passes as
+// The C functions that the host calls: play, the message reader and the calls of both kinds of trees, thin over the proved crates. A slice passes as
 // a pointer and a count of elements. A number is 0 for OK, else 01's refusal.
 use ids::Member;
 use ids::Round;
@@ -9,7 +9,7 @@ use message::Read;
 use message::START_KIND;
 use message::VOTE_KIND;
 ghost use mathlib.Core.Path.{_≡_};
-ghost use mathlib.Core.Bool.{true};
+ghost use mathlib.Core.Bool.{true, false};
 ghost use Rattle.tree_theory.specs.Machine.{add, commit};
 ghost use Rattle.tree_theory.specs.Table.{fresh-number, fresh-table};
 ghost use Rattle.tree.specs.Promises.{CalledOnTable, PathGiven};
@@ -19,11 +19,11 @@ ghost use Rattle.play.specs.Promise.{Given};
 ghost use Rattle.exports.specs.Results.{as-play-answer, voteless, message-result, refused-result, read-result};
 
 // The version of the C functions. It goes up with each change that a caller sees.
-const VERSION: u32 = 1;
+const VERSION: u32 = 2;
 
 #[no_mangle]
 pub extern "C" fn kalebasin_version() -> u32
-    ensures { λ v. ⌜ v ≡ 1 ⌝ }
+    ensures { λ v. ⌜ v ≡ 2 ⌝ }
 {
     VERSION
 }
@@ -145,7 +145,7 @@ pub extern "C" fn kalebasin_read_message(s: &[u8]) -> MessageResult
     }
 }
 
-// Makes a table fresh.
+// Makes a table fresh, for either kind of tree.
 #[no_mangle]
 pub extern "C" fn kalebasin_tree_fresh(nodes: &mut [u64]) -> u32
     ensures number { λ n. ⌜ n ≡ fresh-number (now (nodes .entry)) ⌝ }
@@ -168,6 +168,25 @@ pub extern "C" fn kalebasin_tree_commit(nodes: &mut [u64], round: u32) -> u32
     tree::commit(nodes, Round(round))
 }
 
+#[no_mangle]
+pub extern "C" fn kalebasin_command_add(
+    nodes: &mut [u64],
+    round: u32,
+    value: u64,
+    parent: u32,
+) -> u32
+    ensures { λ n. ⌜ CalledOnTable false (now (nodes .entry)) (add round value parent) n (now (nodes .exit)) ⌝ }
+{
+    tree::command_add(nodes, Round(round), value, Round(parent))
+}
+
+#[no_mangle]
+pub extern "C" fn kalebasin_command_commit(nodes: &mut [u64], round: u32) -> u32
+    ensures { λ n. ⌜ CalledOnTable false (now (nodes .entry)) (commit round) n (now (nodes .exit)) ⌝ }
+{
+    tree::command_commit(nodes, Round(round))
+}
+
 // With a refusal the count is 0.
 #[repr(C)]
 pub struct PathResult {
@@ -175,14 +194,28 @@ pub struct PathResult {
     pub count: u32,
 }
 
-// path(round): the rounds from the root to this one, written from the first word.
+// path(round) of either kind of tree: the rounds from the root to this one, written from the first word.
+fn path_on_table(valued: bool, nodes: &[u64], round: u32, out: &mut [u64]) -> PathResult
+    ensures { λ r. ⌜ PathGiven valued (now (nodes .entry)) round (now (out .entry)) (r .number) (r .count) (now (out .exit)) ⌝ }
+{
+    let a = tree::path_on_table(valued, nodes, Round(round), out);
+    let count = a.count as u32;
+    PathResult {
+        number: a.number,
+        count,
+    }
+}
+
 #[no_mangle]
 pub extern "C" fn kalebasin_tree_path(nodes: &[u64], round: u32, out: &mut [u64]) -> PathResult
     ensures { λ r. ⌜ PathGiven true (now (nodes .entry)) round (now (out .entry)) (r .number) (r .count) (now (out .exit)) ⌝ }
 {
-    let a = tree::path(nodes, Round(round), out);
-    PathResult {
-        number: a.number,
-        count: a.count as u32,
-    }
+    path_on_table(true, nodes, round, out)
+}
+
+#[no_mangle]
+pub extern "C" fn kalebasin_command_path(nodes: &[u64], round: u32, out: &mut [u64]) -> PathResult
+    ensures { λ r. ⌜ PathGiven false (now (nodes .entry)) round (now (out .entry)) (r .number) (r .count) (now (out .exit)) ⌝ }
+{
+    path_on_table(false, nodes, round, out)
 }

@@ -16,11 +16,11 @@ ghost use Rattle.exports_member.specs.Members.{member-result, fresh-outc
 ghost use Rattle.exports_member.specs.Members.{write-result, written-after};
 
 // The version of these C functions. It goes up with each change that a caller sees.
-const VERSION: u32 = 1;
+const VERSION: u32 = 2;
 
 #[no_mangle]
 pub extern "C" fn kalebasin_member_version() -> u32
-    ensures { λ v. ⌜ v ≡ 1 ⌝ }
+    ensures { λ v. ⌜ v ≡ 2 ⌝ }
 {
     VERSION
 }
