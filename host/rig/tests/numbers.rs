@@ -2,7 +2,7 @@
 //! say so.
 
 use kalebasin::notation::parse;
-use kalebasin::{EventList, Member, Message, Refusal, Round};
+use kalebasin::{EventList, Member, Message, Refusal, Round, TreeKind};
 use kalebasin_rig::compare::{play, Lent};
 use kalebasin_rig::explain::explain;
 use kalebasin_rig::generate::{self, Case};
@@ -79,7 +79,7 @@ fn tables_of_every_size() {
         assert_eq!(trace(&second::CALLS, &list(3), &[0; 15], 20, rows).err(), Some(Refusal::TableLength));
     }
     for words in [0, 1, 3, 5, 1_023, 1_025, 4_096] {
-        assert!(!is_tree(&vec![0; words]), "{words}");
+        assert!(TreeKind::ALL.iter().all(|kind| !is_tree(*kind, &vec![0; words])), "{words}");
     }
 }
 

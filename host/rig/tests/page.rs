@@ -5,7 +5,7 @@ mod runs;
 
 use browser::{browser, Browser};
 use kalebasin::notation::parse;
-use kalebasin::{EventList, Refusal};
+use kalebasin::{EventList, Refusal, TreeKind};
 use kalebasin_rig::draw;
 use kalebasin_rig::second::member::Record;
 use kalebasin_rig::second::model::{Made, Model};
@@ -77,8 +77,10 @@ impl Office {
         }
         let before = self.table.clone();
         match one.made {
-            Some(Made::Proposal(made)) => tree::add(&mut self.table, made.round, made.value, made.parent).unwrap(),
-            Some(Made::Decision(made)) => tree::commit(&mut self.table, made.round).unwrap(),
+            Some(Made::Proposal(made)) => {
+                tree::add(TreeKind::Value, &mut self.table, made.round, made.value, made.parent).unwrap();
+            }
+            Some(Made::Decision(made)) => tree::commit(TreeKind::Value, &mut self.table, made.round).unwrap(),
             None => {}
         }
         let rows = before.chunks(4).zip(self.table.chunks(4));

@@ -1,7 +1,8 @@
-//! The second implementation's tree against document 01: cases P1 to P11, the four properties and history statuses on
-//! every short list of calls, and trees as the tables that calls leave.
+//! The second implementation's tree against documents 01 and 02, for both kinds of trees: cases P1 to P11, the four
+//! properties and history statuses on every short list of calls, trees as the tables that calls leave, and what the kinds
+//! have to do with one another.
 
-use kalebasin::{nodes, number_of, Round, Status};
+use kalebasin::{nodes, number_of, Node, Round, Status, TreeKind};
 use kalebasin_rig::second::tree::{add, commit, fresh, is_tree, path};
 use std::collections::{BTreeMap, HashSet};
 
@@ -18,71 +19,91 @@ fn fresh_table(rows: usize) -> Vec<u64> {
     table
 }
 
-fn call(table: &mut [u64], call: Call) -> u32 {
+fn call(kind: TreeKind, table: &mut [u64], call: Call) -> u32 {
     match call {
-        Add(round, value, parent) => number_of(&add(table, Round(round), value, Round(parent))),
-        Commit(round) => number_of(&commit(table, Round(round))),
+        Add(round, value, parent) => number_of(&add(kind, table, Round(round), value, Round(parent))),
+        Commit(round) => number_of(&commit(kind, table, Round(round))),
     }
 }
 
-fn run(rows: usize, calls: &[Call]) -> (Vec<u32>, Vec<u64>) {
+fn run(kind: TreeKind, rows: usize, calls: &[Call]) -> (Vec<u32>, Vec<u64>) {
     let mut table = fresh_table(rows);
-    (calls.iter().map(|one| call(&mut table, *one)).collect(), table)
+    (calls.iter().map(|one| call(kind, &mut table, *one)).collect(), table)
+}
+
+/// The number of a path call, or how many rounds it wrote; and the words lent, which are 99 at first.
+fn path_of(kind: TreeKind, table: &[u64], round: u32, room: usize) -> (Result<usize, u32>, Vec<u64>) {
+    let mut out = vec![99; room];
+    (path(kind, table, Round(round), &mut out).map_err(|refusal| refusal.number()), out)
 }
 
 fn status(table: &[u64], round: u32) -> Status {
     nodes(table).find(|node| node.round == Round(round)).unwrap().status
 }
 
+/// A number that check 7 comes before, if the kind has that.
+fn behind_7(kind: TreeKind, number: u32) -> u32 {
+    match kind {
+        TreeKind::Value => 7,
+        TreeKind::Command => number,
+    }
+}
+
+/// The kinds differ in P5.
 #[test]
 fn cases_p1_to_p11() {
     let p6 = [Add(1, 5, 0), Add(3, 6, 0), Add(2, 5, 1)];
     let p7 = [&p6[..], &[Commit(3), Add(4, 5, 2), Add(5, 6, 3)]].concat();
-    let cases: &[(&str, usize, &[Call], &[u32])] = &[
-        ("P1", 8, &[Add(1, 5, 0)], &[0]),
-        ("P2", 8, &[Add(1, 5, 0), Add(1, 5, 0)], &[0, 4]),
-        ("P3", 8, &[Add(1, 5, 1)], &[5]),
-        ("P4", 8, &[Add(3, 5, 0), Add(2, 5, 3)], &[0, 6]),
-        ("P5", 8, &[Add(1, 5, 0), Add(2, 6, 1)], &[0, 7]),
-        ("P6", 8, &p6, &[0, 0, 0]),
-        ("P7", 8, &p7, &[0, 0, 0, 0, 8, 0]),
-        ("P8", 8, &[Add(1, 5, 0), Commit(1), Add(3, 5, 1), Commit(3), Add(2, 6, 0)], &[0, 0, 0, 0, 8]),
-        ("P9", 8, &[Commit(0), Commit(1)], &[3, 10]),
-        ("P10", 1, &[Add(1, 5, 0)], &[9]),
-        ("P11", 8, &[Add(1_000_000, 0, 0), Add(1_000_001, 0, 0)], &[0, 3]),
-    ];
-    for (name, rows, calls, answers) in cases {
-        assert_eq!(run(*rows, calls).0, *answers, "{name}");
+    for kind in TreeKind::ALL {
+        let cases: &[(&str, usize, &[Call], &[u32])] = &[
+            ("P1", 8, &[Add(1, 5, 0)], &[0]),
+            ("P2", 8, &[Add(1, 5, 0), Add(1, 5, 0)], &[0, 4]),
+            ("P3", 8, &[Add(1, 5, 1)], &[5]),
+            ("P4", 8, &[Add(3, 5, 0), Add(2, 5, 3)], &[0, 6]),
+            ("P5", 8, &[Add(1, 5, 0), Add(2, 6, 1)], &[0, behind_7(kind, 0)]),
+            ("P6", 8, &p6, &[0, 0, 0]),
+            ("P7", 8, &p7, &[0, 0, 0, 0, 8, 0]),
+            ("P8", 8, &[Add(1, 5, 0), Commit(1), Add(3, 5, 1), Commit(3), Add(2, 6, 0)], &[0, 0, 0, 0, 8]),
+            ("P9", 8, &[Commit(0), Commit(1)], &[3, 10]),
+            ("P10", 1, &[Add(1, 5, 0)], &[9]),
+            ("P11", 8, &[Add(1_000_000, 0, 0), Add(1_000_001, 0, 0)], &[0, 3]),
+        ];
+        for (name, rows, calls, answers) in cases {
+            assert_eq!(run(kind, *rows, calls).0, *answers, "{name}, {kind}");
+        }
+        let (_, table) = run(kind, 8, &p6);
+        assert_eq!([1, 2, 3].map(|round| status(&table, round)), [Status::Ghost, Status::Ghost, Status::Added]);
     }
-    let (_, table) = run(8, &p6);
-    assert_eq!([1, 2, 3].map(|round| status(&table, round)), [Status::Ghost, Status::Ghost, Status::Added]);
 }
 
 #[test]
 fn refusals_in_order() {
-    let mut table = run(4, &[Add(2, 5, 0), Add(4, 5, 2), Commit(4), Add(6, 5, 4)]).1;
-    let whole = table.clone();
-    let cases = [
-        (Add(0, 5, 9), 3),
-        (Add(1_000_001, 5, 9), 3),
-        (Add(4, 9, 9), 4),
-        (Add(5, 9, 5), 5),
-        (Add(5, 9, u32::MAX), 5),
-        (Add(3, 9, 4), 6),
-        (Add(3, 9, 2), 7),
-        (Add(5, 5, 2), 8),
-        (Add(5, 5, 4), 9),
-        (Commit(0), 3),
-        (Commit(1_000_001), 3),
-        (Commit(5), 10),
-        (Commit(4), 11),
-    ];
-    for (one, number) in cases {
-        assert_eq!(call(&mut table, one), number, "{one:?}");
-        assert_eq!(table, whole, "{one:?}");
+    for kind in TreeKind::ALL {
+        let mut table = run(kind, 4, &[Add(2, 5, 0), Add(4, 5, 2), Commit(4), Add(6, 5, 4)]).1;
+        let whole = table.clone();
+        let cases = [
+            (Add(0, 5, 9), 3),
+            (Add(1_000_001, 5, 9), 3),
+            (Add(4, 9, 9), 4),
+            (Add(5, 9, 5), 5),
+            (Add(5, 9, u32::MAX), 5),
+            (Add(3, 9, 4), 6),
+            (Add(3, 9, 2), behind_7(kind, 9)),
+            (Add(5, 9, 2), behind_7(kind, 8)),
+            (Add(5, 5, 2), 8),
+            (Add(5, 5, 4), 9),
+            (Commit(0), 3),
+            (Commit(1_000_001), 3),
+            (Commit(5), 10),
+            (Commit(4), 11),
+        ];
+        for (one, number) in cases {
+            assert_eq!(call(kind, &mut table, one), number, "{one:?}, {kind}");
+            assert_eq!(table, whole, "{one:?}, {kind}");
+        }
+        let (answers, _) = run(kind, 8, &[Add(1, 5, 0), Add(2, 5, 0), Commit(1), Commit(2)]);
+        assert_eq!(answers, [0, 0, 12, 0], "{kind}");
     }
-    let (answers, _) = run(8, &[Add(1, 5, 0), Add(2, 5, 0), Commit(1), Commit(2)]);
-    assert_eq!(answers, [0, 0, 12, 0]);
 }
 
 #[test]
@@ -96,27 +117,28 @@ fn lengths() {
             expected[3] = 3;
         }
         assert_eq!(table, expected);
-        if !allowed {
-            let number = [call(&mut table, Add(0, 0, 0)), number_of(&path(&table, Round(2_000_000), &mut []))];
-            assert_eq!(number, [1, 1], "{length}");
+        for kind in TreeKind::ALL.into_iter().filter(|_| !allowed) {
+            let numbers = [Add(0, 0, 0), Commit(0)].map(|one| call(kind, &mut table, one));
+            assert_eq!(numbers, [1, 1], "{length}, {kind}");
+            assert_eq!(path_of(kind, &table, 2_000_000, 0), (Err(1), vec![]), "{length}, {kind}");
+            assert_eq!(table, expected);
         }
     }
 }
 
 #[test]
 fn paths() {
-    let (_, table) = run(8, &[Add(1, 5, 0), Add(3, 6, 0), Add(2, 5, 1), Add(7, 6, 3)]);
-    let path_of = |round, room| {
-        let mut out = vec![99; room];
-        (path(&table, Round(round), &mut out).map_err(|refusal| refusal.number()), out)
-    };
-    assert_eq!(path_of(0, 2), (Ok(1), vec![0, 99]));
-    assert_eq!(path_of(0, 0), (Err(13), vec![]));
-    assert_eq!(path_of(7, 4), (Ok(3), vec![0, 3, 7, 99]));
-    assert_eq!(path_of(2, 3), (Ok(3), vec![0, 1, 2]));
-    assert_eq!(path_of(2, 2), (Err(13), vec![99, 99]));
-    assert_eq!(path_of(4, 0), (Err(10), vec![]));
-    assert_eq!(path_of(1_000_001, 0), (Err(3), vec![]));
+    for (kind, value) in [(TreeKind::Value, 6), (TreeKind::Command, 6), (TreeKind::Command, 8)] {
+        let (_, table) = run(kind, 8, &[Add(1, 5, 0), Add(3, 6, 0), Add(2, 5, 1), Add(7, value, 3)]);
+        let path_of = |round, room| path_of(kind, &table, round, room);
+        assert_eq!(path_of(0, 2), (Ok(1), vec![0, 99]));
+        assert_eq!(path_of(0, 0), (Err(13), vec![]));
+        assert_eq!(path_of(7, 4), (Ok(3), vec![0, 3, 7, 99]));
+        assert_eq!(path_of(2, 3), (Ok(3), vec![0, 1, 2]));
+        assert_eq!(path_of(2, 2), (Err(13), vec![99, 99]));
+        assert_eq!(path_of(4, 0), (Err(10), vec![]));
+        assert_eq!(path_of(1_000_001, 0), (Err(3), vec![]));
+    }
 }
 
 const VALUES: [u64; 2] = [0, 5];
@@ -127,8 +149,8 @@ fn alphabet(k: u32) -> Vec<Call> {
     adds.chain((1..=k).map(Commit)).collect()
 }
 
-/// The four properties, in their order.
-fn has_properties(calls: &[Call]) -> bool {
+/// The four properties, in their order. The third has its value clause for a value tree alone.
+fn has_properties(kind: TreeKind, calls: &[Call]) -> bool {
     let edges: Vec<(usize, u32, u64, u32)> = calls
         .iter()
         .enumerate()
@@ -142,8 +164,9 @@ fn has_properties(calls: &[Call]) -> bool {
     let once = |rounds: Vec<u32>| rounds.iter().collect::<HashSet<_>>().len() == rounds.len();
     let p1 = once(edges.iter().map(|edge| edge.1).collect()) && once(commits.iter().map(|commit| commit.1).collect());
     let p2 = commits.iter().all(|(at, r)| edges.iter().any(|edge| edge.0 < *at && edge.1 == *r));
+    let value_fits = |v: u64, of_parent: u64| kind == TreeKind::Command || of_parent == v;
     let p3 = edges.iter().all(|(at, r, v, p)| {
-        p < r && (*p == 0 || edges.iter().any(|edge| edge.0 < *at && edge.1 == *p && edge.2 == *v))
+        p < r && (*p == 0 || edges.iter().any(|edge| edge.0 < *at && edge.1 == *p && value_fits(*v, edge.2)))
     });
     let p4 = commits.iter().all(|(_, c)| !edges.iter().any(|(_, r, _, p)| p < c && c < r));
     p1 && p2 && p3 && p4
@@ -170,50 +193,83 @@ fn each_list(alphabet: &[Call], length: usize, calls: &mut Vec<Call>, look: &mut
     }
 }
 
-/// Every list of up to 4 calls of rounds 1 to 3: OK throughout exactly if it has the four properties, and then the
-/// table is the adds in order with history statuses.
-#[test]
-fn accepted_lists_are_those_with_the_four_properties() {
+/// Every list of up to 4 calls of rounds 1 to 3, with what it comes to for a kind: the list, the numbers, the table.
+fn each_short_run(kind: TreeKind, mut look: impl FnMut(&[Call], &[u32], &[u64])) {
     let mut lists = 0;
     each_list(&alphabet(3), 4, &mut Vec::new(), &mut |calls| {
         lists += 1;
-        let (answers, table) = run(6, calls);
-        let accepted = answers.iter().all(|number| *number == 0);
-        assert_eq!(accepted, has_properties(calls), "{calls:?}");
-        if accepted {
-            let expected = calls.iter().filter_map(|one| match *one {
-                Add(r, v, p) => Some([u64::from(r), u64::from(p), v, history_status(calls, r) as u64]),
-                Commit(_) => None,
-            });
-            let mut whole: Vec<u64> = [0, 0, 0, 3].into_iter().chain(expected.flatten()).collect();
-            whole.resize(24, 0);
-            assert_eq!(table, whole, "{calls:?}");
-        }
+        let (answers, table) = run(kind, 6, calls);
+        look(calls, &answers, &table);
     });
-    assert!(lists > 500_000, "{lists}");
+    assert_eq!(lists, 551_881);
 }
 
-/// The numbers of accepted lists for one value, as far as document 02 gives them.
+/// Every short list: OK throughout exactly if it has the four properties, and then the table is the adds in order with
+/// history statuses.
+#[test]
+fn accepted_lists_are_those_with_the_four_properties() {
+    for kind in TreeKind::ALL {
+        each_short_run(kind, |calls, answers, table| {
+            let accepted = answers.iter().all(|number| *number == 0);
+            assert_eq!(accepted, has_properties(kind, calls), "{calls:?}, {kind}");
+            if accepted {
+                let expected = calls.iter().filter_map(|one| match *one {
+                    Add(r, v, p) => Some([u64::from(r), u64::from(p), v, history_status(calls, r) as u64]),
+                    Commit(_) => None,
+                });
+                let mut whole: Vec<u64> = [0, 0, 0, 3].into_iter().chain(expected.flatten()).collect();
+                whole.resize(24, 0);
+                assert_eq!(table, whole, "{calls:?}, {kind}");
+            }
+        });
+    }
+}
+
+/// The path of the highest COMMITTED node has every COMMITTED node; how many they are.
+fn committed_on_one_path(kind: TreeKind, table: &[u64]) -> usize {
+    let is_committed = |node: &Node| node.status == Status::Committed;
+    let rounds: Vec<Round> = nodes(table).filter(is_committed).map(|node| node.round).collect();
+    let highest = rounds.iter().max().unwrap();
+    let (_, path) = path_of(kind, table, highest.0, table.len());
+    assert!(rounds.iter().all(|round| path.contains(&round.0.into())), "{table:?}, {kind}");
+    rounds.len()
+}
+
+/// Every short list, its refused calls too, and every table that longer lists leave in four rows.
+#[test]
+fn committed_nodes_lie_on_one_path() {
+    for kind in TreeKind::ALL {
+        let mut most = 0;
+        each_short_run(kind, |_, _, table| most = most.max(committed_on_one_path(kind, table)));
+        assert_eq!(most, 3, "{kind}");
+        let most = reachable(kind, 4).iter().map(|table| committed_on_one_path(kind, table)).max();
+        assert_eq!(most, Some(4), "{kind}");
+    }
+}
+
+/// The numbers of accepted lists for one value, as far as document 02 gives them. With one value the kinds don't differ.
 #[test]
 fn numbers_of_accepted_lists() {
-    let mut counts = BTreeMap::new();
-    let calls: Vec<Call> = alphabet(2).into_iter().filter(|one| !matches!(one, Add(_, 0, _))).collect();
-    each_list(&calls, 2, &mut Vec::new(), &mut |calls| {
-        if run(6, calls).0.iter().all(|number| *number == 0) {
-            *counts.entry(calls.len()).or_insert(0) += 1;
-        }
-    });
-    assert_eq!(counts.into_values().collect::<Vec<_>>(), [1, 2, 5]);
+    let alphabet: Vec<Call> = alphabet(2).into_iter().filter(|one| !matches!(one, Add(_, 0, _))).collect();
+    for kind in TreeKind::ALL {
+        let mut counts = BTreeMap::new();
+        each_list(&alphabet, 2, &mut Vec::new(), &mut |calls| {
+            if run(kind, 6, calls).0.iter().all(|number| *number == 0) {
+                *counts.entry(calls.len()).or_insert(0) += 1;
+            }
+        });
+        assert_eq!(counts.into_values().collect::<Vec<_>>(), [1, 2, 5], "{kind}");
+    }
 }
 
 /// All tables that calls of rounds 1 to 3 leave in so many rows, by search from fresh.
-fn reachable(rows: usize) -> HashSet<Vec<u64>> {
+fn reachable(kind: TreeKind, rows: usize) -> HashSet<Vec<u64>> {
     let mut seen = HashSet::from([fresh_table(rows)]);
     let mut open: Vec<Vec<u64>> = seen.iter().cloned().collect();
     while let Some(table) = open.pop() {
         for one in alphabet(3) {
             let mut next = table.clone();
-            if call(&mut next, one) == 0 && seen.insert(next.clone()) {
+            if call(kind, &mut next, one) == 0 && seen.insert(next.clone()) {
                 open.push(next);
             }
         }
@@ -224,26 +280,107 @@ fn reachable(rows: usize) -> HashSet<Vec<u64>> {
 /// A table is a tree exactly if some list of calls leaves it: every table of four rows with small words.
 #[test]
 fn trees_are_the_tables_that_calls_leave() {
-    let trees = reachable(4);
     let row = |code: u64| [code % 4, code / 4 % 4, VALUES[code as usize / 16 % 2], code / 32];
-    let mut found = 0;
-    for code in 0..128 * 128 * 128 {
-        let table = [[0, 0, 0, 3], row(code % 128), row(code / 128 % 128), row(code / 128 / 128)].concat();
-        assert_eq!(is_tree(&table), trees.contains(&table), "{table:?}");
-        found += usize::from(is_tree(&table));
+    for kind in TreeKind::ALL {
+        let trees = reachable(kind, 4);
+        let mut found = 0;
+        for code in 0..128 * 128 * 128 {
+            let table = [[0, 0, 0, 3], row(code % 128), row(code / 128 % 128), row(code / 128 / 128)].concat();
+            let is_one = is_tree(kind, &table);
+            assert_eq!(is_one, trees.contains(&table), "{table:?}, {kind}");
+            found += usize::from(is_one);
+        }
+        assert_eq!(found, trees.len(), "{kind}");
     }
-    assert_eq!(found, trees.len());
 }
 
+/// Each path call on each tree of four rows: the path of the parent with the round put after it.
 #[test]
-fn words_out_of_range_make_no_tree() {
-    let (_, tree) = run(5, &[Add(1, 5, 0), Add(3, 6, 0), Add(2, 5, 1)]);
-    let value_of_round_3 = 2 * 4 + 2;
-    for at in (0..tree.len()).filter(|at| *at != value_of_round_3) {
-        for word in [1_000_001, 1 << 32, (1 << 32) + tree[at], u64::MAX] {
-            let mut table = tree.clone();
-            table[at] = word;
-            assert_eq!(call(&mut table, Commit(3)), 2, "word {at} is {word}");
+fn paths_go_over_the_parents() {
+    for kind in TreeKind::ALL {
+        for table in reachable(kind, 4) {
+            assert_eq!(path_of(kind, &table, 0, 1), (Ok(1), vec![0]));
+            for node in nodes(&table).skip(1) {
+                let (length, mut expected) = path_of(kind, &table, node.parent.0, 4);
+                let length = length.unwrap();
+                expected[length] = node.round.0.into();
+                assert_eq!(path_of(kind, &table, node.round.0, 4), (Ok(length + 1), expected), "{table:?}, {kind}");
+            }
         }
     }
+}
+
+/// A value may be any word where no other is compared with it: those of a command tree, and in this value tree that of
+/// round 3, which has no child.
+#[test]
+fn words_out_of_range_make_no_tree() {
+    let value_of = |row: usize| row * 4 + 2;
+    for kind in TreeKind::ALL {
+        let (_, tree) = run(kind, 5, &[Add(1, 5, 0), Add(3, 6, 0), Add(2, 5, 1)]);
+        let any_word = match kind {
+            TreeKind::Value => vec![value_of(2)],
+            TreeKind::Command => vec![value_of(1), value_of(2), value_of(3)],
+        };
+        for at in 0..tree.len() {
+            for word in [1_000_001, 1 << 32, (1 << 32) + tree[at], u64::MAX] {
+                let mut table = tree.clone();
+                table[at] = word;
+                let number = if any_word.contains(&at) { 0 } else { 2 };
+                assert_eq!(call(kind, &mut table, Commit(3)), number, "word {at} is {word}, {kind}");
+            }
+        }
+    }
+}
+
+/// A table that only command calls leave.
+#[test]
+fn a_tree_of_commands_alone() {
+    let (answers, table) = run(TreeKind::Command, 5, &[Add(1, 5, 0), Add(2, 6, 1)]);
+    assert_eq!(
+        (answers, is_tree(TreeKind::Command, &table), is_tree(TreeKind::Value, &table)),
+        (vec![0, 0], true, false)
+    );
+    for one in [Add(3, 6, 2), Commit(2)] {
+        let mut left = table.clone();
+        assert_eq!(call(TreeKind::Value, &mut left, one), 2, "{one:?}");
+        assert_eq!(left, table, "{one:?}");
+        assert_eq!(call(TreeKind::Command, &mut left, one), 0, "{one:?}");
+        assert_ne!(left, table, "{one:?}");
+    }
+    assert_eq!(path_of(TreeKind::Value, &table, 2, 3), (Err(2), vec![99; 3]));
+    assert_eq!(path_of(TreeKind::Command, &table, 2, 3), (Ok(3), vec![0, 1, 2]));
+}
+
+/// Every table that command calls leave in three or four rows, those of value trees among them. There a call of the two
+/// kinds answers and leaves the same, but for an add that a value tree refuses with 7; on any other the value tree's calls
+/// answer 2 and change nothing.
+#[test]
+fn the_kinds_side_by_side() {
+    let mut numbers_for_7 = HashSet::new();
+    for rows in [3, 4] {
+        let [value_trees, command_trees] = TreeKind::ALL.map(|kind| reachable(kind, rows));
+        assert!(value_trees.len() < command_trees.len() && value_trees.is_subset(&command_trees));
+        for table in &command_trees {
+            let for_both = value_trees.contains(table);
+            for one in alphabet(3) {
+                let [value, command] = TreeKind::ALL.map(|kind| {
+                    let mut left = table.clone();
+                    (call(kind, &mut left, one), left)
+                });
+                match (for_both, value.0) {
+                    (false, _) => assert_eq!(value, (2, table.clone()), "{one:?}"),
+                    (true, 7) => {
+                        assert_eq!(&value.1, table, "{one:?}");
+                        numbers_for_7.insert(command.0);
+                    }
+                    (true, _) => assert_eq!(value, command, "{one:?} on {table:?}"),
+                }
+            }
+            for round in 0..=3 {
+                let [value, command] = TreeKind::ALL.map(|kind| path_of(kind, table, round, 3));
+                assert_eq!(value, if for_both { command } else { (Err(2), vec![99; 3]) }, "path({round}) on {table:?}");
+            }
+        }
+    }
+    assert_eq!(numbers_for_7, HashSet::from([0, 8, 9]));
 }

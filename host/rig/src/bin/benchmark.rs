@@ -4,7 +4,7 @@
 //! core and nothing else, for a tool that counts instructions: SHAPE is `path` or `star`, of a tree that fills all rows but
 //! one.
 
-use kalebasin::{Event, EventList, Member, MessageNumber, Round, STORE_ROW, TABLE_ROW, TABLE_ROWS};
+use kalebasin::{Event, EventList, Member, MessageNumber, Round, TreeKind, STORE_ROW, TABLE_ROW, TABLE_ROWS};
 use kalebasin_rig::generate;
 use kalebasin_rig::random::Random;
 use kalebasin_rig::suite::valid_messages;
@@ -319,7 +319,8 @@ fn grow(rows: usize, parent: fn(u32) -> u32) -> Vec<u64> {
     let mut table = vec![0; rows * TABLE_ROW];
     second::tree::fresh(&mut table).expect("the length is allowed");
     for round in 1..rows as u32 - 1 {
-        second::tree::add(&mut table, Round(round), 70, Round(parent(round))).expect("the tree takes the round");
+        let added = second::tree::add(TreeKind::Value, &mut table, Round(round), 70, Round(parent(round)));
+        added.expect("the tree takes the round");
     }
     table
 }

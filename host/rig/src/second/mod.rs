@@ -1,9 +1,9 @@
-//! The second implementation: document 01 in plain Rust, written from the document alone.
+//! The second implementation: document 01, and Ticket 1 of document 02, in plain Rust, written from the documents alone.
 //!
 //! It is the reference for tests: the proved core is compared with it call for call, lent memory included. It has no
 //! proofs and knows nothing of how the core is made. The office's host program calls the core, not this.
 //!
-//! - [`tree`]: the node table and its calls
+//! - [`tree`]: the node table and its calls, for trees of values and of commands
 //! - [`message`]: the bytes of the four messages
 //! - [`member`]: the member record and its steps
 //! - [`play`](mod@play): a list of events over a whole office
@@ -16,6 +16,7 @@ pub mod play;
 pub mod tree;
 
 use crate::Calls;
+use kalebasin::TreeKind;
 
 /// The second implementation, as a set of calls.
 pub const CALLS: Calls = Calls {
@@ -27,7 +28,7 @@ pub const CALLS: Calls = Calls {
     member_start: member::start_fields,
     member_deliver: member::deliver_fields,
     tree_fresh: tree::fresh,
-    tree_add: tree::add,
-    tree_commit: tree::commit,
-    tree_path: tree::path,
+    tree_add: |table, round, value, parent| tree::add(TreeKind::Value, table, round, value, parent),
+    tree_commit: |table, round| tree::commit(TreeKind::Value, table, round),
+    tree_path: |table, round, out| tree::path(TreeKind::Value, table, round, out),
 };

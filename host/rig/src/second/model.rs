@@ -2,7 +2,7 @@
 
 use super::member::{self, Decision, Proposal, Record, Step};
 use super::tree;
-use kalebasin::{Event, EventList, Member, Message, MessageNumber, Refusal, Round, TABLE_ROW, TABLE_ROWS};
+use kalebasin::{Event, EventList, Member, Message, MessageNumber, Refusal, Round, TreeKind, TABLE_ROW, TABLE_ROWS};
 use std::fmt;
 
 /// A proposal or a decision.
@@ -158,8 +158,8 @@ impl Model {
         tree::fresh(&mut table).map_err(Breach::Table)?;
         for at in &self.made {
             let result = match at.made {
-                Made::Proposal(made) => tree::add(&mut table, made.round, made.value, made.parent),
-                Made::Decision(made) => tree::commit(&mut table, made.round),
+                Made::Proposal(made) => tree::add(TreeKind::Value, &mut table, made.round, made.value, made.parent),
+                Made::Decision(made) => tree::commit(TreeKind::Value, &mut table, made.round),
             };
             result.map_err(|refusal| Breach::Refused(*at, refusal))?;
         }

@@ -3,7 +3,7 @@
 use super::member::{self, Proposal, Record, Step};
 use super::message::{double, word};
 use super::tree;
-use kalebasin::{EventList, Member, Played, Refusal, Round, STORE_ROW, STORE_ROWS};
+use kalebasin::{EventList, Member, Played, Refusal, Round, TreeKind, STORE_ROW, STORE_ROWS};
 
 const HEAD: usize = 8;
 const START: u32 = 1;
@@ -19,7 +19,9 @@ pub struct TreeSteps {
 
 /// The machine's own, which find out how many nodes there are.
 const MACHINE: TreeSteps = TreeSteps {
-    add: |table, _, made| tree::machine_add(table, made.round.0.into(), made.value, made.parent.0.into()),
+    add: |table, _, made| {
+        tree::machine_add(TreeKind::Value, table, made.round.0.into(), made.value, made.parent.0.into())
+    },
     commit: tree::machine_commit,
 };
 

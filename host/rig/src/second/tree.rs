@@ -1,6 +1,9 @@
-//! The tree: a lent table of 64-bit words, four a row.
+//! The tree: a lent table of 64-bit words, four a row, of either kind.
+//!
+//! What the kind changes is check 7: a value tree's add makes it, a command tree's doesn't. So a table may be a tree for the
+//! command calls alone; one that is a tree for the value tree's calls is one for both. All else is the same.
 
-use kalebasin::{Refusal, Round, TABLE_ROW, TABLE_ROWS};
+use kalebasin::{Refusal, Round, TreeKind, TABLE_ROW, TABLE_ROWS};
 
 // The words of a row.
 const ROUND: usize = 0;
@@ -16,7 +19,7 @@ const COMMITTED: u64 = 3;
 
 const ROOT: [u64; TABLE_ROW] = [0, 0, 0, COMMITTED];
 
-/// Makes the table fresh.
+/// Makes the table fresh, a tree of both kinds.
 pub fn fresh(table: &mut [u64]) -> Result<(), Refusal> {
     check_length(table)?;
     table.fill(0);
@@ -24,23 +27,23 @@ pub fn fresh(table: &mut [u64]) -> Result<(), Refusal> {
     Ok(())
 }
 
-/// add(r, v, p).
-pub fn add(table: &mut [u64], round: Round, value: u64, parent: Round) -> Result<(), Refusal> {
-    check_table(table)?;
+/// add(r, v, p). The kind says which tables are trees, and whether v is compared with p's value.
+pub fn add(kind: TreeKind, table: &mut [u64], round: Round, value: u64, parent: Round) -> Result<(), Refusal> {
+    check_table(kind, table)?;
     check_round(round)?;
-    machine_add(table, round.0.into(), value, parent.0.into())
+    machine_add(kind, table, round.0.into(), value, parent.0.into())
 }
 
-/// commit(r).
-pub fn commit(table: &mut [u64], round: Round) -> Result<(), Refusal> {
-    check_table(table)?;
+/// commit(r). The kind says which tables are trees.
+pub fn commit(kind: TreeKind, table: &mut [u64], round: Round) -> Result<(), Refusal> {
+    check_table(kind, table)?;
     check_round(round)?;
     machine_commit(table, round.0.into())
 }
 
-/// path(r): the number of rounds written.
-pub fn path(table: &[u64], round: Round, out: &mut [u64]) -> Result<usize, Refusal> {
-    check_table(table)?;
+/// path(r): the number of rounds written. The kind says which tables are trees.
+pub fn path(kind: TreeKind, table: &[u64], round: Round, out: &mut [u64]) -> Result<usize, Refusal> {
+    check_table(kind, table)?;
     if round != Round::ROOT {
         check_round(round)?;
     }
@@ -66,10 +69,10 @@ pub fn check_length(table: &[u64]) -> Result<(), Refusal> {
     }
 }
 
-/// Whether some list of calls from fresh leaves this table: the adds in row order, each COMMITTED node committed as
-/// soon as it is added. Any other order of the commits accepts no more adds, for an edge that crosses a node keeps it
-/// from being COMMITTED, whichever came first.
-pub fn is_tree(table: &[u64]) -> bool {
+/// Whether some list of calls of this kind from fresh leaves this table: the adds in row order, each COMMITTED node
+/// committed as soon as it is added. Any other order of the commits accepts no more adds, for an edge that crosses a
+/// node keeps it from being COMMITTED, whichever came first.
+pub fn is_tree(kind: TreeKind, table: &[u64]) -> bool {
     if check_length(table).is_err() {
         return false;
     }
@@ -81,7 +84,7 @@ pub fn is_tree(table: &[u64]) -> bool {
             break;
         }
         let in_range = u32::try_from(row[ROUND]).is_ok_and(|round| Round(round).in_range());
-        if !in_range || machine_add(replay, row[ROUND], row[VALUE], row[PARENT]).is_err() {
+        if !in_range || machine_add(kind, replay, row[ROUND], row[VALUE], row[PARENT]).is_err() {
             return false;
         }
         if row[STATUS] == COMMITTED && machine_commit(replay, row[ROUND]).is_err() {
@@ -91,9 +94,9 @@ pub fn is_tree(table: &[u64]) -> bool {
     replay == table
 }
 
-fn check_table(table: &[u64]) -> Result<(), Refusal> {
+fn check_table(kind: TreeKind, table: &[u64]) -> Result<(), Refusal> {
     check_length(table)?;
-    if is_tree(table) {
+    if is_tree(kind, table) {
         Ok(())
     } else {
         Err(Refusal::NotATree)
@@ -108,11 +111,11 @@ fn check_round(round: Round) -> Result<(), Refusal> {
     }
 }
 
-/// The machine's add on a table that is a tree, with the round in range.
+/// The machine's add on a table that is a tree of the kind, with the round in range. For commands v is any value.
 ///
 /// # Panics
 /// May, where the table's length isn't one of a tree.
-pub fn machine_add(table: &mut [u64], r: u64, v: u64, p: u64) -> Result<(), Refusal> {
+pub fn machine_add(kind: TreeKind, table: &mut [u64], r: u64, v: u64, p: u64) -> Result<(), Refusal> {
     let nodes = count(table);
     if find(table, r).is_some() {
         return Err(Refusal::RoundPresent);
@@ -123,7 +126,7 @@ pub fn machine_add(table: &mut [u64], r: u64, v: u64, p: u64) -> Result<(), Refu
     if p >= r {
         return Err(Refusal::ParentNotBelow);
     }
-    if p != 0 && table[parent * TABLE_ROW + VALUE] != v {
+    if kind == TreeKind::Value && p != 0 && table[parent * TABLE_ROW + VALUE] != v {
         return Err(Refusal::ValueDiffers);
     }
     if used(table, nodes).any(|node| node[STATUS] == COMMITTED && p < node[ROUND] && node[ROUND] < r) {
@@ -138,7 +141,7 @@ pub fn machine_add(table: &mut [u64], r: u64, v: u64, p: u64) -> Result<(), Refu
     Ok(())
 }
 
-/// The machine's commit on a table that is a tree, with the round in range.
+/// The machine's commit on a table that is a tree of either kind, with the round in range.
 pub fn machine_commit(table: &mut [u64], r: u64) -> Result<(), Refusal> {
     let Some(row) = find(table, r) else {
         return Err(Refusal::RoundAbsent);
