@@ -1,10 +1,12 @@
-// Runs the tree's calls as standard input has them: 01's cases P1 to P11, paths, tables that are none, and a list that fills 256 rows.
-// f(words) is fresh on the first so many words, which then are the table; a(round,value,parent) is add, c(round) is commit, p(round,words)
-// is path into so many words; w(word,value) writes a word of the table. All that is read is written again: behind each call its number
-// (of a path also how many rounds, and the slice), behind each line each node's round, parent, value and status.
+// Runs the tree's calls as standard input has them: 01's cases P1 to P11, paths, tables that are none, a list that fills 256 rows, and the
+// same for command trees. f(words) is fresh on the first so many words, which then are the table; a(round,value,parent) is add, c(round) is
+// commit, p(round,words) is path into so many words; A, C and P are those of a command tree; w(word,value) writes a word of the table. All
+// that is read is written again: behind each call its number (of a path also how many rounds, and the slice), behind each line each node's
+// round, parent, value and status.
 use ids::Round;
 use libc::STDIN_FILENO;
 use libc::STDOUT_FILENO;
+use tree::PathAnswer;
 ghost use Prim.Native.Nat.{_+_, _*_, _≤_};
 ghost use lib.ListN.{length};
 
@@ -53,19 +55,41 @@ fn commit(t: &mut [u64], r: u32) {
     number(tree::commit(t, Round(r)) as u64);
 }
 
+fn command_add(t: &mut [u64], r: u32, v: u32, p: u32) {
+    number(tree::command_add(t, Round(r), v as u64, Round(p)) as u64);
+}
+
+fn command_commit(t: &mut [u64], r: u32) {
+    number(tree::command_commit(t, Round(r)) as u64);
+}
+
 // Writes the number of a path's answer, how many rounds it has, and the slice lent for it.
-fn path(t: &[u64], r: u32, out: &mut [u64]) {
-    let a = tree::path(t, Round(r), out);
+fn path_answer(a: PathAnswer, out: &[u64]) {
     number(a.number as u64);
     number(a.count as u64);
     numbers(out);
 }
 
-fn path_in(t: &[u64], r: u32, words: usize) {
+fn path(t: &[u64], r: u32, out: &mut [u64]) {
+    let a = tree::path(t, Round(r), out);
+    path_answer(a, out);
+}
+
+fn command_path(t: &[u64], r: u32, out: &mut [u64]) {
+    let a = tree::command_path(t, Round(r), out);
+    path_answer(a, out);
+}
+
+fn path_in(name: u8, t: &[u64], r: u32, words: usize) {
     let mut out = [0u64; 256];
-    if words <= 256 {
-        path(t, r, &mut out[0..words]);
+    if 256 < words {
+        return;
     }
+    if name == b'p' {
+        path(t, r, &mut out[0..words]);
+        return;
+    }
+    command_path(t, r, &mut out[0..words]);
 }
 
 fn put(t: &mut [u64], word: usize, x: u32) {
@@ -88,11 +112,19 @@ fn make(t: &mut [u64], name: u8, a: u32, b: u32, c: u32) {
         commit(t, c);
         return;
     }
-    if name == b'p' {
-        path_in(t, b, c as usize);
+    if name == b'w' {
+        put(t, b as usize, c);
         return;
     }
-    put(t, b as usize, c);
+    if name == b'A' {
+        command_add(t, a, b, c);
+        return;
+    }
+    if name == b'C' {
+        command_commit(t, c);
+        return;
+    }
+    path_in(name, t, b, c as usize);
 }
 
 // What was read: the length of the table, the name of a call, and its last three arguments.
