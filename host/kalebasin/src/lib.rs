@@ -20,7 +20,7 @@
 //!
 //! # Beside the core
 //!
-//! - [`notation`]: lists as people write them
+//! - [`notation`]: lists of events and of tree calls as people write them
 //! - `ffi`: the C functions, as the archives have them
 //!
 //! "Document 01" is the product's scope document; its numbers and terms are used throughout.
@@ -41,7 +41,7 @@ mod played;
 mod proved;
 mod refusal;
 mod store;
-mod tree;
+mod tree_call;
 
 pub use event::{Event, EventList};
 pub use ids::{Member, MessageNumber, Round};
@@ -53,4 +53,4 @@ pub use played::{Played, STORE_ROW, STORE_ROWS, TABLE_ROW, TABLE_ROWS};
 pub use proved::{play, read_message, tree_add, tree_commit, tree_fresh, tree_path, MemberRecord};
 pub use refusal::{number_of, NoRefusal, Refusal};
 pub use store::sent;
-pub use tree::TreeKind;
+pub use tree_call::{TreeCall, TreeCallList, TreeKind};

@@ -1,6 +1,7 @@
 //! The rig's notation: events `s(member,round,offer)` and `d(message,member)`, with the number of members in front as
-//! `n=5`, or 3 members where that is left out. Blanks and line feeds may stand between any two parts; `#` starts a
-//! comment that runs to the end of its line.
+//! `n=5`, or 3 members where that is left out; and calls of a tree, `add(round,value,parent)`, `commit(round)`,
+//! `path(round)` and `fresh`, with the kind of tree in front as `kind=command`, or a tree of values where that is left out.
+//! Blanks and line feeds may stand between any two parts; `#` starts a comment that runs to the end of its line.
 //!
 //! ```
 //! use kalebasin::notation::parse;
@@ -11,8 +12,18 @@
 //! let mistake = parse("n=3\ns(1,x,70)", None).unwrap_err();
 //! assert_eq!(mistake.to_string(), "line 2, column 5: a round number is missing here");
 //! ```
+//!
+//! ```
+//! use kalebasin::notation::parse_tree;
+//!
+//! let list = parse_tree("kind=command add(1,70,0)\nadd(2, 80, 1) # after the first\ncommit(2)", None).unwrap();
+//! assert_eq!(list.to_string(), "kind=command add(1,70,0) add(2,80,1) commit(2)");
+//! assert_eq!(parse_tree("path(0) fresh", None).unwrap().to_string(), "kind=value path(0) fresh");
+//! let mistake = parse_tree("add(1,70)", None).unwrap_err();
+//! assert_eq!(mistake.to_string(), "line 1, column 9: , is missing after the value");
+//! ```
 
-use crate::{Event, EventList, Member, MessageNumber, Round};
+use crate::{Event, EventList, Member, MessageNumber, Round, TreeCall, TreeCallList, TreeKind};
 use std::fmt;
 use std::str::FromStr;
 
@@ -41,7 +52,7 @@ pub const MEMBERS: u32 = 3;
 /// The list that some notation says. `members` stands in for a missing `n=`, and has to agree with one that is there;
 /// where there is neither, the list is for [`MEMBERS`].
 pub fn parse(text: &str, members: Option<u32>) -> Result<EventList, Mistake> {
-    let mut reader = Reader { rest: text, line: 1, column: 1 };
+    let mut reader = Reader::new(text);
     let mut list = EventList::new(head(&mut reader, members)?);
     while let Some(event) = event(&mut reader)? {
         list.events.push(event);
@@ -93,6 +104,76 @@ fn event(reader: &mut Reader) -> Result<Option<Event>, Mistake> {
     }
 }
 
+/// The kind of a tree of which nothing says it: that of play's tree.
+pub const KIND: TreeKind = TreeKind::Value;
+
+/// The calls of a tree that some notation says. `kind` stands in for a missing `kind=`, and has to agree with one that is
+/// there; where there is neither, they are for [`KIND`].
+pub fn parse_tree(text: &str, kind: Option<TreeKind>) -> Result<TreeCallList, Mistake> {
+    let mut reader = Reader::new(text);
+    let mut list = TreeCallList::new(tree_head(&mut reader, kind)?);
+    while let Some(call) = tree_call(&mut reader)? {
+        list.calls.push(call);
+    }
+    Ok(list)
+}
+
+/// `kind=command`, or the kind from elsewhere.
+fn tree_head(reader: &mut Reader, kind: Option<TreeKind>) -> Result<TreeKind, Mistake> {
+    reader.skip_blanks();
+    let before = reader.clone();
+    if reader.word() != "kind" {
+        *reader = before;
+        return Ok(kind.unwrap_or(KIND));
+    }
+    reader.expect('=', "after kind")?;
+    reader.skip_blanks();
+    let place = reader.clone();
+    let named = TreeKind::from_name(reader.word()).ok_or_else(|| place.mistake("the kind is value or command"))?;
+    match kind {
+        Some(other) if other != named => {
+            Err(before.mistake(&format!("kind={named}, but a {other} tree was asked for")))
+        }
+        _ => Ok(named),
+    }
+}
+
+fn tree_call(reader: &mut Reader) -> Result<Option<TreeCall>, Mistake> {
+    reader.skip_blanks();
+    let before = reader.clone();
+    match reader.word() {
+        "add" => {
+            reader.expect('(', "after add")?;
+            let round = Round(reader.number("round number")?);
+            reader.expect(',', "after the round number")?;
+            let value = reader.number("value")?;
+            reader.expect(',', "after the value")?;
+            let parent = Round(reader.number("parent")?);
+            reader.expect(')', "after the parent")?;
+            Ok(Some(TreeCall::Add { round, value, parent }))
+        }
+        "commit" => Ok(Some(TreeCall::Commit(round_alone(reader, "after commit")?))),
+        "path" => Ok(Some(TreeCall::Path(round_alone(reader, "after path")?))),
+        "fresh" => Ok(Some(TreeCall::Fresh)),
+        "kind" => Err(before.mistake("kind= stands once, in front of the calls")),
+        word => match before.rest.chars().next() {
+            None => Ok(None),
+            Some(first) => {
+                let other = &before.rest[..word.len().max(first.len_utf8())];
+                Err(before.mistake(&format!("a call starts with add(, commit(, path( or fresh, not with {other:?}")))
+            }
+        },
+    }
+}
+
+/// `(2)`.
+fn round_alone(reader: &mut Reader, place: &str) -> Result<Round, Mistake> {
+    reader.expect('(', place)?;
+    let round = Round(reader.number("round number")?);
+    reader.expect(')', "after the round number")?;
+    Ok(round)
+}
+
 /// What is left to read, and where that is.
 #[derive(Clone)]
 struct Reader<'a> {
@@ -101,7 +182,11 @@ struct Reader<'a> {
     column: usize,
 }
 
-impl Reader<'_> {
+impl<'a> Reader<'a> {
+    fn new(text: &'a str) -> Reader<'a> {
+        Reader { rest: text, line: 1, column: 1 }
+    }
+
     fn mistake(&self, what: &str) -> Mistake {
         Mistake { line: self.line, column: self.column, what: what.to_string() }
     }
@@ -147,13 +232,24 @@ impl Reader<'_> {
         }
     }
 
+    /// All characters of this sort that stand here.
+    fn take_all(&mut self, sort: fn(&char) -> bool) -> &'a str {
+        let before = self.rest;
+        while self.rest.starts_with(|next: char| sort(&next)) {
+            self.step();
+        }
+        &before[..before.len() - self.rest.len()]
+    }
+
+    /// The letters that stand here, or nothing.
+    fn word(&mut self) -> &'a str {
+        self.take_all(char::is_ascii_alphabetic)
+    }
+
     fn number<T: FromStr>(&mut self, what: &str) -> Result<T, Mistake> {
         self.skip_blanks();
         let before = self.clone();
-        while self.rest.starts_with(|next: char| next.is_ascii_digit()) {
-            self.step();
-        }
-        let digits = &before.rest[..before.rest.len() - self.rest.len()];
+        let digits = self.take_all(char::is_ascii_digit);
         if digits.is_empty() {
             let article = if what.starts_with('o') { "an" } else { "a" };
             return Err(before.mistake(&format!("{article} {what} is missing here")));

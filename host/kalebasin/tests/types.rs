@@ -1,7 +1,7 @@
 //! The types that a host sees: lists from notation and from events, refusals from numbers, and numbers of every size.
 
 use kalebasin::{nodes, notation, sent, Event, EventList, Member, Message, MessageNumber, NoRefusal, Refusal, Round};
-use kalebasin::{Status, Vote};
+use kalebasin::{Status, TreeCall, TreeCallList, TreeKind, Vote};
 use std::collections::HashSet;
 
 #[test]
@@ -10,6 +10,26 @@ fn lists_from_notation() {
     assert_eq!("d(0,2)".parse::<EventList>().map(|list| list.n), Ok(notation::MEMBERS));
     let mistake = "n=3\ns(1;1,70)".parse::<EventList>().unwrap_err();
     assert_eq!((mistake.line, mistake.column), (2, 4));
+}
+
+#[test]
+fn tree_calls_from_notation() {
+    let text = "kind=command add(1,70,0) commit(1) path(1) fresh";
+    assert_eq!(text.parse(), notation::parse_tree(text, None));
+    let calls = [
+        TreeCall::Add { round: Round(1), value: 70, parent: Round::ROOT },
+        TreeCall::Commit(Round(1)),
+        TreeCall::Path(Round(1)),
+        TreeCall::Fresh,
+    ];
+    assert_eq!(text.parse(), Ok(TreeCallList { kind: TreeKind::Command, calls: calls.into() }));
+    assert_eq!("fresh".parse::<TreeCallList>().map(|list| list.kind), Ok(notation::KIND));
+    let mistake = "kind=value\nadd(1;70,0)".parse::<TreeCallList>().unwrap_err();
+    assert_eq!((mistake.line, mistake.column), (2, 6));
+    for kind in TreeKind::ALL {
+        assert_eq!(TreeKind::from_name(&kind.to_string()), Some(kind));
+    }
+    assert_eq!(["", "Value", "values"].map(TreeKind::from_name), [None; 3]);
 }
 
 #[test]
@@ -59,6 +79,17 @@ fn numbers_of_every_size() {
             list.start(Member(number), Round(number), u64::MAX).deliver(MessageNumber(number), Member(number));
             assert_eq!(EventList::from_bytes(&list.to_bytes()).as_ref(), Ok(&list));
             assert_eq!(list.to_string().parse().as_ref(), Ok(&list));
+            let (round, parent) = (Round(number), Round(n));
+            let calls = vec![
+                TreeCall::Add { round, value: u64::MAX, parent },
+                TreeCall::Commit(round),
+                TreeCall::Fresh,
+                TreeCall::Path(parent),
+            ];
+            for kind in TreeKind::ALL {
+                let list = TreeCallList { kind, calls: calls.clone() };
+                assert_eq!(list.to_string().parse().as_ref(), Ok(&list));
+            }
         }
         assert_eq!(Round(number).in_range(), (1..=1_000_000).contains(&number));
         let (round, sender) = (Round(number), Member(number));
