@@ -1,5 +1,5 @@
-/* Calls each function of kalebasin.h and expects what document 01 says: its rehearsal, a message, a member, a tree of two rounds, and refusals; slices of
-   no elements, also null ones, and bytes at odd addresses. */
+/* Calls each function of kalebasin.h and expects what document 01 says: its rehearsal, a message, a member, a tree of each kind of two rounds, and refusals;
+   slices of no elements, also null ones, and bytes at odd addresses. */
 #include "kalebasin.h"
 #include <stdio.h>
 #include <string.h>
@@ -122,6 +122,24 @@ static int tree(void) {
     return 0;
 }
 
+/* A tree of commands takes values that a tree of values refuses, and a tree of values as it is. */
+static int commands(void) {
+    uint64_t table[16], out[4] = {99, 99, 99, 99};
+    EXPECT(kalebasin_tree_fresh(table, 16) == 0 && kalebasin_tree_add(table, 16, 3, 5, 0) == 0);
+    EXPECT(kalebasin_command_add(table, 15, 7, 6, 3) == 1 && kalebasin_command_add(table, 16, 0, 6, 3) == 3);
+    EXPECT(kalebasin_command_add(table, 16, 7, 6, 4) == 5 && kalebasin_command_add(table, 16, 7, 6, 3) == 0);
+    EXPECT(kalebasin_command_commit(table, 16, 7) == 0 && kalebasin_command_commit(table, 16, 7) == 11);
+    EXPECT(kalebasin_command_add(table, 16, 8, 6, 3) == 8 && kalebasin_tree_add(table, 16, 8, 6, 7) == 2);
+    EXPECT(kalebasin_tree_commit(table, 16, 7) == 2 && kalebasin_tree_path(table, 16, 7, out, 4).number == 2);
+    KalebasinPathResult r = kalebasin_command_path(table, 16, 7, out, 4);
+    EXPECT(r.number == 0 && r.count == 3 && out[0] == 0 && out[1] == 3 && out[2] == 7 && out[3] == 99);
+    r = kalebasin_command_path(table, 16, 7, out, 2);
+    EXPECT(r.number == 13 && r.count == 0);
+    table[15] = 1;
+    EXPECT(kalebasin_command_path(table, 16, 7, out, 4).number == 2);
+    return 0;
+}
+
 /* Slices of no elements, with a pointer that mustn't be followed: null, or one to memory that isn't there. */
 static int nothing(uint64_t *nowhere) {
     static const uint8_t no_events[8] = {0, 0, 0, 3};
@@ -147,6 +165,10 @@ static int nothing(uint64_t *nowhere) {
     EXPECT(kalebasin_tree_commit(nowhere, 0, 1) == KALEBASIN_TABLE_LENGTH);
     EXPECT(kalebasin_tree_path(nowhere, 0, 0, out, 1).number == KALEBASIN_TABLE_LENGTH);
     EXPECT(kalebasin_tree_path(table, 4, 0, nowhere, 0).number == KALEBASIN_PATH_TOO_LONG);
+    EXPECT(kalebasin_command_add(nowhere, 0, 1, 5, 0) == KALEBASIN_TABLE_LENGTH);
+    EXPECT(kalebasin_command_commit(nowhere, 0, 1) == KALEBASIN_TABLE_LENGTH);
+    EXPECT(kalebasin_command_path(nowhere, 0, 0, out, 1).number == KALEBASIN_TABLE_LENGTH);
+    EXPECT(kalebasin_command_path(table, 4, 0, nowhere, 0).number == KALEBASIN_PATH_TOO_LONG);
     return 0;
 }
 
@@ -177,5 +199,5 @@ static int causes(void) {
 int main(void) {
     EXPECT(kalebasin_version() == KALEBASIN_VERSION);
     EXPECT(kalebasin_member_version() == KALEBASIN_VERSION);
-    return play() || read_message() || write_message() || member() || tree() || nothing(NULL) || nothing((uint64_t *)8) || odd_addresses() || causes();
+    return play() || read_message() || write_message() || member() || tree() || commands() || nothing(NULL) || nothing((uint64_t *)8) || odd_addresses() || causes();
 }

@@ -20,7 +20,7 @@ other_version_told() {
         cd "$work/other" && ar x "lib$crate.a" && objcopy --redefine-sym "$function=own_version" "$crate.o" &&
             echo "unsigned $function(void) { return 99; }" | cc -x c -c -o version.o - && ar rc "lib$crate.a" "$crate.o" version.o
     ) && ! (cd host && KALEBASIN_LIB=$work/other cargo run --offline --quiet --example office) 2>"$work/told" &&
-        grep -q "^lib$crate.a has the calls of version 99, the crate kalebasin those of version 1\$" "$work/told"
+        grep -q "^lib$crate.a has the calls of version 99, the crate kalebasin those of version 2\$" "$work/told"
 }
 
 build_examples() {

@@ -1,4 +1,4 @@
-/* The C functions of two archives, for x86-64: libexports.a has play, the message reader and the calls of the tree, libexports_member.a has one member
+/* The C functions of two archives, for x86-64: libexports.a has play, the message reader and the calls of trees, libexports_member.a has one member
  * and the message writer.
  * docs/REFERENCE.md says more of each of them, of the bytes and of the numbers.
  *
@@ -101,7 +101,7 @@ static inline const char *kalebasin_cause(uint32_t number) {
 
 /* The version of the functions that this header declares, and that which each archive has. A program that starts asks that they
  * be equal: the version goes up with each change that a caller sees. */
-enum { KALEBASIN_VERSION = 1 };
+enum { KALEBASIN_VERSION = 2 };
 uint32_t kalebasin_version(void);
 uint32_t kalebasin_member_version(void);
 
@@ -196,8 +196,11 @@ KalebasinMemberResult kalebasin_member_start(KalebasinMemberRecord record, uint3
 KalebasinMemberResult kalebasin_member_deliver(KalebasinMemberRecord record, const uint8_t *bytes, size_t bytes_len,
                                                uint8_t *reply, size_t len);
 
-/* Makes a table fresh: the root 0, 0, 0, 3 and zeros. 1. */
+/* Makes a table fresh: the root 0, 0, 0, 3 and zeros. It is then a tree of either kind. 1. */
 uint32_t kalebasin_tree_fresh(uint64_t *table, size_t len);
+
+/* The next three are the calls of a tree of values, as play leaves one: a node has its parent's value, unless that is the root. A
+ * table is such a tree if they can leave it, from a fresh one; else it gets 2. */
 
 /* Adds a round. 1 to 9 in that order. */
 uint32_t kalebasin_tree_add(uint64_t *table, size_t len, uint32_t round, uint64_t value, uint32_t parent);
@@ -214,6 +217,20 @@ typedef struct {
  * 1, 2, 3 (not for round 0), 10, 13. */
 KalebasinPathResult kalebasin_tree_path(const uint64_t *table, size_t len, uint32_t round,
                                         uint64_t *out, size_t out_len);
+
+/* The last three are the calls of a tree of commands, each after a named earlier one: the same table, but a node has any value. A
+ * table is such a tree if they can leave it, from a fresh one; else it gets 2. Every tree of values is a tree of commands. */
+
+/* Adds a round. 1 to 6, 8, 9 in that order. */
+uint32_t kalebasin_command_add(uint64_t *table, size_t len, uint32_t round, uint64_t value, uint32_t parent);
+
+/* Commits a round. 1, 2, 3, 10, 11, 12. */
+uint32_t kalebasin_command_commit(uint64_t *table, size_t len, uint32_t round);
+
+/* Writes the rounds from the root to this one to the front of out; words behind them stay.
+ * 1, 2, 3 (not for round 0), 10, 13. */
+KalebasinPathResult kalebasin_command_path(const uint64_t *table, size_t len, uint32_t round,
+                                           uint64_t *out, size_t out_len);
 
 #ifdef __cplusplus
 }

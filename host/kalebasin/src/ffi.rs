@@ -47,7 +47,7 @@ pub struct MessageResult {
     pub value: u64,
 }
 
-/// What [`kalebasin_tree_path`] returns: on a refusal `count` is 0.
+/// What [`kalebasin_tree_path`] and [`kalebasin_command_path`] return: on a refusal `count` is 0.
 #[repr(C)]
 #[derive(Clone, Copy, Debug, Default, PartialEq, Eq, Hash)]
 pub struct PathResult {
@@ -116,7 +116,7 @@ pub struct WriteResult {
 
 /// The version of the C functions that this crate is written for. A call of the front of this crate panics
 /// where an archive's version ([`kalebasin_version`], [`kalebasin_member_version`]) is another.
-pub const API_VERSION: u32 = 1;
+pub const API_VERSION: u32 = 2;
 
 extern "C" {
     /// The version of these functions that `libexports.a` has.
@@ -152,29 +152,53 @@ extern "C" {
     /// What [the module](self) says of slices.
     pub fn kalebasin_read_message(bytes: *const u8, len: usize) -> MessageResult;
 
-    /// [`tree_fresh`](crate::tree_fresh).
+    /// [`Tree::fresh`](crate::tree::Tree::fresh).
     ///
     /// # Safety
     /// What [the module](self) says of slices.
     pub fn kalebasin_tree_fresh(table: *mut u64, len: usize) -> u32;
 
-    /// [`tree_add`](crate::tree_add).
+    /// [`Tree::add`](crate::tree::Tree::add) of a [`ValueTree`](crate::ValueTree).
     ///
     /// # Safety
     /// What [the module](self) says of slices.
     pub fn kalebasin_tree_add(table: *mut u64, len: usize, round: u32, value: u64, parent: u32) -> u32;
 
-    /// [`tree_commit`](crate::tree_commit).
+    /// [`Tree::commit`](crate::tree::Tree::commit) of a [`ValueTree`](crate::ValueTree).
     ///
     /// # Safety
     /// What [the module](self) says of slices.
     pub fn kalebasin_tree_commit(table: *mut u64, len: usize, round: u32) -> u32;
 
-    /// [`tree_path`](crate::tree_path).
+    /// [`Tree::path`](crate::tree::Tree::path) of a [`ValueTree`](crate::ValueTree).
     ///
     /// # Safety
     /// What [the module](self) says of slices.
     pub fn kalebasin_tree_path(table: *const u64, len: usize, round: u32, out: *mut u64, out_len: usize) -> PathResult;
+
+    /// [`Tree::add`](crate::tree::Tree::add) of a [`CommandTree`](crate::CommandTree).
+    ///
+    /// # Safety
+    /// What [the module](self) says of slices.
+    pub fn kalebasin_command_add(table: *mut u64, len: usize, round: u32, value: u64, parent: u32) -> u32;
+
+    /// [`Tree::commit`](crate::tree::Tree::commit) of a [`CommandTree`](crate::CommandTree).
+    ///
+    /// # Safety
+    /// What [the module](self) says of slices.
+    pub fn kalebasin_command_commit(table: *mut u64, len: usize, round: u32) -> u32;
+
+    /// [`Tree::path`](crate::tree::Tree::path) of a [`CommandTree`](crate::CommandTree).
+    ///
+    /// # Safety
+    /// What [the module](self) says of slices.
+    pub fn kalebasin_command_path(
+        table: *const u64,
+        len: usize,
+        round: u32,
+        out: *mut u64,
+        out_len: usize,
+    ) -> PathResult;
 
     /// [`Message::write`](crate::Message::write). A field that the kind doesn't have is 0.
     ///

@@ -15,6 +15,10 @@
 //! [`MemberRecord::deliver`] takes the bytes that come in, and what each of them leaves in its reply goes out. What is proved
 //! of the values decided is proved of play, for members that never forget.
 //!
+//! A [`ValueTree`] takes the calls that play makes of proposals and decisions. A [`CommandTree`] is for commands that each follow
+//! a named earlier one: the same tree, in which a node has any value. Each is a type of its own, so that neither is handed to
+//! the other's calls.
+//!
 //! The functions of the core need the feature `core` (on by default) and its two archives; without the
 //! feature the rest of this crate is still there.
 //!
@@ -41,6 +45,8 @@ mod played;
 mod proved;
 mod refusal;
 mod store;
+#[cfg(feature = "core")]
+pub mod tree;
 mod tree_call;
 
 pub use event::{Event, EventList};
@@ -50,7 +56,9 @@ pub use message::{Message, Vote};
 pub use node::{nodes, Node, Status};
 pub use played::{Played, STORE_ROW, STORE_ROWS, TABLE_ROW, TABLE_ROWS};
 #[cfg(feature = "core")]
-pub use proved::{play, read_message, tree_add, tree_commit, tree_fresh, tree_path, MemberRecord};
+pub use proved::{play, read_message, MemberRecord};
 pub use refusal::{number_of, NoRefusal, Refusal};
 pub use store::sent;
+#[cfg(feature = "core")]
+pub use tree::{CommandTree, ValueTree};
 pub use tree_call::{TreeCall, TreeCallList, TreeKind};

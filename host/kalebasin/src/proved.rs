@@ -6,7 +6,7 @@ use crate::{Made, Member, MemberFields, Message, Played, Refusal, Report, Round,
 use std::sync::Once;
 
 /// Panics where an archive is of another version, before a result of it is read wrongly; so does each later call.
-fn compare_versions() {
+pub(crate) fn compare_versions() {
     static COMPARED: Once = Once::new();
     COMPARED.call_once(|| {
         // SAFETY: the functions take nothing.
@@ -268,49 +268,8 @@ impl MemberRecord {
     }
 }
 
-/// Makes a table fresh: the root in the first row, all else free.
-///
-/// # Errors
-/// 1.
-pub fn tree_fresh(table: &mut [u64]) -> Result<(), Refusal> {
-    compare_versions();
-    // SAFETY: pointer and length come from one exclusive slice.
-    accepted(unsafe { ffi::kalebasin_tree_fresh(table.as_mut_ptr(), table.len()) })
-}
-
-/// Adds a round with its value below its parent.
-///
-/// # Errors
-/// 1 to 9, checked in that order.
-pub fn tree_add(table: &mut [u64], round: Round, value: u64, parent: Round) -> Result<(), Refusal> {
-    compare_versions();
-    // SAFETY: pointer and length come from one exclusive slice.
-    accepted(unsafe { ffi::kalebasin_tree_add(table.as_mut_ptr(), table.len(), round.0, value, parent.0) })
-}
-
-/// Commits an ADDED round.
-///
-/// # Errors
-/// 1, 2, 3, 10, 11 or 12, checked in that order.
-pub fn tree_commit(table: &mut [u64], round: Round) -> Result<(), Refusal> {
-    compare_versions();
-    // SAFETY: pointer and length come from one exclusive slice.
-    accepted(unsafe { ffi::kalebasin_tree_commit(table.as_mut_ptr(), table.len(), round.0) })
-}
-
-/// Writes the rounds from the root to this one to the front of `out` and returns how many; words behind them stay.
-///
-/// # Errors
-/// 1, 2, 3 (not for round 0), 10 or 13, checked in that order.
-pub fn tree_path(table: &[u64], round: Round, out: &mut [u64]) -> Result<usize, Refusal> {
-    compare_versions();
-    // SAFETY: each pointer and length come from one slice; the mutable one is exclusive.
-    let result = unsafe { ffi::kalebasin_tree_path(table.as_ptr(), table.len(), round.0, out.as_mut_ptr(), out.len()) };
-    accepted(result.number)?;
-    Ok(result.count as usize)
-}
-
-fn accepted(number: u32) -> Result<(), Refusal> {
+/// The result that a number stands for.
+pub(crate) fn accepted(number: u32) -> Result<(), Refusal> {
     match number {
         0 => Ok(()),
         _ => Err(Refusal::from_number(number).unwrap_or_else(|| unreachable!("the core gave the number {number}"))),

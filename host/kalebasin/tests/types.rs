@@ -119,22 +119,9 @@ fn numbers_of_every_size() {
 #[cfg(feature = "core")]
 #[test]
 fn calls_with_numbers_of_every_size() {
-    use kalebasin::{play, read_message, tree_add, tree_commit, tree_fresh, tree_path};
-    for length in 0..=13 {
-        let mut fresh = vec![9; length];
-        let is_table = [4, 8, 12].contains(&length);
-        assert_eq!(tree_fresh(&mut fresh).is_ok(), is_table);
-        for (table, is_tree) in [(&fresh, is_table), (&vec![u64::MAX; length], false)] {
-            for round in NUMBERS.map(Round) {
-                for parent in NUMBERS.map(Round) {
-                    let added = tree_add(&mut table.clone(), round, u64::MAX, parent).is_ok();
-                    assert_eq!(added, is_tree && length > 4 && round.in_range() && parent == Round::ROOT);
-                }
-                assert!(tree_commit(&mut table.clone(), round).is_err());
-                assert_eq!(tree_path(table, round, &mut [0; 2]).is_ok(), is_tree && round == Round::ROOT);
-            }
-        }
-    }
+    use kalebasin::{play, read_message, tree};
+    tree_calls_with_numbers_of_every_size::<tree::Value>();
+    tree_calls_with_numbers_of_every_size::<tree::Command>();
     for number in NUMBERS {
         for length in 0..=28 {
             let words: Vec<u8> = number.to_be_bytes().into_iter().cycle().take(length).collect();
@@ -145,4 +132,72 @@ fn calls_with_numbers_of_every_size() {
             assert_eq!(played.is_ok(), [3, 7].contains(&number) && length == 28);
         }
     }
+}
+
+#[cfg(feature = "core")]
+fn tree_calls_with_numbers_of_every_size<K: kalebasin::tree::Kind>() {
+    use kalebasin::tree::Tree;
+    for length in 0..=13 {
+        let mut fresh = vec![9; length];
+        let is_table = [4, 8, 12].contains(&length);
+        assert_eq!(Tree::<K, _>::fresh(&mut fresh).is_ok(), is_table);
+        for (table, is_tree) in [(&fresh, is_table), (&vec![u64::MAX; length], false)] {
+            let tree = || Tree::<K, _>::from_table(table.clone());
+            for round in NUMBERS.map(Round) {
+                for parent in NUMBERS.map(Round) {
+                    let added = tree().add(round, u64::MAX, parent).is_ok();
+                    assert_eq!(added, is_tree && length > 4 && round.in_range() && parent == Round::ROOT);
+                }
+                assert!(tree().commit(round).is_err());
+                assert_eq!(tree().path(round, &mut [0; 2]).is_ok(), is_tree && round == Round::ROOT);
+            }
+        }
+    }
+}
+
+/// What holds the words may be lent or owned. It comes back with the tree, and a refused call leaves it.
+#[cfg(feature = "core")]
+#[test]
+fn trees_in_words_lent_and_owned() {
+    use kalebasin::{CommandTree, ValueTree};
+    const GROWN: [u64; 8] = [0, 0, 0, 3, 1, 0, 70, 3];
+    fn grow<T: AsMut<[u64]> + AsRef<[u64]>>(table: T) -> T {
+        let mut tree = ValueTree::fresh(table).unwrap();
+        tree.add(Round(1), 70, Round::ROOT).unwrap();
+        tree.commit(Round(1)).unwrap();
+        assert_eq!(tree.add(Round(2), 70, Round(1)), Err(Refusal::NoFreeRow));
+        assert_eq!((tree.table(), tree.nodes().count()), (&GROWN[..], 2));
+        tree.into_table()
+    }
+    let mut words = [9; 8];
+    assert_eq!(*grow(&mut words), GROWN);
+    assert_eq!(*grow(&mut words[..]), GROWN);
+    assert_eq!(grow([9; 8]), GROWN);
+    assert_eq!(grow(vec![9; 8]), GROWN);
+    assert_eq!(*grow(vec![9; 8].into_boxed_slice()), GROWN);
+    assert_eq!(ValueTree::from_table(&words[..]).path(Round(1), &mut [0; 2]), Ok(2));
+    assert_eq!(ValueTree::fresh(&mut words[..7]).err(), Some(Refusal::TableLength));
+    assert_eq!(words, GROWN);
+    assert_eq!(CommandTree::from(ValueTree::from_table(words)), CommandTree::from_table(words));
+}
+
+/// Each kind's calls take the tables that calls of that kind can leave: a value tree's those that a command tree's take, and not
+/// all of them.
+#[cfg(feature = "core")]
+#[test]
+fn trees_of_both_kinds() {
+    use kalebasin::{CommandTree, ValueTree};
+    let mut words = [0; 16];
+    let (mut path, whole) = ([0; 4], [0, 1, 2, 0]);
+    let mut edits = CommandTree::from(ValueTree::fresh(&mut words).unwrap());
+    edits.add(Round(1), 70, Round::ROOT).unwrap();
+    edits.add(Round(2), 80, Round(1)).unwrap();
+    assert_eq!((edits.path(Round(2), &mut path), path), (Ok(3), whole));
+    let mut values = ValueTree::from_table(words);
+    assert_eq!(values.add(Round(3), 80, Round(2)), Err(Refusal::NotATree));
+    assert_eq!(values.commit(Round(2)), Err(Refusal::NotATree));
+    assert_eq!(values.path(Round(2), &mut path), Err(Refusal::NotATree));
+    assert_eq!((values.into_table(), path), (words, whole));
+    CommandTree::from_table(&mut words).commit(Round(2)).unwrap();
+    assert_eq!(CommandTree::from_table(words).add(Round(3), 80, Round(1)), Err(Refusal::CrossesCommitted));
 }

@@ -1,7 +1,7 @@
 //! The proved core, as a set of calls.
 
 use crate::Calls;
-use kalebasin::{play, read_message, tree_add, tree_commit, tree_fresh, tree_path};
+use kalebasin::{play, read_message, ValueTree};
 use kalebasin::{Member, MemberFields, MemberRecord, Message, Refusal, Report, Round};
 
 /// The proved core, as a set of calls.
@@ -13,10 +13,10 @@ pub const CALLS: Calls = Calls {
     member_fresh,
     member_start,
     member_deliver,
-    tree_fresh,
-    tree_add,
-    tree_commit,
-    tree_path,
+    tree_fresh: |table| ValueTree::fresh(table).map(|_| ()),
+    tree_add: |table, round, value, parent| ValueTree::from_table(table).add(round, value, parent),
+    tree_commit: |table, round| ValueTree::from_table(table).commit(round),
+    tree_path: |table, round, out| ValueTree::from_table(table).path(round, out),
 };
 
 fn member_fresh(number: Member, members: u32) -> Result<MemberFields, Refusal> {

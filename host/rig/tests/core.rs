@@ -5,8 +5,8 @@
 mod compared;
 
 use compared::{same, seed};
+use kalebasin::tree::{Command, Kind, Tree, Value};
 use kalebasin::{ffi, notation, number_of, EventList, Message, Refusal, Round};
-use kalebasin::{tree_add, tree_commit, tree_fresh, tree_path};
 use kalebasin::{STORE_ROW, STORE_ROWS, TABLE_ROW, TABLE_ROWS};
 use kalebasin_rig::random::Random;
 use kalebasin_rig::suite::{self, REHEARSAL};
@@ -185,24 +185,27 @@ fn refused_results_field_by_field() {
     let (mut store, mut table, mut answers, mut out) = ([0u8; 28], [0u64; 8], [0u8; 4], [0u64; 4]);
     let list = notation::parse("n=4 s(1,1,70)", None).unwrap().to_bytes();
     // SAFETY: each pointer and length come from one slice.
-    let (played, path) = unsafe {
-        (
-            ffi::kalebasin_play(
-                list.as_ptr(),
-                list.len(),
-                store.as_mut_ptr(),
-                store.len(),
-                table.as_mut_ptr(),
-                table.len(),
-                answers.as_mut_ptr(),
-                answers.len(),
-            ),
-            ffi::kalebasin_tree_path(table.as_ptr(), table.len(), 0, out.as_mut_ptr(), out.len()),
-        )
+    let (played, paths) = unsafe {
+        let played = ffi::kalebasin_play(
+            list.as_ptr(),
+            list.len(),
+            store.as_mut_ptr(),
+            store.len(),
+            table.as_mut_ptr(),
+            table.len(),
+            answers.as_mut_ptr(),
+            answers.len(),
+        );
+        let (words, length, rounds, room) = (table.as_ptr(), table.len(), out.as_mut_ptr(), out.len());
+        let paths = [
+            ffi::kalebasin_tree_path(words, length, 0, rounds, room),
+            ffi::kalebasin_command_path(words, length, 0, rounds, room),
+        ];
+        (played, paths)
     };
     let counts = [played.accepted, played.messages, played.proposals, played.decisions];
     assert_eq!((played.number, counts), (27, [0; 4]));
-    assert_eq!(path, ffi::PathResult { number: 2, count: 0 });
+    assert_eq!(paths, [ffi::PathResult { number: 2, count: 0 }; 2]);
 }
 
 /// Runs some work on a thread whose whole stack is 64 KiB; more than that ends the program.
@@ -230,14 +233,19 @@ fn the_largest_play_on_a_stack_of_64_kib() {
 /// The deepest recursion of the core: a path of 256 rounds.
 #[test]
 fn the_longest_path_on_a_stack_of_64_kib() {
+    longest_path::<Value>();
+    longest_path::<Command>();
+}
+
+fn longest_path<K: Kind>() {
     let (mut table, mut path) = (vec![1; TABLE_ROWS * TABLE_ROW], vec![0; TABLE_ROWS]);
     let count = on_a_small_stack(|| {
-        tree_fresh(&mut table)?;
+        let mut tree = Tree::<K, _>::fresh(&mut table)?;
         for round in 1..TABLE_ROWS as u32 {
-            tree_add(&mut table, Round(round), 70, Round(round - 1))?;
-            tree_commit(&mut table, Round(round))?;
+            tree.add(Round(round), 70, Round(round - 1))?;
+            tree.commit(Round(round))?;
         }
-        tree_path(&table, Round(TABLE_ROWS as u32 - 1), &mut path)
+        tree.path(Round(TABLE_ROWS as u32 - 1), &mut path)
     });
     assert_eq!(count, Ok(TABLE_ROWS));
     assert!(path.iter().copied().eq(0..TABLE_ROWS as u64));
