@@ -1,6 +1,6 @@
 //! The calls as a set, so that two implementations can stand side by side.
 
-use kalebasin::{Member, MemberFields, Message, Played, Refusal, Report, Round};
+use kalebasin::{Member, MemberFields, Message, Played, Refusal, Report, Round, TreeCall, TreeKind};
 
 /// The calls of one implementation. Each has the meaning of the function of that name at the front of `kalebasin`.
 #[allow(clippy::type_complexity)]
@@ -20,12 +20,30 @@ pub struct Calls {
     pub member_start: fn(&mut MemberFields, Round, u64, &mut [u8]) -> Result<Report, Refusal>,
     /// `MemberRecord::deliver`.
     pub member_deliver: fn(&mut MemberFields, &[u8], &mut [u8]) -> Result<Report, Refusal>,
-    /// `tree_fresh`.
+    /// `Tree::fresh`; a tree is its table here and below.
     pub tree_fresh: fn(&mut [u64]) -> Result<(), Refusal>,
-    /// `tree_add`.
-    pub tree_add: fn(&mut [u64], Round, u64, Round) -> Result<(), Refusal>,
-    /// `tree_commit`.
-    pub tree_commit: fn(&mut [u64], Round) -> Result<(), Refusal>,
-    /// `tree_path`.
-    pub tree_path: fn(&[u64], Round, &mut [u64]) -> Result<usize, Refusal>,
+    /// `ValueTree::add` or `CommandTree::add`.
+    pub tree_add: fn(TreeKind, &mut [u64], Round, u64, Round) -> Result<(), Refusal>,
+    /// `ValueTree::commit` or `CommandTree::commit`.
+    pub tree_commit: fn(TreeKind, &mut [u64], Round) -> Result<(), Refusal>,
+    /// `ValueTree::path` or `CommandTree::path`.
+    pub tree_path: fn(TreeKind, &[u64], Round, &mut [u64]) -> Result<usize, Refusal>,
+}
+
+impl Calls {
+    /// Makes a call of a tree: how many rounds it wrote to `out`, which only a path does.
+    pub fn tree_call(
+        &self,
+        kind: TreeKind,
+        table: &mut [u64],
+        call: TreeCall,
+        out: &mut [u64],
+    ) -> Result<usize, Refusal> {
+        match call {
+            TreeCall::Fresh => (self.tree_fresh)(table).map(|()| 0),
+            TreeCall::Add { round, value, parent } => (self.tree_add)(kind, table, round, value, parent).map(|()| 0),
+            TreeCall::Commit(round) => (self.tree_commit)(kind, table, round).map(|()| 0),
+            TreeCall::Path(round) => (self.tree_path)(kind, table, round, out),
+        }
+    }
 }

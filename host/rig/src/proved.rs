@@ -1,8 +1,8 @@
 //! The proved core, as a set of calls.
 
 use crate::Calls;
-use kalebasin::{play, read_message, ValueTree};
-use kalebasin::{Member, MemberFields, MemberRecord, Message, Refusal, Report, Round};
+use kalebasin::{play, read_message, CommandTree, ValueTree};
+use kalebasin::{Member, MemberFields, MemberRecord, Message, Refusal, Report, Round, TreeKind};
 
 /// The proved core, as a set of calls.
 pub const CALLS: Calls = Calls {
@@ -13,10 +13,10 @@ pub const CALLS: Calls = Calls {
     member_fresh,
     member_start,
     member_deliver,
-    tree_fresh: |table| ValueTree::fresh(table).map(|_| ()),
-    tree_add: |table, round, value, parent| ValueTree::from_table(table).add(round, value, parent),
-    tree_commit: |table, round| ValueTree::from_table(table).commit(round),
-    tree_path: |table, round, out| ValueTree::from_table(table).path(round, out),
+    tree_fresh,
+    tree_add,
+    tree_commit,
+    tree_path,
 };
 
 fn member_fresh(number: Member, members: u32) -> Result<MemberFields, Refusal> {
@@ -40,4 +40,29 @@ fn on_record(
     let answer = call(&mut record);
     *fields = record.fields();
     answer
+}
+
+fn tree_fresh(table: &mut [u64]) -> Result<(), Refusal> {
+    ValueTree::fresh(table).map(|_| ())
+}
+
+fn tree_add(kind: TreeKind, table: &mut [u64], round: Round, value: u64, parent: Round) -> Result<(), Refusal> {
+    match kind {
+        TreeKind::Value => ValueTree::from_table(table).add(round, value, parent),
+        TreeKind::Command => CommandTree::from_table(table).add(round, value, parent),
+    }
+}
+
+fn tree_commit(kind: TreeKind, table: &mut [u64], round: Round) -> Result<(), Refusal> {
+    match kind {
+        TreeKind::Value => ValueTree::from_table(table).commit(round),
+        TreeKind::Command => CommandTree::from_table(table).commit(round),
+    }
+}
+
+fn tree_path(kind: TreeKind, table: &[u64], round: Round, out: &mut [u64]) -> Result<usize, Refusal> {
+    match kind {
+        TreeKind::Value => ValueTree::from_table(table).path(round, out),
+        TreeKind::Command => CommandTree::from_table(table).path(round, out),
+    }
 }

@@ -9,9 +9,9 @@ use crate::shrink::shortest;
 use crate::Calls;
 use kalebasin::notation::parse;
 use kalebasin::{
-    number_of, Event, EventList, Member, MemberFields, Message, MessageNumber, Refusal, Report, Round, Vote,
+    number_of, Event, EventList, Member, MemberFields, Message, MessageNumber, Refusal, Report, Round, TreeCall,
+    TreeKind, Vote, STORE_ROW, TABLE_ROW,
 };
-use kalebasin::{STORE_ROW, TABLE_ROW};
 use std::collections::BTreeSet;
 
 /// The two implementations; the second is the reference.
@@ -488,23 +488,10 @@ pub fn each_damage(bytes: &[u8], look: &mut Look) -> Result<(), String> {
     (0..=255).try_for_each(|last| look(&[bytes, &[last]].concat()))
 }
 
-/// A call of the tree.
-#[derive(Clone, Copy, Debug, PartialEq, Eq, Hash)]
-pub enum TreeCall {
-    /// `tree_fresh`.
-    Fresh,
-    /// `tree_add`: round, value, parent.
-    Add(Round, u64, Round),
-    /// `tree_commit`.
-    Commit(Round),
-    /// `tree_path`: the round, and the words lent for the path.
-    Path(Round, usize),
-}
-
 /// What a tree call left: its answer, the table and the words lent for a path, with guards on both sides.
 #[derive(Clone, Debug, PartialEq, Eq)]
 struct TreeLeft {
-    answer: Result<usize, kalebasin::Refusal>,
+    answer: Result<usize, Refusal>,
     table: Vec<u64>,
     out: Vec<u64>,
 }
@@ -512,43 +499,38 @@ struct TreeLeft {
 const GUARD: usize = 3;
 const MARK: u64 = 77_777;
 
-fn tree_call(calls: &Calls, table: &[u64], call: TreeCall) -> TreeLeft {
+fn tree_call(calls: &Calls, kind: TreeKind, table: &[u64], call: TreeCall, room: usize) -> TreeLeft {
     let guarded = |words: &[u64]| [&[MARK; GUARD], words, &[MARK; GUARD]].concat();
-    let room = if let TreeCall::Path(_, room) = call { room } else { 0 };
     let mut left = TreeLeft { answer: Ok(0), table: guarded(table), out: vec![MARK; room + 2 * GUARD] };
-    let lent = &mut left.table[GUARD..GUARD + table.len()];
-    left.answer = match call {
-        TreeCall::Fresh => (calls.tree_fresh)(lent).map(|()| 0),
-        TreeCall::Add(round, value, parent) => (calls.tree_add)(lent, round, value, parent).map(|()| 0),
-        TreeCall::Commit(round) => (calls.tree_commit)(lent, round).map(|()| 0),
-        TreeCall::Path(round, room) => (calls.tree_path)(lent, round, &mut left.out[GUARD..GUARD + room]),
-    };
+    let (lent, out) = (&mut left.table[GUARD..GUARD + table.len()], &mut left.out[GUARD..GUARD + room]);
+    left.answer = calls.tree_call(kind, lent, call, out);
     left
 }
 
-fn compare_tree(calls: Pair, table: &[u64], call: TreeCall) -> Result<(), String> {
-    let left = calls.map(|calls| tree_call(calls, table, call));
+/// Makes a call by both, with so many words for a path.
+fn compare_tree(calls: Pair, kind: TreeKind, table: &[u64], call: TreeCall, room: usize) -> Result<(), String> {
+    let left = calls.map(|calls| tree_call(calls, kind, table, call, room));
     if left[0] == left[1] {
         return Ok(());
     }
     let smaller = |at: usize| [&table[..at * TABLE_ROW], &table[(at + 1) * TABLE_ROW..]].concat();
     for at in 0..table.len() / TABLE_ROW {
-        compare_tree(calls, &smaller(at), call)?;
+        compare_tree(calls, kind, &smaller(at), call, room)?;
     }
     let names = calls.map(|calls| calls.name);
     let of = |at: usize| {
         format!("{}: {:?}, table {:?}, path {:?}", names[at], left[at].answer, left[at].table, left[at].out)
     };
-    Err(format!("{call:?} on the table {table:?}\n{}\n{}", of(0), of(1)))
+    Err(format!("kind={kind} {call} with {room} words for a path on the table {table:?}\n{}\n{}", of(0), of(1)))
 }
 
-/// Every table of three rows with small words, and every call with small numbers on it.
+/// Every table of three rows with small words, and every call of either kind with small numbers on it.
 pub fn small_tables(calls: Pair) -> Compared {
-    let mut tree_calls = vec![TreeCall::Fresh];
+    let mut tree_calls = vec![(TreeCall::Fresh, 0)];
     for round in (0..=4).map(Round) {
-        tree_calls.extend([TreeCall::Commit(round), TreeCall::Path(round, 2), TreeCall::Path(round, 4)]);
+        tree_calls.extend([(TreeCall::Commit(round), 0), (TreeCall::Path(round), 2), (TreeCall::Path(round), 4)]);
         for parent in (0..=4).map(Round) {
-            tree_calls.extend([0, 5].map(|value| TreeCall::Add(round, value, parent)));
+            tree_calls.extend([0, 5].map(|value| (TreeCall::Add { round, value, parent }, 0)));
         }
     }
     let row = |code: u64| [code % 4, code / 4 % 4, code / 16 % 2 * 5, code / 32];
@@ -557,16 +539,19 @@ pub fn small_tables(calls: Pair) -> Compared {
         for spare in [0, 4] {
             let mut table = [[0, 0, 0, 3], row(code % 128), row(code / 128)].concat();
             table.resize(12 + spare, 0);
-            for call in &tree_calls {
-                compare_tree(calls, &table, *call)?;
-                compared += 1;
+            for (call, room) in &tree_calls {
+                for kind in TreeKind::ALL {
+                    compare_tree(calls, kind, &table, *call, *room)?;
+                    compared += 1;
+                }
             }
         }
     }
     Ok(compared)
 }
 
-/// Random calls on random trees of 1 to 256 rows, and on damaged ones.
+/// Random calls of either kind on random trees of 1 to 256 rows, and on damaged ones. A tree is grown by calls of one kind, so
+/// that the other's calls meet trees that aren't their own.
 pub fn random_trees(calls: Pair, seed: u64, trees: usize) -> Compared {
     let mut random = Random::new(seed);
     let mut compared = 0;
@@ -576,15 +561,22 @@ pub fn random_trees(calls: Pair, seed: u64, trees: usize) -> Compared {
             1..=4 => random.between(1, 40),
             _ => random.between(1, 10),
         };
+        let grown = *random.pick(&TreeKind::ALL);
         let mut table = vec![0; rows * TABLE_ROW];
         (calls[1].tree_fresh)(&mut table).map_err(|refusal| refusal.to_string())?;
         let highest = *random.pick(&[rows + 3, 3 * rows + 3, 1_000_002]);
         for _ in 0..random.between(1, 2 * rows.min(60)) {
-            let call = random_call(&mut random, highest);
-            compare_tree(calls, &table, call)?;
-            compare_tree(calls, &damaged(&table, &mut random), call)?;
-            compared += 2;
-            advance(calls[1], &mut table, call);
+            let (call, room) = (random_call(&mut random, highest), random.below(8));
+            for table in [&table, &damaged(&table, &mut random)] {
+                for kind in TreeKind::ALL {
+                    compare_tree(calls, kind, table, call, room)?;
+                    compared += 1;
+                }
+            }
+            // what is in the table is kept
+            if call != TreeCall::Fresh {
+                let _ = calls[1].tree_call(grown, &mut table, call, &mut []);
+            }
         }
     }
     Ok(compared)
@@ -596,20 +588,11 @@ fn random_call(random: &mut Random, highest: usize) -> TreeCall {
         0..=1 => TreeCall::Fresh,
         2..=70 => {
             let parent = if random.chance(50) { 0 } else { random.below(round.0 as usize + 2) };
-            TreeCall::Add(round, *random.pick(&[5, 5, 5, 6]), Round(parent as u32))
+            TreeCall::Add { round, value: *random.pick(&[5, 5, 5, 6]), parent: Round(parent as u32) }
         }
         71..=85 => TreeCall::Commit(round),
-        _ => TreeCall::Path(round, random.below(8)),
+        _ => TreeCall::Path(round),
     }
-}
-
-/// Makes the call on the reference, but keeps what is in the table where it would be lost.
-fn advance(calls: &Calls, table: &mut [u64], call: TreeCall) {
-    let _ = match call {
-        TreeCall::Add(round, value, parent) => (calls.tree_add)(table, round, value, parent),
-        TreeCall::Commit(round) => (calls.tree_commit)(table, round),
-        TreeCall::Fresh | TreeCall::Path(..) => Ok(()),
-    };
 }
 
 /// The table with a word changed, two rows exchanged, or another length.

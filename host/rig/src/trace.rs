@@ -4,7 +4,8 @@ use crate::explain::{explain_event, Explained};
 use crate::second::member::Record;
 use crate::second::model::{Made, Model};
 use crate::Calls;
-use kalebasin::{nodes, Event, EventList, Member, Message, MessageNumber, Node, Refusal, Round, TABLE_ROW, TABLE_ROWS};
+use kalebasin::{nodes, Event, EventList, Member, Message, MessageNumber, Node, Refusal, Round, TreeKind};
+use kalebasin::{TABLE_ROW, TABLE_ROWS};
 
 /// One event and what came of it. The answer is the one given by the implementation asked for; the tree is made by its
 /// calls; all else comes from the model.
@@ -105,8 +106,8 @@ fn later_proposed(model: &Model, made: Made) -> Option<Round> {
 fn changed_nodes(calls: &Calls, table: &mut [u64], made: Made) -> Vec<Node> {
     let before: Vec<Node> = nodes(table).collect();
     let _ = match made {
-        Made::Proposal(made) => (calls.tree_add)(table, made.round, made.value, made.parent),
-        Made::Decision(made) => (calls.tree_commit)(table, made.round),
+        Made::Proposal(made) => (calls.tree_add)(TreeKind::Value, table, made.round, made.value, made.parent),
+        Made::Decision(made) => (calls.tree_commit)(TreeKind::Value, table, made.round),
     };
     nodes(table).enumerate().filter(|(row, node)| before.get(*row) != Some(node)).map(|(_, node)| node).collect()
 }

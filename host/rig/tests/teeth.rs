@@ -84,6 +84,30 @@ const FAULTS: &[Fault] = &[
         "if check_fields(message).is_ok() && buffer.len() < Message::LONGEST {",
     ),
     Fault("a path that just fits is refused", "tree.rs", "if out.len() < count {", "if out.len() <= count {"),
+    Fault(
+        "check 7 is kept in a command tree's add",
+        "tree.rs",
+        "machine_add(kind, table, round.0",
+        "machine_add(TreeKind::Value, table, round.0",
+    ),
+    Fault(
+        "check 7 is dropped in a value tree's add",
+        "tree.rs",
+        "machine_add(kind, table, round.0",
+        "machine_add(TreeKind::Command, table, round.0",
+    ),
+    Fault(
+        "a value tree's call takes a tree that only command calls leave",
+        "tree.rs",
+        "if is_tree(kind, table) {",
+        "if is_tree(TreeKind::Command, table) {",
+    ),
+    Fault(
+        "a command tree's call refuses a tree that only command calls leave",
+        "tree.rs",
+        "if is_tree(kind, table) {",
+        "if is_tree(TreeKind::Value, table) {",
+    ),
 ];
 
 /// Compares the faulty copy with the number given to the program with the reference, and prints the first report.

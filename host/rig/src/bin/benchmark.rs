@@ -300,7 +300,7 @@ fn add_work(calls: &Calls, rows: usize, tree: Tree) -> Work {
     let (add, mut table) = (calls.tree_add, template.clone());
     Box::new(move || {
         table.copy_from_slice(&template);
-        let added = add(black_box(&mut table), Round(rows as u32), 70, Round(parent));
+        let added = add(TreeKind::Value, black_box(&mut table), Round(rows as u32), 70, Round(parent));
         assert!(black_box(added).is_ok());
     })
 }

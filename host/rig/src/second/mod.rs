@@ -16,7 +16,6 @@ pub mod play;
 pub mod tree;
 
 use crate::Calls;
-use kalebasin::TreeKind;
 
 /// The second implementation, as a set of calls.
 pub const CALLS: Calls = Calls {
@@ -28,7 +27,7 @@ pub const CALLS: Calls = Calls {
     member_start: member::start_fields,
     member_deliver: member::deliver_fields,
     tree_fresh: tree::fresh,
-    tree_add: |table, round, value, parent| tree::add(TreeKind::Value, table, round, value, parent),
-    tree_commit: |table, round| tree::commit(TreeKind::Value, table, round),
-    tree_path: |table, round, out| tree::path(TreeKind::Value, table, round, out),
+    tree_add: tree::add,
+    tree_commit: tree::commit,
+    tree_path: tree::path,
 };
