@@ -4,12 +4,12 @@ use crate::second::member::{quorum, Record, Step, COLLECTING, DECIDED, IDLE, PRO
 use crate::second::model::Model;
 use kalebasin::{Event, EventList, Member, Message, MessageNumber, Refusal};
 
-/// An event in words.
+/// An event, or a call of a tree, in words.
 #[derive(Clone, Debug, PartialEq, Eq, Hash)]
 pub struct Explained {
-    /// The event in the rig's notation.
-    pub event: String,
-    /// The answer that the model gives.
+    /// The event or call in the rig's notation.
+    pub notation: String,
+    /// The answer that the model gives, to a call the second implementation.
     pub answer: u32,
     /// What happened, or why nothing did.
     pub words: String,
@@ -44,7 +44,7 @@ pub fn explain_event(model: &mut Model, event: &Event) -> Explained {
         Ok(step) => (0, accepted(&before, model, event, &step)),
         Err(refusal) => (refusal.number(), refused(&before, event, refusal)),
     };
-    Explained { event: event.to_string(), answer, words }
+    Explained { notation: event.to_string(), answer, words }
 }
 
 /// `JOIN (message 4)`, if something was sent.

@@ -6,6 +6,7 @@
 //! - [`quick`]: play in plain Rust, written for speed, and the plain Rust with one walk that play's time is measured by
 //! - [`Calls`]: the calls of one implementation as a set; `proved::CALLS` are those of the core
 //! - [`explain`]: a run in words, event by event
+//! - [`explain_tree`]: a list of tree calls in words, call by call
 //! - [`draw`]: a tree as text, DOT and SVG
 //! - [`trace`], [`json`]: a run as values and as JSON, event by event
 //! - [`timeline`], [`page`]: a run as a picture, and as a page with its records and trees
@@ -22,6 +23,7 @@ mod calls;
 pub mod compare;
 pub mod draw;
 pub mod explain;
+pub mod explain_tree;
 pub mod generate;
 pub mod json;
 pub mod page;

@@ -14,7 +14,7 @@ use kalebasin_rig::second::tree::is_tree;
 use kalebasin_rig::shrink::shrink;
 use kalebasin_rig::suite::REHEARSAL;
 use kalebasin_rig::trace::trace;
-use kalebasin_rig::{draw, page, second, timeline};
+use kalebasin_rig::{draw, explain_tree, page, second, timeline};
 
 const NO_OFFICES: [u32; 8] = [0, 1, 2, 4, 6, 8, 9, u32::MAX];
 
@@ -77,6 +77,8 @@ fn tables_of_every_size() {
         let (model, _) = Model::run(&list(3), usize::MAX, rows).unwrap();
         assert_eq!(model.third_demand(), Err(Breach::Table(Refusal::TableLength)));
         assert_eq!(trace(&second::CALLS, &list(3), &[0; 15], 20, rows).err(), Some(Refusal::TableLength));
+        let calls = "add(1,70,0)".parse().unwrap();
+        assert_eq!(explain_tree::explain(&second::CALLS, &calls, rows).err(), Some(Refusal::TableLength));
     }
     for words in [0, 1, 3, 5, 1_023, 1_025, 4_096] {
         assert!(TreeKind::ALL.iter().all(|kind| !is_tree(*kind, &vec![0; words])), "{words}");

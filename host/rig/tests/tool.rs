@@ -4,10 +4,11 @@
 #[allow(dead_code)]
 mod svg;
 
-use kalebasin::notation::parse;
-use kalebasin::{Event, EventList, Refusal};
-use kalebasin_rig::draw;
+use kalebasin::notation::{parse, parse_tree};
+use kalebasin::{Event, EventList, Refusal, Round, TreeKind};
+use kalebasin_rig::explain_tree::explain;
 use kalebasin_rig::suite::REHEARSAL;
+use kalebasin_rig::{draw, second, Calls};
 use std::ffi::OsStr;
 use std::io::{BufRead, BufReader, Write};
 use std::os::unix::ffi::OsStrExt;
@@ -54,6 +55,7 @@ const COMMANDS: &[&[&str]] = &[
     &["decode", "--hex", "-"],
     &["rehearse", "--hex", "-"],
     &["message", "000000040000000900000002"],
+    &["tree", "-e", "add(1,70,0)"],
     &["search", "--lists", "3"],
     #[cfg(feature = "core")]
     &["compare", "--random", "--lists", "5"],
@@ -86,6 +88,66 @@ fn mistakes_have_line_and_column() {
         (status, error.as_str()),
         (2, "kalebasin: standard input: line 2, column 6: , is missing after the message number\n")
     );
+}
+
+#[test]
+fn mistakes_in_tree_calls_have_line_and_column() {
+    let cases = [
+        ("kind command", 1, 6, "= is missing after kind"),
+        ("kind=", 1, 6, "the kind is value or command"),
+        (" kind= commands", 1, 8, "the kind is value or command"),
+        ("kind=value kind=value", 1, 12, "kind= stands once, in front of the calls"),
+        ("add(1,70,0) kind=command", 1, 13, "kind= stands once, in front of the calls"),
+        ("adds(1,70,0)", 1, 1, "a call starts with add(, commit(, path( or fresh, not with \"adds\""),
+        ("fresh fréch", 1, 7, "a call starts with add(, commit(, path( or fresh, not with \"fr\""),
+        ("# \n (1)", 2, 2, "a call starts with add(, commit(, path( or fresh, not with \"(\""),
+        ("fresh é", 1, 7, "a call starts with add(, commit(, path( or fresh, not with \"é\""),
+        ("freshfresh", 1, 1, "a call starts with add(, commit(, path( or fresh, not with \"freshfresh\""),
+        ("fresh()", 1, 6, "a call starts with add(, commit(, path( or fresh, not with \"(\""),
+        ("add 1", 1, 5, "( is missing after add"),
+        ("add(,70,0)", 1, 5, "a round number is missing here"),
+        ("add(1)", 1, 6, ", is missing after the round number"),
+        ("add(1,-1,0)", 1, 7, "a value is missing here"),
+        ("add(1,70)", 1, 9, ", is missing after the value"),
+        ("add(1,70,)", 1, 10, "a parent is missing here"),
+        ("add(1,70,0,0)", 1, 11, ") is missing after the parent"),
+        ("commit", 1, 7, "( is missing after commit"),
+        ("path[1)", 1, 5, "( is missing after path"),
+        ("path(1,2)", 1, 7, ") is missing after the round number"),
+        ("commit(4294967296)", 1, 8, "the round number 4294967296 doesn't fit into 32 bits"),
+        ("add(1,70,4294967296)", 1, 10, "the parent 4294967296 doesn't fit into 32 bits"),
+        ("add(1,18446744073709551616,0)", 1, 7, "the value 18446744073709551616 doesn't fit into 64 bits"),
+    ];
+    for (text, line, column, what) in cases {
+        let mistake = parse_tree(text, None).unwrap_err();
+        assert_eq!((mistake.line, mistake.column, mistake.what.as_str()), (line, column, what), "{text}");
+    }
+    let error = "kalebasin: standard input: line 2, column 8: , is missing after the round number\n";
+    assert_eq!(tool(&["tree"], b"kind=value\n  add(1;70,0)"), (2, String::new(), error.into()));
+    is_mistake(&["tree", "-e", "s(1,1,70)"], b"", "-e: line 1, column 1: a call starts with add(, commit(, path( or");
+    is_mistake(&["tree", "-e", "00000003"], b"", "path( or fresh, not with \"0\"\n");
+    is_mistake(&["tree", "-"], &[0, 0, 0, 3], "standard input: these are bytes, not notation\n");
+}
+
+/// Where nothing says the kind, a tree is one of values.
+#[test]
+fn kinds_of_a_tree() {
+    let kind = |text: &str, kind| parse_tree(text, kind).map(|list| list.kind);
+    let (value, command) = (TreeKind::Value, TreeKind::Command);
+    assert_eq!([kind("fresh", None), kind("", None), kind("kind=value", None)], [Ok(value), Ok(value), Ok(value)]);
+    assert_eq!([kind("fresh", Some(command)), kind("kind = command", Some(command))], [Ok(command), Ok(command)]);
+    for (one, other) in [(value, command), (command, value)] {
+        let words = format!("line 1, column 2: kind={one}, but a {other} tree was asked for");
+        assert_eq!(kind(&format!(" kind={one} fresh"), Some(other)).unwrap_err().to_string(), words);
+        is_mistake(&["tree", "--kind", &other.to_string(), "-e", &format!(" kind={one}")], b"", &words);
+    }
+    for on in IMPLEMENTATIONS {
+        let first_line = |args: &[&str]| tool_on(on, args, b"").1.lines().next().unwrap().to_string();
+        let of = |kind, rows| format!("{kind} tree, {rows} table rows, on {}", on.1);
+        assert_eq!(first_line(&["tree", "-e", "fresh"]), of(value, 64));
+        assert_eq!(first_line(&["tree", "--kind", "command", "-e", "fresh"]), of(command, 64));
+        assert_eq!(first_line(&["tree", "--table-rows", "5", "-e", "kind=command"]), of(command, 5));
+    }
 }
 
 #[test]
@@ -166,6 +228,122 @@ fn runs_in_words() {
     }
 }
 
+/// The calls that docs/host-notes.md shows, to the letter.
+#[test]
+fn tree_calls_in_words() {
+    let notes = include_str!("../../../docs/host-notes.md");
+    let (_, shown) = notes.split_once("-- tree -e '").unwrap();
+    let (calls, shown) = shown.split_once("'\n\n").unwrap();
+    let (shown, _) = shown.split_once("\n\nThe numbers").unwrap();
+    let shown: String = shown.lines().map(|line| format!("{}\n", line.strip_prefix("    ").unwrap_or(line))).collect();
+    for on in IMPLEMENTATIONS {
+        let shown = shown.replace("the proved core", on.1);
+        assert_eq!(tool_on(on, &["tree", "-e", calls], b""), (0, shown.clone(), String::new()));
+        assert_eq!(tool_on(on, &["tree"], calls.as_bytes()).1, shown);
+    }
+}
+
+/// Each number that a call in a list can get, with its cause in particular, from calls of both kinds. Only 7 is of one kind.
+#[test]
+fn refused_tree_calls_in_words() {
+    let calls = "add(2,5,0) add(4,5,2) commit(4) add(3,5,2) add(3,6,2) add(0,5,0) add(1000001,5,0) commit(0) path(1000001) add(4,5,0) \
+                 add(6,5,5) add(5,5,4294967295) add(1,5,2) add(9,5,0) add(9,6,4) add(9,5,4) add(10,5,9) commit(7) path(7) commit(4) \
+                 commit(3) path(0) commit(9) add(12,5,2)";
+    let values = [
+        " 0  round 2 is ADDED below the root, with the value 5",
+        " 0  round 4 is ADDED below round 2, with the value 5",
+        " 0  round 4 becomes COMMITTED",
+        " 0  round 3 is GHOST below round 2, with the value 5: round 4 is there already",
+        " 4  round 3 can't be added below round 2 with the value 6: it is there already, GHOST below round 2 with the value 5",
+        " 3  round 0 can't be added below the root with the value 5: rounds run from 1 to 1,000,000",
+        " 3  round 1000001 can't be added below the root with the value 5: rounds run from 1 to 1,000,000",
+        " 3  round 0 can't be committed: rounds run from 1 to 1,000,000",
+        " 3  round 1000001 has no path: rounds run from 1 to 1,000,000",
+        " 4  round 4 can't be added below the root with the value 5: it is there already, COMMITTED below round 2 with the value 5",
+        " 5  round 6 can't be added below round 5 with the value 5: round 5 was never added",
+        " 5  round 5 can't be added below round 4294967295 with the value 5: round 4294967295 was never added",
+        " 6  round 1 can't be added below round 2 with the value 5: 2 isn't below 1",
+        " 8  round 9 can't be added below the root with the value 5: its edge crosses round 4, which is COMMITTED",
+        " 7  round 9 can't be added below round 4 with the value 6: the value of round 4 is 5",
+        " 0  round 9 is ADDED below round 4, with the value 5",
+        " 9  round 10 can't be added below round 9 with the value 5: the table has 5 rows, and none is free",
+        "10  round 7 can't be committed: it was never added",
+        "10  round 7 has no path: it was never added",
+        "11  round 4 can't be committed: it is COMMITTED already",
+        "12  round 3 can't be committed: it is GHOST, for the edge from round 4 to round 2 crosses it",
+        " 0  the path of the root is 0",
+        " 0  round 9 becomes COMMITTED",
+        " 8  round 12 can't be added below round 2 with the value 5: its edge crosses rounds 4 and 9, which are COMMITTED",
+    ];
+    for on in IMPLEMENTATIONS {
+        for kind in TreeKind::ALL {
+            let kind = kind.to_string();
+            let (status, out, _) = tool_on(on, &["tree", "--table-rows", "5", "--kind", &kind, "-e", calls], b"");
+            let number = "   0  add(5,5,4294967295)  ".len();
+            let lines: Vec<&str> = out.lines().skip(2).take(values.len()).map(|line| &line[number..]).collect();
+            let mut expected = values.to_vec();
+            if kind == "command" {
+                expected[14] = " 0  round 9 is ADDED below round 4, with the value 6";
+                expected[15] = " 4  round 9 can't be added below round 4 with the value 5: it is there already, ADDED below round 4 with the value 6";
+            }
+            assert_eq!((status, lines), (0, expected), "{out}");
+        }
+    }
+}
+
+/// An add that strikes out several rounds, and a table made fresh behind it.
+#[test]
+fn struck_rounds_in_words() {
+    let calls = "add(1,5,0) add(2,5,1) add(3,5,2) add(4,6,0) path(3) fresh path(3)";
+    for on in IMPLEMENTATIONS {
+        let (status, out, _) = tool_on(on, &["tree", "-e", calls], b"");
+        let struck = "round 4 is ADDED below the root, with the value 6; its edge crosses rounds 1, 2 and 3, which become GHOST\n";
+        assert!(status == 0 && out.contains(struck), "{out}");
+        assert!(out.contains("  0  the path of round 3 is 0, 1, 2, 3\n"), "{out}");
+        let end =
+            "  0  the table has the root alone\n   6  path(3)     10  round 3 has no path: it was never added\n\n\
+                   6 of 7 calls accepted, 0 nodes beside the root: 0 ADDED, 0 GHOST, 0 COMMITTED\n\nroot\n";
+        assert!(out.ends_with(end), "{out}");
+        let none = "\n0 of 0 calls accepted, 0 nodes beside the root: 0 ADDED, 0 GHOST, 0 COMMITTED\n\nroot\n";
+        assert!(tool_on(on, &["tree"], b"").1.ends_with(none));
+    }
+}
+
+/// What the second implementation does otherwise is told call by call.
+#[test]
+fn tree_calls_answered_otherwise() {
+    fn add(_: TreeKind, table: &mut [u64], round: Round, value: u64, parent: Round) -> Result<(), Refusal> {
+        second::tree::add(TreeKind::Command, table, round, value, parent)
+    }
+    fn commit(kind: TreeKind, table: &mut [u64], round: Round) -> Result<(), Refusal> {
+        second::tree::commit(kind, &mut table.to_vec(), round)
+    }
+    fn path(kind: TreeKind, table: &[u64], round: Round, out: &mut [u64]) -> Result<usize, Refusal> {
+        second::tree::path(kind, table, round, out).inspect(|count| out[..*count].reverse())
+    }
+    fn path_of_root(kind: TreeKind, table: &[u64], _: Round, out: &mut [u64]) -> Result<usize, Refusal> {
+        second::tree::path(kind, table, Round::ROOT, out)
+    }
+    let calls = "add(1,5,0) add(2,6,1) path(1) commit(1) path(0)";
+    for (faulty, told) in [
+        (second::CALLS, [None; 5]),
+        (
+            Calls { tree_add: add, ..second::CALLS },
+            [None, Some("ANSWERS 7"), Some("ANSWERS 0"), Some("ANSWERS 0"), Some("ANSWERS 0")],
+        ),
+        (
+            Calls { tree_commit: commit, ..second::CALLS },
+            [None, None, None, Some("LEAVES ANOTHER TABLE"), Some("LEAVES ANOTHER TABLE")],
+        ),
+        (Calls { tree_path: path, ..second::CALLS }, [None, None, Some("WRITES ANOTHER PATH"), None, None]),
+        (Calls { tree_path: path_of_root, ..second::CALLS }, [None, None, Some("WRITES ANOTHER PATH"), None, None]),
+    ] {
+        let (calls, _) = explain(&faulty, &calls.parse().unwrap(), 8).unwrap();
+        assert_eq!(calls.iter().map(|call| call.difference.as_deref()).collect::<Vec<_>>(), told);
+        assert!(calls.iter().all(|call| call.difference.is_some() || call.answer == call.explained.answer));
+    }
+}
+
 #[test]
 fn drawings_of_the_rehearsal() {
     let text = "root\n└─ round 1, value 70, COMMITTED\n   └─ round 2, value 70, ADDED\n";
@@ -202,6 +380,23 @@ fn drawings_into_files() {
     for (on, number) in IMPLEMENTATIONS.iter().zip(0..) {
         let [dot, svg] = ["dot", "svg"].map(|kind| format!("{folder}/rehearsal-{number}.{kind}"));
         assert_eq!(tool_on(on, &["run", "--dot", &dot, "--svg", &svg, "-e", REHEARSAL], b"").0, 0);
+        for (file, format) in [(dot, "dot"), (svg, "svg")] {
+            let drawn = tool_on(on, &["draw", "--format", format, "-e", REHEARSAL], b"").1;
+            assert_eq!(std::fs::read_to_string(file).unwrap(), drawn);
+        }
+    }
+}
+
+/// The pictures of tree calls are those of a list that makes the same calls.
+#[test]
+fn drawings_of_tree_calls() {
+    let folder = env!("CARGO_TARGET_TMPDIR");
+    for (on, number) in IMPLEMENTATIONS.iter().zip(0..) {
+        let [dot, svg] = ["dot", "svg"].map(|kind| format!("{folder}/tree-calls-{number}.{kind}"));
+        let calls = "add(1,70,0) add(2,70,1) commit(1)";
+        let (status, out, _) = tool_on(on, &["tree", "--dot", &dot, "--svg", &svg, "-e", calls], b"");
+        assert_eq!(status, 0);
+        assert!(out.ends_with(&tool_on(on, &["draw", "-e", REHEARSAL], b"").1), "{out}");
         for (file, format) in [(dot, "dot"), (svg, "svg")] {
             let drawn = tool_on(on, &["draw", "--format", format, "-e", REHEARSAL], b"").1;
             assert_eq!(std::fs::read_to_string(file).unwrap(), drawn);
@@ -391,6 +586,11 @@ fn mistakes_on_the_command_line() {
         (&["run", "--html", "-", "-e", ""], "--html takes a file, not -: standard output has the run itself"),
         (&["run", "--svg=-", "-e", ""], "--svg takes a file, not -"),
         (&["run", "--dot", "-", "-e", ""], "--dot takes a file, not -"),
+        (&["tree", "--kind", "Command", "-e", ""], "--kind takes value or command, not Command"),
+        (&["tree", "--kind"], "--kind needs a value: --kind K"),
+        (&["tree", "--table-rows", "0", "-e", ""], "--table-rows takes a number from 1 to 256, not 0"),
+        (&["tree", "--svg", "-", "-e", ""], "--svg takes a file, not -"),
+        (&["tre"], "there is no command tre (did you mean tree?)"),
         (&["search", "--members", "4"], "--members takes 3, 5 or 7"),
         (&["search", "--all", "40"], "more such lists than can be counted"),
         (&["run", "no such file"], "no such file: "),
@@ -410,6 +610,8 @@ fn options_without_effect() {
         (&["run", "--members", "3", "--bytes"], "the bytes say how many members there are"),
         (&["run", "-e", "s(1,1,70)", "-e", "s(2,2,70)"], "-e stands twice; run takes it once"),
         (&["draw", "--format=dot", "-e", "", "--format", "svg"], "--format stands twice; draw takes it once"),
+        (&["tree", "-e", "", "file"], "-e stands instead of FILE; give one of them"),
+        (&["tree", "--kind", "value", "--kind=value"], "--kind stands twice; tree takes it once"),
         (&["rehearse", "--second", "--second"], "--second stands twice; rehearse takes it once"),
         (&["search", "--bytes"], "--bytes and --hex are for FILE, which may be -"),
         (&["search", "--store-rows", "3"], "random lists have memory of their own; --store-rows and"),
@@ -433,7 +635,8 @@ fn options_without_effect() {
 /// What a command doesn't take is refused with its own help, whether another command takes it or none does.
 #[test]
 fn options_that_a_command_does_not_take() {
-    let options = ["-e", "--members", "--bytes", "--hex", "--store-rows", "--table-rows", "--format", "--dot", "--svg"];
+    let options =
+        ["-e", "--members", "--kind", "--bytes", "--hex", "--store-rows", "--table-rows", "--format", "--dot", "--svg"];
     let options = options.iter().chain(&[
         "--html",
         "--json",
@@ -663,6 +866,8 @@ fn arguments_that_are_not_text() {
         &[text("run"), text("-e"), odd],
         &[text("run"), text("--members"), odd],
         &[text("message"), odd],
+        &[text("tree"), text("-e"), odd],
+        &[text("tree"), text("--kind"), odd],
         &[text("search"), text("--property"), odd],
         &[text("run"), OsStr::from_bytes(b"--svg=\xff")],
         &[text("run"), OsStr::from_bytes(b"--\xff")],

@@ -208,7 +208,7 @@ fn table(trace: &[Happened]) -> Table {
     };
     let number = MARGIN + width_of(&trace.len().to_string());
     let notation = number + MARGIN;
-    let answer = notation + widest("event", &|one| one.explained.event.clone()) + MARGIN + widest("answer", &answer);
+    let answer = notation + widest("event", &|one| one.explained.notation.clone()) + MARGIN + widest("answer", &answer);
     let sent_from = answer + MARGIN;
     Table { number, notation, answer, sent: sent_from, end: sent_from + widest("sends", &sent) }
 }

@@ -144,7 +144,7 @@ impl Picture<'_> {
     fn table_row(&self, out: &mut String, at: usize, one: &Happened) {
         let table = self.layout.table;
         text(out, "end", table.number, 4, &at.to_string());
-        text(out, "", table.notation, 4, &one.explained.event);
+        text(out, "", table.notation, 4, &one.explained.notation);
         let class = if one.answer == 0 { "answer end" } else { "answer end strong" };
         text(out, class, table.answer, 4, &answer(one));
         if let Some((_, message)) = one.sent {

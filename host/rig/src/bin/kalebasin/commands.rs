@@ -4,8 +4,10 @@ use crate::input::{judge, list, list_bytes, list_in_notation, list_of, list_refu
 use crate::options::Options;
 use crate::search;
 use crate::stop::{Stop, REFUSED};
+use crate::tree;
 use kalebasin::{EventList, Refusal};
 use kalebasin_rig::compare::{self, Left};
+use kalebasin_rig::explain::Explained;
 use kalebasin_rig::generate::Case;
 use kalebasin_rig::rehearsal::{REHEARSAL_STORE_ROWS, REHEARSAL_TABLE_ROWS};
 use kalebasin_rig::search::clean_case;
@@ -31,6 +33,7 @@ pub fn run(options: &Options, out: &mut dyn Write) -> Outcome {
         "decode" => decode(options, out),
         "rehearse" => rehearse(options, out),
         "message" => message(options, out),
+        "tree" => tree::tree(options, out),
         "search" => search::search(options, out),
         "compare" => search::compare(options, out),
         _ => causes(out),
@@ -116,36 +119,56 @@ pub fn explain_run(case: &Case, left: &Left, out: &mut dyn Write) -> Result<bool
 fn print_events(case: &Case, answers: &[u8], out: &mut dyn Write) -> Result<bool, Stop> {
     let (store_rows, table_rows) = case.lent.whole_rows();
     let explained = explain::explain(&case.list, store_rows, table_rows)?;
-    let width = explained.iter().map(|one| one.event.len()).max().unwrap_or(0);
-    let mut same = true;
-    for (at, (one, answer)) in explained.iter().zip(answers).enumerate() {
+    let lines = explained.into_iter().zip(answers).map(|(explained, answer)| {
         let number = u32::from(*answer);
-        writeln!(out, "{at:>4}  {:<width$}  {number:>2}  {}", one.event, one.words)?;
-        if number != one.answer {
-            same = false;
-            writeln!(out, "      THE MODEL ANSWERS {}", one.answer)?;
+        let otherwise = (number != explained.answer).then(|| format!("THE MODEL ANSWERS {}", explained.answer));
+        Line { explained, number, otherwise }
+    });
+    print_lines(&lines.collect::<Vec<_>>(), out)
+}
+
+/// An event or a call as it is printed.
+pub struct Line {
+    pub explained: Explained,
+    /// The number given.
+    pub number: u32,
+    /// What should be otherwise.
+    pub otherwise: Option<String>,
+}
+
+/// The lines, each with its place; whether nothing should be otherwise.
+pub fn print_lines(lines: &[Line], out: &mut dyn Write) -> Result<bool, Stop> {
+    let width = lines.iter().map(|line| line.explained.notation.len()).max().unwrap_or(0);
+    for (at, Line { explained, number, otherwise }) in lines.iter().enumerate() {
+        writeln!(out, "{at:>4}  {:<width$}  {number:>2}  {}", explained.notation, explained.words)?;
+        if let Some(otherwise) = otherwise {
+            writeln!(out, "      {otherwise}")?;
         }
     }
-    Ok(same)
+    Ok(lines.iter().all(|line| line.otherwise.is_none()))
 }
 
 fn print_counts(list: &EventList, left: &Left, out: &mut dyn Write) -> Result<(), Stop> {
     let Ok(played) = left.result else { return Ok(()) };
-    let count = |number: u32, what: &str| format!("{number} {what}{}", if number == 1 { "" } else { "s" });
     writeln!(
         out,
         "\n{} of {} accepted, {}, {}, {}",
         played.accepted,
-        count(list.events.len() as u32, "event"),
-        count(played.messages, "message"),
-        count(played.proposals, "proposal"),
-        count(played.decisions, "decision")
+        count(list.events.len(), "event"),
+        count(played.messages as usize, "message"),
+        count(played.proposals as usize, "proposal"),
+        count(played.decisions as usize, "decision")
     )?;
     Ok(())
 }
 
+/// `1 event` or `3 events`.
+pub fn count(number: usize, what: &str) -> String {
+    format!("{number} {what}{}", if number == 1 { "" } else { "s" })
+}
+
 /// Writes a file, if one is asked for.
-fn write_file(file: Option<&OsStr>, text: impl Fn() -> Result<String, Refusal>) -> Result<(), Stop> {
+pub fn write_file(file: Option<&OsStr>, text: impl Fn() -> Result<String, Refusal>) -> Result<(), Stop> {
     match file {
         Some(file) => fs::write(file, text()?).map_err(|error| Stop::file(Path::new(file).display(), &error)),
         None => Ok(()),

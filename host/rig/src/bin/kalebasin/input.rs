@@ -1,8 +1,9 @@
-//! What a command reads: lists in notation, in bytes and in hexadecimal digits.
+//! What a command reads: lists in notation, in bytes and in hexadecimal digits, and tree calls in notation.
 
 use crate::options::Options;
 use crate::stop::Stop;
-use kalebasin::{notation, EventList, Refusal};
+use kalebasin::notation::{self, Mistake};
+use kalebasin::{EventList, Refusal, TreeCallList};
 use kalebasin_rig::second::member::size_allowed;
 use kalebasin_rig::shape::misshape;
 use std::ffi::OsStr;
@@ -20,23 +21,34 @@ pub fn list(options: &Options) -> Result<EventList, Stop> {
 
 /// The list that the command line gives in notation.
 pub fn list_in_notation(options: &Options) -> Result<EventList, Stop> {
+    in_notation(options, |text| notation::parse(text, options.members))
+}
+
+/// The tree calls that the command line gives.
+pub fn tree_calls(options: &Options) -> Result<TreeCallList, Stop> {
+    in_notation(options, |text| notation::parse_tree(text, options.kind))
+}
+
+/// What the notation says that the command line gives. Digits where notation is due get a hint.
+fn in_notation<L>(options: &Options, parse: impl Fn(&str) -> Result<L, Mistake>) -> Result<L, Stop> {
+    let (name, text) = notation_given(options)?;
+    parse(&text).map_err(|mistake| {
+        let hint = if are_digits(&text) { hint("--hex", options) } else { String::new() };
+        format!("{name}: {mistake}{hint}").into()
+    })
+}
+
+/// The notation that the command line gives, behind what it is called in a mistake.
+fn notation_given(options: &Options) -> Result<(String, String), Stop> {
     if let Some(text) = &options.text {
-        return parse("-e", text, options);
+        return Ok(("-e".into(), text.clone()));
     }
     let bytes = file_or_input(options.file.as_deref())?;
     let name = name(options.file.as_deref());
     match String::from_utf8(bytes) {
-        Ok(text) if !text.contains(is_no_text) => parse(&name, &text, options),
-        _ => Err(format!("{name}: these are bytes, not notation; {}", hint("--bytes", options)).into()),
+        Ok(text) if !text.contains(is_no_text) => Ok((name, text)),
+        _ => Err(format!("{name}: these are bytes, not notation{}", hint("--bytes", options)).into()),
     }
-}
-
-/// Digits where notation is due get a hint.
-fn parse(name: &str, text: &str, options: &Options) -> Result<EventList, Stop> {
-    notation::parse(text, options.members).map_err(|mistake| {
-        let hint = if are_digits(text) { format!("; {}", hint("--hex", options)) } else { String::new() };
-        format!("{name}: {mistake}{hint}").into()
-    })
 }
 
 /// A letter that notation never has, but that the bytes of a list are full of.
@@ -49,13 +61,14 @@ fn are_digits(text: &str) -> bool {
     from_hex(text).is_ok_and(|bytes| !bytes.is_empty())
 }
 
-/// What takes bytes, or with `--hex` digits, that were given where notation is due.
+/// What takes bytes, or with `--hex` digits, that were given where notation is due; nothing where tree calls are.
 fn hint(option: &str, options: &Options) -> String {
     match (options.command.takes("--bytes"), option) {
-        (true, _) if options.text.is_some() => format!("{option} FILE is for the bytes of a list"),
-        (true, _) => format!("{option} is for the bytes of a list"),
-        (false, "--hex") => "decode --hex takes the bytes of a list".into(),
-        (false, _) => "decode takes the bytes of a list".into(),
+        _ if options.command.name == "tree" => String::new(),
+        (true, _) if options.text.is_some() => format!("; {option} FILE is for the bytes of a list"),
+        (true, _) => format!("; {option} is for the bytes of a list"),
+        (false, "--hex") => "; decode --hex takes the bytes of a list".into(),
+        (false, _) => "; decode takes the bytes of a list".into(),
     }
 }
 

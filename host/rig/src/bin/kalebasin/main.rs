@@ -6,6 +6,7 @@ mod options;
 mod progress;
 mod search;
 mod stop;
+mod tree;
 
 use options::Asked;
 use std::io::{self, Write};

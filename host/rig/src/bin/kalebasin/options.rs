@@ -1,7 +1,7 @@
 //! The command line: which commands there are, which options each takes, and what a given line asks for.
 
 use crate::stop::Stop;
-use kalebasin::{EventList, STORE_ROWS, TABLE_ROWS};
+use kalebasin::{EventList, TreeKind, STORE_ROWS, TABLE_ROWS};
 use std::ffi::OsString;
 use std::fmt::Write;
 use std::str::FromStr;
@@ -20,6 +20,10 @@ pub struct Command {
 const NOTATION: &str = "\
 A list is written  s(1,1,70) d(0,0)  : s(member,round,offer) starts a round, and d(message,member) delivers a message
 sent earlier, counted from 0. The office has 3 members; n=5 or n=7 in front gives it more. # starts a comment.
+";
+const TREE_NOTATION: &str = "\
+Tree calls are written  add(1,70,0) commit(1)  : add(round,value,parent), commit(round), path(round) and fresh. The tree
+is one of values; kind=command in front makes it one of commands, in which a node has any value. # starts a comment.
 ";
 const FILE_OR_INPUT: &str = "Without FILE, or where it is -, standard input is read.\n";
 
@@ -65,6 +69,13 @@ const COMMANDS: &[Command] = &[
         more: "Blanks and colons may stand between bytes, and 0x before them. Where DIGITS is -, standard input is read.\n",
     },
     Command {
+        name: "tree",
+        operand: Some("[FILE]"),
+        about: "makes tree calls on a fresh table, explains them one by one and draws the tree",
+        more: "Without FILE, or where it is -, standard input is read. Standard output has the calls themselves, so --dot and --svg\n\
+               don't take -. A path is lent a word for each row of the table.\n",
+    },
+    Command {
         name: "search",
         operand: Some("[FILE]"),
         about: "tries lists for a property that fails, and explains the shortest found",
@@ -95,7 +106,10 @@ const CHOICES: &[Choice] = &[
     Choice {
         name: "-e",
         value: Some("TEXT"),
-        uses: &[(&["run", "draw", "encode", "search"], "the list's notation, instead of FILE")],
+        uses: &[
+            (&["run", "draw", "encode", "search"], "the list's notation, instead of FILE"),
+            (&["tree"], "the calls' notation, instead of FILE"),
+        ],
         set: |options, value| text("-e", value).map(|text| options.text = Some(text)),
     },
     Choice {
@@ -106,6 +120,12 @@ const CHOICES: &[Choice] = &[
             (&["search"], "the number of members where the notation has no n= (3); only random lists for N members"),
         ],
         set: |options, value| number("--members", value, 0, u32::MAX).map(|n| options.members = Some(n)),
+    },
+    Choice {
+        name: "--kind",
+        value: Some("K"),
+        uses: &[(&["tree"], "the kind of tree where the notation has no kind=: value or command (value)")],
+        set: |options, value| kind("--kind", value).map(|kind| options.kind = Some(kind)),
     },
     Choice {
         name: "--bytes",
@@ -142,7 +162,7 @@ const CHOICES: &[Choice] = &[
         name: "--table-rows",
         value: Some("R"),
         uses: &[
-            (&["run", "draw"], "rows of the table, 1 to 256 (64)"),
+            (&["run", "draw", "tree"], "rows of the table, 1 to 256 (64)"),
             (&["search"], "with a list or --all: rows of the table, 1 to 256 (64)"),
         ],
         set: |options, value| number("--table-rows", value, 1, TABLE_ROWS).map(|rows| options.table_rows = Some(rows)),
@@ -156,13 +176,13 @@ const CHOICES: &[Choice] = &[
     Choice {
         name: "--dot",
         value: Some("FILE"),
-        uses: &[(&["run"], "writes the tree to FILE in the DOT language")],
+        uses: &[(&["run", "tree"], "writes the tree to FILE in the DOT language")],
         set: |options, value| file("--dot", value).map(|file| options.dot = Some(file)),
     },
     Choice {
         name: "--svg",
         value: Some("FILE"),
-        uses: &[(&["run"], "writes the tree to FILE as a picture")],
+        uses: &[(&["run", "tree"], "writes the tree to FILE as a picture")],
         set: |options, value| file("--svg", value).map(|file| options.svg = Some(file)),
     },
     Choice {
@@ -221,7 +241,7 @@ const CHOICES: &[Choice] = &[
         name: "--second",
         value: None,
         uses: &[(
-            &["run", "draw", "rehearse", "message", "search"],
+            &["run", "draw", "rehearse", "message", "tree", "search"],
             "works on the second implementation instead of the proved core",
         )],
         set: |options, _| {
@@ -240,8 +260,9 @@ impl Choice {
 
 /// The tool's help.
 pub fn help() -> String {
-    let mut text =
-        format!("kalebasin: tools for the rig\n\nusage: kalebasin COMMAND [OPTIONS] [FILE]\n\n{NOTATION}\nCommands\n");
+    let mut text = format!(
+        "kalebasin: tools for the rig\n\nusage: kalebasin COMMAND [OPTIONS] [FILE]\n\n{NOTATION}\n{TREE_NOTATION}\nCommands\n"
+    );
     for command in COMMANDS {
         let _ = writeln!(text, "  {:<9} {}", command.name, command.about);
     }
@@ -249,13 +270,14 @@ pub fn help() -> String {
   kalebasin COMMAND --help shows what a command takes; --name=value is --name value; behind -- all is FILE;
   --version prints the tool's version.
 
-Exit status: 0 done; 1 the list or message is refused, a property fails, or an answer isn't that of the model; 2 a mistake
-in the notation or the command, or something that can't be read or written. Refusals and mistakes are told on standard
-error.
+Exit status: 0 done; 1 the list or message is refused, a property fails, an answer isn't that of the model, or a tree call
+isn't answered as by the second implementation; 2 a mistake in the notation or the command, or something that can't be read or
+written. Refusals and mistakes are told on standard error.
 
 Try
   kalebasin run -e 's(1,1,70) d(0,0) d(0,1) d(1,1) d(2,1) d(3,0) d(3,1) d(4,1) d(5,1)'
   kalebasin search --property no-late-decision
+  kalebasin tree --kind command -e 'add(1,70,0) add(2,80,1) commit(2) path(2)'
 ";
     text
 }
@@ -265,15 +287,22 @@ impl Command {
     pub fn help(&self) -> String {
         let operand = self.operand.map_or(String::new(), |operand| format!(" {operand}"));
         let mut text = format!("usage: kalebasin {} [OPTIONS]{operand}\n\n{}\n{}", self.name, self.about, self.more);
-        if self.takes("-e") {
-            text += NOTATION;
-        }
+        text += self.notation();
         text += "\nOptions\n";
         for (choice, about) in self.choices() {
             let name = choice.value.map_or(choice.name.into(), |value| format!("{} {value}", choice.name));
             let _ = writeln!(text, "  {name:<17} {}", about.replace('\n', "\n                    "));
         }
         text + "  --help            prints this\n"
+    }
+
+    /// The notation that it takes, in words.
+    fn notation(&self) -> &'static str {
+        match self.takes("-e") {
+            true if self.takes("--kind") => TREE_NOTATION,
+            true => NOTATION,
+            false => "",
+        }
     }
 
     /// The options that it takes, each with what it does.
@@ -302,6 +331,7 @@ pub struct Options {
     pub file: Option<OsString>,
     pub text: Option<String>,
     pub members: Option<u32>,
+    pub kind: Option<TreeKind>,
     pub bytes: bool,
     pub hex: bool,
     pub store_rows: Option<usize>,
@@ -412,6 +442,7 @@ impl Options {
             file: None,
             text: None,
             members: None,
+            kind: None,
             bytes: false,
             hex: false,
             store_rows: None,
@@ -482,6 +513,12 @@ impl Options {
 /// A value that has to be text.
 pub fn text(name: &str, value: OsString) -> Result<String, Stop> {
     value.into_string().map_err(|value| format!("{name} isn't UTF-8: {}", value.to_string_lossy()).into())
+}
+
+/// The kind of a tree.
+fn kind(name: &str, value: OsString) -> Result<TreeKind, Stop> {
+    let text = value.to_string_lossy();
+    TreeKind::from_name(&text).ok_or_else(|| format!("{name} takes value or command, not {text}").into())
 }
 
 /// A file to write; - would be standard output, which has the run itself.

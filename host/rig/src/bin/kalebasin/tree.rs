@@ -1,0 +1,48 @@
+//! The command that makes tree calls.
+
+use crate::commands::{calls, count, print_lines, status, write_file, Line, Outcome};
+use crate::input::tree_calls;
+use crate::options::Options;
+use crate::stop::Stop;
+use kalebasin::{nodes, Status};
+use kalebasin_rig::draw;
+use kalebasin_rig::explain_tree::{explain, Called};
+use kalebasin_rig::rehearsal::REHEARSAL_TABLE_ROWS;
+use std::io::Write;
+
+/// Makes the calls on a fresh table: each in words, the counts and the tree.
+pub fn tree(options: &Options, out: &mut dyn Write) -> Outcome {
+    let list = tree_calls(options)?;
+    let (calls, rows) = (calls(options), options.table_rows.unwrap_or(REHEARSAL_TABLE_ROWS));
+    let (called, table) = explain(&calls, &list, rows)?;
+    writeln!(out, "{} tree, {rows} table rows, on {}\n", list.kind, calls.name)?;
+    let accepted = called.iter().filter(|one| one.answer == 0).count();
+    let lines: Vec<Line> = called.into_iter().map(line).collect();
+    let as_the_second = print_lines(&lines, out)?;
+    print_counts(accepted, lines.len(), &table, out)?;
+    write!(out, "\n{}", draw::text(&table))?;
+    write_file(options.dot.as_deref(), || Ok(draw::dot(&table)))?;
+    write_file(options.svg.as_deref(), || Ok(draw::svg(&table)))?;
+    status(as_the_second)
+}
+
+fn line(called: Called) -> Line {
+    let Called { answer, explained, difference } = called;
+    let otherwise = difference.map(|difference| format!("THE SECOND IMPLEMENTATION {difference}"));
+    Line { explained, number: answer, otherwise }
+}
+
+/// How many calls were accepted, and how many nodes beside the root have each status.
+fn print_counts(accepted: usize, calls: usize, table: &[u64], out: &mut dyn Write) -> Result<(), Stop> {
+    let of = |status: Status| nodes(table).skip(1).filter(|node| node.status == status).count();
+    writeln!(
+        out,
+        "\n{accepted} of {} accepted, {} beside the root: {} ADDED, {} GHOST, {} COMMITTED",
+        count(calls, "call"),
+        count(nodes(table).skip(1).count(), "node"),
+        of(Status::Added),
+        of(Status::Ghost),
+        of(Status::Committed)
+    )?;
+    Ok(())
+}
