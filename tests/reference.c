@@ -1,7 +1,7 @@
 /* Asks the archive what the examples of docs/REFERENCE.md ask. A line is a question, and gets a line of answer, an accepted list two:
      message HEX, list HEX, cause NUMBER; fresh(ROWS), add(ROUND,VALUE,PARENT), commit(ROUND), path(ROUND), path(ROUND) into COUNT words and
-     nodes of one table; fresh(NUMBER,N), start(ROUND,OFFER), deliver HEX and record of one member;
-     write(KIND,ROUND,SENDER,PRESENT,VOTED,VALUE). */
+     nodes of one table, a call with "command " in front by the functions of a tree of commands; fresh(NUMBER,N), start(ROUND,OFFER), deliver HEX and
+     record of one member; write(KIND,ROUND,SENDER,PRESENT,VOTED,VALUE). */
 #include "hex.h"
 #include "words.h"
 #include <string.h>
@@ -31,8 +31,17 @@ static void put_played(size_t n) {
     put_nodes(TABLE_ROWS);
 }
 
-static void put_path(size_t rows, uint32_t round, size_t room) {
-    KalebasinPathResult r = kalebasin_tree_path(table, 4 * rows, round, rounds, room);
+/* The calls of a kind of tree. */
+typedef struct {
+    uint32_t (*add)(uint64_t *, size_t, uint32_t, uint64_t, uint32_t);
+    uint32_t (*commit)(uint64_t *, size_t, uint32_t);
+    KalebasinPathResult (*path)(const uint64_t *, size_t, uint32_t, uint64_t *, size_t);
+} Tree;
+
+static const Tree of_values = {kalebasin_tree_add, kalebasin_tree_commit, kalebasin_tree_path};
+static const Tree of_commands = {kalebasin_command_add, kalebasin_command_commit, kalebasin_command_path};
+
+static void put_path(KalebasinPathResult r) {
     printf("%u", r.number);
     for (uint32_t i = 0; i < r.count; i++) printf("%s %llu", i ? "" : ":", (unsigned long long)rounds[i]);
 }
@@ -68,6 +77,9 @@ int main(void) {
     while (fgets(line, sizeof line, stdin)) {
         unsigned a, b, c, d, p;
         unsigned long long v;
+        const int commands = !strncmp(line, "command ", 8);
+        const Tree *tree = commands ? &of_commands : &of_values;
+        const char *call = line + (commands ? 8 : 0);
         if (!strncmp(line, "message ", 8)) put_words(stdout, kalebasin_read_message((uint8_t *)data, bytes_of(line + 8, data, ROOM)));
         else if (!strncmp(line, "list ", 5)) put_played(bytes_of(line + 5, data, ROOM));
         else if (sscanf(line, "cause %u", &a) == 1) printf("%s", kalebasin_cause(a));
@@ -78,10 +90,10 @@ int main(void) {
         else if (!strncmp(line, "record", 6)) put_record(record);
         else if (sscanf(line, "write(%u,%u,%u,%u,%u,%llu)", &a, &b, &c, &d, &p, &v) == 6) put_written(a, b, c, d, p, v);
         else if (sscanf(line, "fresh(%u)", &a) == 1 && a <= TABLE_ROWS) printf("%u", kalebasin_tree_fresh(table, 4 * (rows = a)));
-        else if (sscanf(line, "add(%u,%llu,%u)", &a, &v, &p) == 3) printf("%u", kalebasin_tree_add(table, 4 * rows, a, v, p));
-        else if (sscanf(line, "commit(%u)", &a) == 1) printf("%u", kalebasin_tree_commit(table, 4 * rows, a));
-        else if (sscanf(line, "path(%u) into %u words", &a, &p) == 2 && p <= TABLE_ROWS) put_path(rows, a, p);
-        else if (sscanf(line, "path(%u)", &a) == 1) put_path(rows, a, TABLE_ROWS);
+        else if (sscanf(call, "add(%u,%llu,%u)", &a, &v, &p) == 3) printf("%u", tree->add(table, 4 * rows, a, v, p));
+        else if (sscanf(call, "commit(%u)", &a) == 1) printf("%u", tree->commit(table, 4 * rows, a));
+        else if (sscanf(call, "path(%u) into %u words", &a, &p) == 2 && p <= TABLE_ROWS) put_path(tree->path(table, 4 * rows, a, rounds, p));
+        else if (sscanf(call, "path(%u)", &a) == 1) put_path(tree->path(table, 4 * rows, a, rounds, TABLE_ROWS));
         else if (!strncmp(line, "nodes", 5)) put_nodes(rows);
         else printf("no question: %s", line);
         putchar('\n');

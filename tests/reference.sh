@@ -59,6 +59,9 @@ for example in '^START ' '^JOIN .* never voted$' '^JOIN .*, which voted for ' '^
     '^answers:.* 0( |$)' '^nodes: .*,' '^refused with 26:' '^refused with 27:' '^0: 00000002 ' '^0, sends ' ', makes add' ', makes commit'; do
     check "no example with $example" has_examples 1 "$example"
 done
+for call in add commit path; do
+    check "no example of a command tree's $call" grep -q "^command $call(" "$work/asked"
+done
 check "fewer than three examples with 14" has_examples 3 '^refused with 14:'
 check "fewer than two examples with 16" has_examples 2 '^refused with 16:'
 check "other numbers than the C header's" has_the_header_s_numbers
