@@ -48,7 +48,7 @@
 //! # Ok::<(), Refusal>(())
 //! ```
 //!
-//! ```compile_fail,E0277
+//! ```compile_fail,E0308
 //! use kalebasin::{CommandTree, ValueTree};
 //!
 //! let words = [0, 0, 0, 3];
@@ -66,7 +66,7 @@ pub type ValueTree<T> = Tree<Value, T>;
 pub type CommandTree<T> = Tree<Command, T>;
 
 /// A tree of the kind `K` in the words of `T`. See [the module](self).
-#[derive(Clone, Copy, Debug, PartialEq, Eq, Hash)]
+#[derive(Clone, Debug, PartialEq, Eq, Hash)]
 pub struct Tree<K, T> {
     table: T,
     kind: PhantomData<K>,
