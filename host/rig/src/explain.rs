@@ -9,7 +9,7 @@ use kalebasin::{Event, EventList, Member, Message, MessageNumber, Refusal};
 pub struct Explained {
     /// The event or call in the rig's notation.
     pub notation: String,
-    /// The answer that the model gives, to a call the second implementation.
+    /// The answer of the model; to a call that of the second implementation.
     pub answer: u32,
     /// What happened, or why nothing did.
     pub words: String,
