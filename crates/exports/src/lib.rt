@@ -18,7 +18,7 @@ ghost use Rattle.play_run.specs.Lent.{as-lent};
 ghost use Rattle.play.specs.Promise.{Given};
 ghost use Rattle.exports.specs.Results.{as-play-answer, voteless, message-result, refused-result, read-result};
 
-// The version of the C functions. It goes up with each change that a caller sees.
+// The version of the C functions, one number for both archives. It goes up with each change that a caller of either sees.
 const VERSION: u32 = 2;
 
 #[no_mangle]
@@ -195,7 +195,7 @@ pub struct PathResult {
 }
 
 // path(round) of either kind of tree: the rounds from the root to this one, written from the first word.
-fn path_on_table(valued: bool, nodes: &[u64], round: u32, out: &mut [u64]) -> PathResult
+fn path_result(valued: bool, nodes: &[u64], round: u32, out: &mut [u64]) -> PathResult
     ensures { λ r. ⌜ PathGiven valued (now (nodes .entry)) round (now (out .entry)) (r .number) (r .count) (now (out .exit)) ⌝ }
 {
     let a = tree::path_on_table(valued, nodes, Round(round), out);
@@ -210,12 +210,12 @@ fn path_on_table(valued: bool, nodes: &[u64], round: u32, out: &mut [u64]) -> Pa
 pub extern "C" fn kalebasin_tree_path(nodes: &[u64], round: u32, out: &mut [u64]) -> PathResult
     ensures { λ r. ⌜ PathGiven true (now (nodes .entry)) round (now (out .entry)) (r .number) (r .count) (now (out .exit)) ⌝ }
 {
-    path_on_table(true, nodes, round, out)
+    path_result(true, nodes, round, out)
 }
 
 #[no_mangle]
 pub extern "C" fn kalebasin_command_path(nodes: &[u64], round: u32, out: &mut [u64]) -> PathResult
     ensures { λ r. ⌜ PathGiven false (now (nodes .entry)) round (now (out .entry)) (r .number) (r .count) (now (out .exit)) ⌝ }
 {
-    path_on_table(false, nodes, round, out)
+    path_result(false, nodes, round, out)
 }

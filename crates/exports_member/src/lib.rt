@@ -15,7 +15,7 @@ ghost use Rattle.exports_member.specs.Members.{fields-after, call-result
 ghost use Rattle.exports_member.specs.Members.{member-result, fresh-outcome, start-outcome, deliver-outcome};
 ghost use Rattle.exports_member.specs.Members.{write-result, written-after};
 
-// The version of these C functions. It goes up with each change that a caller sees.
+// The version of the C functions, one number for both archives. It goes up with each change that a caller of either sees.
 const VERSION: u32 = 2;
 
 #[no_mangle]

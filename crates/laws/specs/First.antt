@@ -1,5 +1,5 @@
 -- Refusals in order: a list of causes, each with its number; the answer is the first number whose cause holds, else 0.
-use mathlib.Core.Path.{_≡_, refl}
+use mathlib.Core.Path.{_≡_, refl, sym}
 use mathlib.Core.Bool.{Bool, true, false, cond, _&&_, not}
 use mathlib.Core.List.{List, [], _∷_, _++_}
 use Prim.Native.Nat.{ℕ}
@@ -21,10 +21,14 @@ abbrev pub first : List Cause → ℕ
 first [] = 0
 first (c ∷ cs) = cond (c .holds) (c .number) (first cs)
 
+-- no cause has this number
+abbrev pub without : ℕ → List Cause → Bool
+without n [] = true
+without n (c ∷ cs) = not (eqb (c .number) n) && without n cs
+
 -- no number is 0
 abbrev pub numbered : List Cause → Bool
-numbered [] = true
-numbered (c ∷ cs) = not (eqb (c .number) 0) && numbered cs
+numbered cs = without 0 cs
 
 -- no cause holds
 abbrev pub AllPassed : List Cause → Type 0
@@ -42,6 +46,14 @@ passed (c ∷ cs) n h =
 pub zero-of : (cs : List Cause) → AllPassed cs → first cs ≡ 0
 zero-of [] p = refl
 zero-of (c ∷ cs) p = rw (p .0) (zero-of cs (p .1))
+
+-- a number that no cause has isn't given
+pub not-given : (n : ℕ) (cs : List Cause) → without n cs ≡ true → (n ≡ 0 → ⊥) → first cs ≡ n → ⊥
+not-given n [] w z h = z (sym h)
+not-given n (c ∷ cs) w z h =
+    by-test (c .holds)
+    (λ t. let e : c .number ≡ n = rw t at h in clash (rw (eq-eqb (c .number) n e) at (and-left (not (eqb (c .number) n)) (without n cs) w)) refl)
+    (λ t. not-given n cs (and-right (not (eqb (c .number) n)) (without n cs) w) z (rw t at h))
 
 -- where a cause of the first list holds, the causes behind it don't count; where none does, they alone do
 pub first-front : (cs ds : List Cause) → (first cs ≡ 0 → ⊥) → first (cs ++ ds) ≡ first cs

@@ -30,7 +30,7 @@ pub record Placed (valued : Bool) (earlier : List Node) (n : Node) : Type 0 wher
   -- the parent is an earlier round, and lower
   pub parent-there : present (n .parent) earlier ≡ true
   pub lower : n .parent < n .round
-  -- the value is the parent's, unless that is the root
+  -- in a value tree, the value is the parent's, unless that is the root
   pub same-value : valued ≡ true → 0 < n .parent → n .value ≡ find (n .parent) earlier .value
 
 pub record Grown (valued : Bool) (rows : ℕ) (ns : List Node) : Type 0 where

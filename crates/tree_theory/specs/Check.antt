@@ -25,7 +25,7 @@ round-fits earlier n = not (out-of-range (n .round)) && not (present (n .round) 
 abbrev pub parent-fits : List Node → Node → Bool
 parent-fits earlier n = present (n .parent) earlier && ltb (n .parent) (n .round)
 
--- the value is the parent's, unless that is the root
+-- in a value tree, the value is the parent's, unless that is the root
 abbrev pub value-fits : Bool → List Node → Node → Bool
 value-fits valued earlier n = not (valued && other-value earlier (n .value) (n .parent))
 

@@ -1,4 +1,4 @@
--- The meanings of document 01, "The tree", from its words; and the code's test of a table (Check).
+-- The meanings of document 01, "The tree", and of 02, ticket 1, from their words; and the code's test of a table (Check).
 pub mod Machine
 pub mod Properties
 pub mod Table

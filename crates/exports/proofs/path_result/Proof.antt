@@ -1,11 +1,11 @@
--- `exports::path_on_table` meets its contract: the count fits 32 bits, and so it is the one that `tree::path_on_table` promises.
+-- `exports::path_result` meets its contract: the count fits 32 bits, and so it is the one that `tree::path_on_table` promises.
 -- Assumes nothing.
 use native.Mathlib.Omega.{arith}
 use borrow.Author.Needs.{needs}
 use denote.Ref.{now}
 use Rattle.exports.proofs.PathCount.{count-fits}
-use Rattle.exports.proofs.path_on_table.Statement.{statement}
-use Rattle.exports.proofs.path_on_table.Tie as tie
+use Rattle.exports.proofs.path_result.Statement.{statement}
+use Rattle.exports.proofs.path_result.Tie as tie
 
 path-on-table-requires : tie.Need-path-on-table-requires
 path-on-table-requires c κs = search needs
@@ -22,5 +22,5 @@ same-length c = search needs
 returns : tie.Need-returns
 returns c = search needs
 
-pub path-on-table-spec : {M : Type 1} → statement M
-path-on-table-spec = tie.close (tie.spec path-on-table-requires cast-count same-length returns)
+pub path-result-spec : {M : Type 1} → statement M
+path-result-spec = tie.close (tie.spec path-on-table-requires cast-count same-length returns)
