@@ -9,8 +9,8 @@ use crate::shrink::shortest;
 use crate::Calls;
 use kalebasin::notation::parse;
 use kalebasin::{
-    number_of, Event, EventList, Member, MemberFields, Message, MessageNumber, Refusal, Report, Round, TreeCall,
-    TreeKind, Vote, STORE_ROW, TABLE_ROW,
+    nodes, number_of, Event, EventList, Member, MemberFields, Message, MessageNumber, Node, Refusal, Report, Round,
+    TreeCall, TreeKind, Vote, STORE_ROW, TABLE_ROW,
 };
 use std::collections::BTreeSet;
 
@@ -521,7 +521,8 @@ fn compare_tree(calls: Pair, kind: TreeKind, table: &[u64], call: TreeCall, room
     let of = |at: usize| {
         format!("{}: {:?}, table {:?}, path {:?}", names[at], left[at].answer, left[at].table, left[at].out)
     };
-    Err(format!("kind={kind} {call} with {room} words for a path on the table {table:?}\n{}\n{}", of(0), of(1)))
+    let room = if let TreeCall::Path(_) = call { format!(" with {room} words lent") } else { String::new() };
+    Err(format!("kind={kind} {call}{room} on the table {table:?}\n{}\n{}", of(0), of(1)))
 }
 
 /// Every table of three rows with small words, and every call of either kind with small numbers on it.
@@ -566,7 +567,8 @@ pub fn random_trees(calls: Pair, seed: u64, trees: usize) -> Compared {
         (calls[1].tree_fresh)(&mut table).map_err(|refusal| refusal.to_string())?;
         let highest = *random.pick(&[rows + 3, 3 * rows + 3, 1_000_002]);
         for _ in 0..random.between(1, 2 * rows.min(60)) {
-            let (call, room) = (random_call(&mut random, highest), random.below(8));
+            let (call, few) = (random_call(&mut random, &table, highest), random.below(8));
+            let room = *random.pick(&[few, rows]);
             for table in [&table, &damaged(&table, &mut random)] {
                 for kind in TreeKind::ALL {
                     compare_tree(calls, kind, table, call, room)?;
@@ -582,15 +584,22 @@ pub fn random_trees(calls: Pair, seed: u64, trees: usize) -> Compared {
     Ok(compared)
 }
 
-fn random_call(random: &mut Random, highest: usize) -> TreeCall {
-    let round = Round(random.between(0, highest) as u32);
-    match random.below(100) {
-        0..=1 => TreeCall::Fresh,
-        2..=70 => {
+/// A call about a round up to `highest`, or about one of the last nodes that are there: adds below those make long paths.
+fn random_call(random: &mut Random, table: &[u64], highest: usize) -> TreeCall {
+    let there: Vec<Node> = nodes(table).collect();
+    let node = random.chance(50).then(|| *random.pick(&there[there.len().saturating_sub(3)..]));
+    let round = node.map_or(Round(random.between(0, highest) as u32), |node| node.round);
+    match (random.below(100), node) {
+        (0..=1, _) => TreeCall::Fresh,
+        (2..=70, Some(Node { round: parent, value, .. })) => {
+            let round = Round(parent.0 + random.between(1, 3) as u32);
+            TreeCall::Add { round, value: *random.pick(&[value, value, value, 6]), parent }
+        }
+        (2..=70, None) => {
             let parent = if random.chance(50) { 0 } else { random.below(round.0 as usize + 2) };
             TreeCall::Add { round, value: *random.pick(&[5, 5, 5, 6]), parent: Round(parent as u32) }
         }
-        71..=85 => TreeCall::Commit(round),
+        (71..=85, _) => TreeCall::Commit(round),
         _ => TreeCall::Path(round),
     }
 }

@@ -84,6 +84,7 @@ const FAULTS: &[Fault] = &[
         "if check_fields(message).is_ok() && buffer.len() < Message::LONGEST {",
     ),
     Fault("a path that just fits is refused", "tree.rs", "if out.len() < count {", "if out.len() <= count {"),
+    Fault("a long path is refused", "tree.rs", "if out.len() < count {", "if out.len() < count || count > 12 {"),
     Fault(
         "check 7 is kept in a command tree's add",
         "tree.rs",
