@@ -23,6 +23,17 @@ other_version_told() {
         grep -q "^lib$crate.a has the calls of version 99, the crate kalebasin those of version 2\$" "$work/told"
 }
 
+# An archive whose two adds are exchanged: the tool says of a tree call what the second implementation does otherwise, and has the status of that.
+difference_told() {
+    rm -rf "$work/other" && mkdir "$work/other" && cp "${archives[@]}" "$work/other" && (
+        cd "$work/other" && ar x libexports.a &&
+            objcopy --redefine-sym kalebasin_tree_add=exchanged --redefine-sym kalebasin_command_add=kalebasin_tree_add exports.o &&
+            objcopy --redefine-sym exchanged=kalebasin_command_add exports.o && ar rc libexports.a exports.o
+    ) || return
+    (cd host && KALEBASIN_LIB=$work/other cargo run --offline --quiet -- tree -e 'add(1,5,0) add(2,6,1)') >"$work/told"
+    [ $? -eq 1 ] && [ "$(grep -c '[A-Z] IMPLEMENTATION' "$work/told")" -eq 1 ] && grep -qx ' *THE SECOND IMPLEMENTATION ANSWERS 7' "$work/told"
+}
+
 build_examples() {
     (cd host && cargo build --offline --examples)
 }
@@ -67,6 +78,7 @@ check "the example machines doesn't tell that it can't write" unwritten_told "$e
 check "the example machines takes other arguments than its own" arguments_told "$examples/machines"
 check "an archive of another version isn't told" other_version_told exports kalebasin_version
 check "an archive of another version with one member isn't told" other_version_told exports_member kalebasin_member_version
+check "a tree call that the core answers otherwise isn't told" difference_told
 
 cargo_tests --no-fail-fast
 passed=$((passed + ran))
