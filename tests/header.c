@@ -1,4 +1,4 @@
-/* Calls each function of kalebasin.h and expects what document 01 says: its rehearsal, a message, a member, a tree of each kind of two rounds, and refusals;
+/* Calls each function of kalebasin.h and expects what documents 01 and 02 say: its rehearsal, a message, a member, a tree of each kind of two rounds, and refusals;
    slices of no elements, also null ones, and bytes at odd addresses. */
 #include "kalebasin.h"
 #include <stdio.h>

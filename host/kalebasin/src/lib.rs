@@ -60,5 +60,6 @@ pub use proved::{play, read_message, MemberRecord};
 pub use refusal::{number_of, NoRefusal, Refusal};
 pub use store::sent;
 #[cfg(feature = "core")]
+#[doc(inline)]
 pub use tree::{CommandTree, ValueTree};
 pub use tree_call::{TreeCall, TreeCallList, TreeKind};

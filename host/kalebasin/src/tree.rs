@@ -4,7 +4,8 @@
 //! has any value: each command follows a named earlier one. Both are the same table and have the same calls; only a value tree's `add`
 //! checks the value (7), and so there are tables that are command trees and no value trees.
 //!
-//! `T` is what holds the words, four a row: `&mut [u64]`, `Vec<u64>`, `[u64; 256]`; `&[u64]` is enough to read.
+//! `T` is what holds the words, four a row: `&mut [u64]`, `Vec<u64>`, `[u64; 256]`; `&[u64]` is enough to read. An array that is handed
+//! over is copied: where the words themselves are to change, they are lent, as `&mut words` is.
 //!
 //! ```
 //! use kalebasin::{CommandTree, Refusal, Round, ValueTree};
@@ -60,9 +61,9 @@ use crate::proved::{accepted, compare_versions};
 use crate::{nodes, Node, Refusal, Round};
 use std::marker::PhantomData;
 
-/// A tree of values.
+/// A tree of values: a node has its parent's, unless that is the root. Its calls are those of [`Tree`].
 pub type ValueTree<T> = Tree<Value, T>;
-/// A tree of commands.
+/// A tree of commands, each after a named earlier one: a node has any value. Its calls are those of [`Tree`].
 pub type CommandTree<T> = Tree<Command, T>;
 
 /// A tree of the kind `K` in the words of `T`. See [the module](self).
@@ -80,7 +81,7 @@ pub enum Value {}
 #[derive(Clone, Copy, Debug, PartialEq, Eq, Hash)]
 pub enum Command {}
 
-/// [`Value`] or [`Command`].
+/// [`Value`] or [`Command`]; no other type is one.
 pub trait Kind: sealed::Functions {}
 
 impl Kind for Value {}
@@ -139,7 +140,8 @@ impl<K: Kind, T> Tree<K, T> {
 }
 
 impl<K: Kind, T: AsMut<[u64]>> Tree<K, T> {
-    /// Makes a table fresh: the root in the first row, all else free. What it held before doesn't matter.
+    /// Makes a table fresh: the root in the first row, all else free. What it held before doesn't matter. Words that are owned are
+    /// dropped where they are refused.
     ///
     /// # Errors
     /// 1.

@@ -2,7 +2,7 @@
 
 use kalebasin::{Member, MemberFields, Message, Played, Refusal, Report, Round, TreeCall, TreeKind};
 
-/// The calls of one implementation. Each has the meaning of the function of that name at the front of `kalebasin`.
+/// The calls of one implementation. Each has the meaning of the function or method of `kalebasin` that is named with it.
 #[allow(clippy::type_complexity)]
 #[derive(Clone, Copy)]
 pub struct Calls {

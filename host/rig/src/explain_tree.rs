@@ -140,7 +140,7 @@ fn why(before: &[Node], call: TreeCall, refusal: Refusal) -> Option<String> {
             let Node { parent, value, status, .. } = node(round)?;
             format!("it is there already, {status} below {} with the value {value}", named(*parent))
         }
-        (Refusal::ParentAbsent, TreeCall::Add { parent, .. }) => format!("round {parent} was never added"),
+        (Refusal::ParentAbsent, TreeCall::Add { parent, .. }) => format!("round {parent} isn't there"),
         (Refusal::ParentNotBelow, TreeCall::Add { round, parent, .. }) => format!("{parent} isn't below {round}"),
         (Refusal::ValueDiffers, TreeCall::Add { parent, .. }) => {
             format!("the value of round {parent} is {}", node(parent)?.value)
@@ -151,8 +151,8 @@ fn why(before: &[Node], call: TreeCall, refusal: Refusal) -> Option<String> {
             let verb = if crossed.len() == 1 { "is" } else { "are" };
             format!("its edge crosses {}, which {verb} COMMITTED", all_named(crossed))
         }
-        (Refusal::NoFreeRow, _) => format!("the table has {} rows, and none is free", before.len()),
-        (Refusal::RoundAbsent, _) => "it was never added".into(),
+        (Refusal::NoFreeRow, _) => format!("all rows of the table ({}) are taken", before.len()),
+        (Refusal::RoundAbsent, _) => "it isn't there".into(),
         (Refusal::IsCommitted, _) => "it is COMMITTED already".into(),
         (Refusal::IsGhost, TreeCall::Commit(round)) => {
             let edge = before.iter().find(|node| node.parent < round && round < node.round)?;

@@ -260,15 +260,15 @@ fn refused_tree_calls_in_words() {
         " 3  round 0 can't be committed: rounds run from 1 to 1,000,000",
         " 3  round 1000001 has no path: rounds run from 1 to 1,000,000",
         " 4  round 4 can't be added below the root with the value 5: it is there already, COMMITTED below round 2 with the value 5",
-        " 5  round 6 can't be added below round 5 with the value 5: round 5 was never added",
-        " 5  round 5 can't be added below round 4294967295 with the value 5: round 4294967295 was never added",
+        " 5  round 6 can't be added below round 5 with the value 5: round 5 isn't there",
+        " 5  round 5 can't be added below round 4294967295 with the value 5: round 4294967295 isn't there",
         " 6  round 1 can't be added below round 2 with the value 5: 2 isn't below 1",
         " 8  round 9 can't be added below the root with the value 5: its edge crosses round 4, which is COMMITTED",
         " 7  round 9 can't be added below round 4 with the value 6: the value of round 4 is 5",
         " 0  round 9 is ADDED below round 4, with the value 5",
-        " 9  round 10 can't be added below round 9 with the value 5: the table has 5 rows, and none is free",
-        "10  round 7 can't be committed: it was never added",
-        "10  round 7 has no path: it was never added",
+        " 9  round 10 can't be added below round 9 with the value 5: all rows of the table (5) are taken",
+        "10  round 7 can't be committed: it isn't there",
+        "10  round 7 has no path: it isn't there",
         "11  round 4 can't be committed: it is COMMITTED already",
         "12  round 3 can't be committed: it is GHOST, for the edge from round 4 to round 2 crosses it",
         " 0  the path of the root is 0",
@@ -300,8 +300,7 @@ fn struck_rounds_in_words() {
         let struck = "round 4 is ADDED below the root, with the value 6; its edge crosses rounds 1, 2 and 3, which become GHOST\n";
         assert!(status == 0 && out.contains(struck), "{out}");
         assert!(out.contains("  0  the path of round 3 is 0, 1, 2, 3\n"), "{out}");
-        let end =
-            "  0  the table has the root alone\n   6  path(3)     10  round 3 has no path: it was never added\n\n\
+        let end = "  0  the table has the root alone\n   6  path(3)     10  round 3 has no path: it isn't there\n\n\
                    6 of 7 calls accepted, 0 nodes beside the root: 0 ADDED, 0 GHOST, 0 COMMITTED\n\nroot\n";
         assert!(out.ends_with(end), "{out}");
         let none = "\n0 of 0 calls accepted, 0 nodes beside the root: 0 ADDED, 0 GHOST, 0 COMMITTED\n\nroot\n";
@@ -583,7 +582,7 @@ fn mistakes_on_the_command_line() {
         (&["run", "--bytes=yes"], "--bytes takes no value"),
         (&["draw", "--format", "gif", "-e", ""], "--format takes text, dot, svg or timeline, not gif"),
         (&["run", "--members", "+5", "-e", ""], "--members takes a number from 0 to 4294967295, not +5"),
-        (&["run", "--html", "-", "-e", ""], "--html takes a file, not -: standard output has the run itself"),
+        (&["run", "--html", "-", "-e", ""], "--html takes a file, not -: standard output is taken"),
         (&["run", "--svg=-", "-e", ""], "--svg takes a file, not -"),
         (&["run", "--dot", "-", "-e", ""], "--dot takes a file, not -"),
         (&["tree", "--kind", "Command", "-e", ""], "--kind takes value or command, not Command"),

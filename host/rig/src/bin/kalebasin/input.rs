@@ -64,7 +64,7 @@ fn are_digits(text: &str) -> bool {
 /// What takes bytes, or with `--hex` digits, that were given where notation is due; nothing where tree calls are.
 fn hint(option: &str, options: &Options) -> String {
     match (options.command.takes("--bytes"), option) {
-        _ if options.command.name == "tree" => String::new(),
+        _ if options.command.takes("--kind") => String::new(),
         (true, _) if options.text.is_some() => format!("; {option} FILE is for the bytes of a list"),
         (true, _) => format!("; {option} is for the bytes of a list"),
         (false, "--hex") => "; decode --hex takes the bytes of a list".into(),

@@ -271,8 +271,8 @@ pub fn help() -> String {
   --version prints the tool's version.
 
 Exit status: 0 done; 1 the list or message is refused, a property fails, an answer isn't that of the model, or a tree call
-isn't answered as by the second implementation; 2 a mistake in the notation or the command, or something that can't be read or
-written. Refusals and mistakes are told on standard error.
+doesn't do what the second implementation's does; 2 a mistake in the notation or the command, or something that can't be read
+or written. Refusals and mistakes are told on standard error.
 
 Try
   kalebasin run -e 's(1,1,70) d(0,0) d(0,1) d(1,1) d(2,1) d(3,0) d(3,1) d(4,1) d(5,1)'
@@ -521,10 +521,10 @@ fn kind(name: &str, value: OsString) -> Result<TreeKind, Stop> {
     TreeKind::from_name(&text).ok_or_else(|| format!("{name} takes value or command, not {text}").into())
 }
 
-/// A file to write; - would be standard output, which has the run itself.
+/// A file to write; - would be standard output, which is taken.
 fn file(name: &str, value: OsString) -> Result<OsString, Stop> {
     if value == "-" {
-        return Err(format!("{name} takes a file, not -: standard output has the run itself").into());
+        return Err(format!("{name} takes a file, not -: standard output is taken").into());
     }
     Ok(value)
 }

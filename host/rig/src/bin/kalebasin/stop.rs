@@ -12,7 +12,7 @@ pub struct Stop {
     pub status: u8,
 }
 
-/// The status of a refusal, of a property that fails, and of an answer that isn't the model's.
+/// The status of a refusal, of a property that fails, and of what isn't as the model or the second implementation has it.
 pub const REFUSED: u8 = 1;
 /// The status of a mistake, and of what can't be read or written.
 pub const MISTAKE: u8 = 2;

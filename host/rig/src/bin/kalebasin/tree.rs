@@ -15,7 +15,7 @@ pub fn tree(options: &Options, out: &mut dyn Write) -> Outcome {
     let list = tree_calls(options)?;
     let (calls, rows) = (calls(options), options.table_rows.unwrap_or(REHEARSAL_TABLE_ROWS));
     let (called, table) = explain(&calls, &list, rows)?;
-    writeln!(out, "{} tree, {rows} table rows, on {}\n", list.kind, calls.name)?;
+    writeln!(out, "{} tree, {}, on {}\n", list.kind, count(rows, "table row"), calls.name)?;
     let accepted = called.iter().filter(|one| one.answer == 0).count();
     let lines: Vec<Line> = called.into_iter().map(line).collect();
     let as_the_second = print_lines(&lines, out)?;
