@@ -1,0 +1,77 @@
+//! The cases of the program `tree_cases`, which makes the proved calls of trees of both kinds: its stored output is what the
+//! second implementation gives for its stored input.
+
+use kalebasin::{number_of, Round, TreeKind, TABLE_ROW, TABLE_ROWS};
+use kalebasin_rig::second::tree::{add, commit, fresh, path};
+use std::collections::BTreeSet;
+use std::fs;
+
+/// The program's table, how many of its words are lent, and the numbers given by the calls of each kind.
+struct Run {
+    words: [u64; TABLE_ROW * TABLE_ROWS],
+    lent: usize,
+    given: [BTreeSet<u32>; 2],
+}
+
+impl Run {
+    /// What the program writes behind a call, `a(1,5,0)`.
+    fn call(&mut self, text: &str) -> String {
+        let (name, arguments) = text.strip_suffix(')').and_then(|call| call.split_once('(')).expect(text);
+        let numbers: Vec<u32> = arguments.split(',').map(|number| number.parse().expect(text)).collect();
+        let kind = if name.starts_with(char::is_uppercase) { TreeKind::Command } else { TreeKind::Value };
+        if let ("f", [words]) = (name, &numbers[..]) {
+            self.lent = *words as usize;
+        }
+        let table = &mut self.words[..self.lent];
+        let mut out = Vec::new();
+        let answer = match (name, &numbers[..]) {
+            ("f", [_]) => fresh(table).map(|()| 0),
+            ("a" | "A", [round, value, parent]) => {
+                add(kind, table, Round(*round), u64::from(*value), Round(*parent)).map(|()| 0)
+            }
+            ("c" | "C", [round]) => commit(kind, table, Round(*round)).map(|()| 0),
+            ("p" | "P", [round, room]) => {
+                out.resize(*room as usize, 0);
+                path(kind, table, Round(*round), &mut out)
+            }
+            ("w", [word, value]) => {
+                table[*word as usize] = u64::from(*value);
+                return String::new();
+            }
+            _ => panic!("the program has no call {text}"),
+        };
+        self.given[kind as usize].insert(number_of(&answer));
+        let mut written = vec![u64::from(number_of(&answer))];
+        if let "p" | "P" = name {
+            written.push(answer.unwrap_or(0) as u64);
+            written.extend(out);
+        }
+        written.iter().map(|number| format!(" {number}")).collect()
+    }
+
+    /// What the program writes for a line.
+    fn line(&mut self, line: &str) -> String {
+        let parts: Vec<String> = line
+            .split(' ')
+            .map(|part| if part.contains('(') { format!("{part}{}", self.call(part)) } else { part.into() })
+            .collect();
+        let rows = self.words[..self.lent].chunks_exact(TABLE_ROW).take_while(|row| row[3] != 0);
+        let nodes = rows.map(|row| format!(" | {} {} {} {}", row[0], row[1], row[2], row[3]));
+        parts.join(" ") + &nodes.collect::<String>() + "\n"
+    }
+}
+
+/// The program's output to the letter; the calls of values get every number of the tree, those of commands every one but 7.
+#[test]
+fn the_program_tree_cases() {
+    let stored = |name| {
+        let file = format!("{}/../../crates/tree_cases/{name}", env!("CARGO_MANIFEST_DIR"));
+        fs::read_to_string(file).expect("the program's cases")
+    };
+    let mut run = Run { words: [0; TABLE_ROW * TABLE_ROWS], lent: 0, given: Default::default() };
+    let output: String = stored("stdin").lines().map(|line| run.line(line)).collect();
+    assert_eq!(output, stored("stdout"));
+    let [values, commands] = run.given;
+    assert!(values.into_iter().eq(0..=13));
+    assert!(commands.into_iter().eq((0..=13).filter(|number| *number != 7)));
+}
