@@ -24,8 +24,9 @@ use Rattle.member_record.specs.Phases.{IDLE, COLLECTING, PROPOSED, DECIDED, nee
 use Rattle.member_record.specs.Record.{with-lead, leads, flagged, flag-from, no-flags, sound, sound-count, changes-durable}
 use Rattle.member_record.proofs.Flags.{number-sizes, cleared-from, set-count, set-from}
 use Rattle.member_record.proofs.Quorums.{needed-decided, cleared-short}
-use Rattle.member_record.proofs.Sound.{SoundParts, parts, whole, SoundVotes, vote-parts, SoundLeading, leading-parts, leading-whole}
-use Rattle.member_rules.specs.Causes.{start-call-causes, START-causes, awaits, count-causes}
+use Rattle.member_record.proofs.Sound.{SoundParts, parts, whole, vote-parts, SoundLeading, leading-parts, leading-whole}
+use Rattle.member_rules.specs.Causes.{start-call-causes, START-late, START-causes, awaits, count-causes}
+use Rattle.member_rules.proofs.Late.{vote-below}
 use Rattle.member_rules.specs.Changes.{starting, joining, join-of, counting, adopted, adopting, voting}
 use Rattle.member.specs.Table.{silent, start-call-row, START-row, complete, completes, count-row, PROPOSE-row}
 use Rattle.member.specs.Table.{MemberEvent, starts, delivers, fitting, step-causes, step-row, sound-step, member-step}
@@ -66,25 +67,32 @@ start-call-kept m r offer s (range, (leader, (higher, end))) =
       sent-in-range = one-sent (Start r (m .who .me)) (own-head m r s range);
     }
 
+-- V stays below the round joined
+vote-under : (m : MemberState) (r : Round) → SoundParts m → START-late m r ≡ false → m .durable .voted .0 < r .0
+vote-under m r s early = vote-below m r early (omega (tests, vote-parts (m .durable) (s .lasting) .ordered))
+
+pub joining-sound : (m : MemberState) (r : Round) → SoundParts m → out-of-range (r .0) ≡ false → START-late m r ≡ false → sound (joining m r) ≡ true
+joining-sound m r s range early =
+    let o : leb (m .durable .voted .0) (r .0) ≡ true = omega (tests, vote-under m r s early) in
+    whole (joining m r) (record {
+      number = s .number;
+      phases = s .phases;
+      lasting = rw (o, or-right (eqb (r .0) 0) (above-range (r .0)) range) (vote-parts (m .durable) (s .lasting) .valued);
+      flags = s .flags;
+      led = s .led;
+    })
+
 START-kept : (m : MemberState) (r : Round) (t : Member) → length (m .lead .flags) ≡ 7 → SoundParts m → out-of-range (r .0) ≡ false →
     AllPassed (START-causes m r t)
     → Kept (START-row m r)
-START-kept m r t seven s range (leader, (higher, end)) =
-    let v : SoundVotes (m .durable) = vote-parts (m .durable) (s .lasting) in
-    let o : leb (m .durable .voted .0) (r .0) ≡ true = omega (tests, v .ordered) in
-    let o′ : ltb (m .durable .voted .0) (r .0) ≡ true = omega (tests, v .ordered) in
+START-kept m r t seven s range (leader, (early, end)) =
+    let below : ltb (m .durable .voted .0) (r .0) ≡ true = omega (tests, vote-under m r s early) in
     record {
       number-byte = omega arith;
-      sound-after = whole (joining m r) (record {
-        number = s .number;
-        phases = s .phases;
-        lasting = rw (o, or-right (eqb (r .0) 0) (above-range (r .0)) range) (v .valued);
-        flags = s .flags;
-        led = s .led;
-      });
+      sound-after = joining-sound m r s range early;
       seven-after = seven;
-      sent-in-range = one-sent (join-of m r) (by-test (ltb 0 (m .durable .voted .0))
-          (λ t. let one : leb 1 (m .durable .voted .0) ≡ true = omega tests in rw (t, own-head m r s range, one) o′)
+      sent-in-range = one-sent (join-of (m .who .me) (m .durable) r) (by-test (ltb 0 (m .durable .voted .0))
+          (λ t. let one : leb 1 (m .durable .voted .0) ≡ true = omega tests in rw (t, own-head m r s range, one) below)
           (λ t. rw t (own-head m r s range)));
     }
 
@@ -232,7 +240,7 @@ JOIN-voted-kept {m} {r} {t} q w below a =
           });
         }
 
-head-range : (r : Round) (t : Member) → head-in-range r t ≡ true → out-of-range (r .0) ≡ false
+pub head-range : (r : Round) (t : Member) → head-in-range r t ≡ true → out-of-range (r .0) ≡ false
 head-range r t h = not-true (out-of-range (r .0)) (and-left (not (out-of-range (r .0))) (not (no-member (t .0))) h)
 
 awaits-count : {phase : ℕ} (m : MemberState) (r : Round) (t : Member) → out-of-range (r .0) ≡ false → length (m .lead .flags) ≡ 7 → sound m ≡ true →

@@ -2,3 +2,4 @@
 pub mod Checks
 pub mod ByRow
 pub mod Keeping
+pub mod Repeated

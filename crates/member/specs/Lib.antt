@@ -3,3 +3,4 @@ pub mod Table
 pub mod ByRow
 pub mod Answers
 pub mod Kept
+pub mod Repeated

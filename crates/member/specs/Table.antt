@@ -49,9 +49,9 @@ unless cs m o = cond (eqb (first cs) OK) o (refused (first cs) m)
 abbrev pub start-call-row : MemberState → Round → ℕ → Outcome
 start-call-row m r offer = sends (starting m r offer) (Start r (m .who .me))
 
--- START r: J = r; sends JOIN with V, W if V > 0
+-- START r: J = r, which is no change where it is repeated; sends JOIN with V, W if V > 0
 abbrev pub START-row : MemberState → Round → Outcome
-START-row m r = sends (joining m r) (join-of m r)
+START-row m r = sends (joining m r) (join-of (m .who .me) (m .durable) r)
 
 -- as many flags as the phase needs: f+1
 abbrev pub complete : MemberState → Bool

@@ -1,2 +1,3 @@
 -- Laws of the refusals.
 pub mod Checks
+pub mod Late

@@ -1,5 +1,5 @@
 -- The column "Further refusals" of the member table of 01, "Members", in the order of the place table.
-use mathlib.Core.Bool.{Bool, _&&_, not}
+use mathlib.Core.Bool.{Bool, _&&_, _||_, not}
 use mathlib.Core.List.{List, [], _∷_}
 use Prim.Native.Nat.{ℕ}
 use lib.Dec.{ltb, leb, eqb}
@@ -18,11 +18,15 @@ start-call-causes m r =
     not (leads (m .who .n) (m .who .me) r) gives NOT-LEADER ∷
     leb (r .0) (m .durable .led .0) gives NOT-ABOVE-LED ∷ []
 
--- START r: 21 unless the sender leads r; 22 if J ≥ r
+-- J > r, or J = r with V = r
+abbrev pub START-late : MemberState → Round → Bool
+START-late m r = ltb (r .0) (m .durable .joined .0) || (eqb (m .durable .joined .0) (r .0) && eqb (m .durable .voted .0) (r .0))
+
+-- START r: 21 unless the sender leads r; 22 if J > r, or J = r with V = r
 abbrev pub START-causes : MemberState → Round → Member → List Cause
 START-causes m r s =
     not (leads (m .who .n) s r) gives WRONG-SENDER ∷
-    leb (r .0) (m .durable .joined .0) gives MOVED-PAST ∷ []
+    START-late m r gives MOVED-PAST ∷ []
 
 -- r = L in this phase
 abbrev pub awaits : MemberState → ℕ → Round → Bool

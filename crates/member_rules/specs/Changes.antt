@@ -7,6 +7,7 @@ use Rattle.ids.specs.declared.Round.{Round}
 use Rattle.ids.specs.declared.Member.{Member}
 use Rattle.message.specs.declared.Message.{Message}
 use Rattle.message.specs.declared.Message.the-variants.{Join, JoinVoted}
+use Rattle.member_record.specs.declared.Durable.{Durable}
 use Rattle.member_record.specs.declared.MemberState.{MemberState}
 use Rattle.member_record.specs.Phases.{COLLECTING, PROPOSED, DECIDED}
 use Rattle.member_record.specs.Record.{with-durable, with-lead, round-number, no-flags}
@@ -23,8 +24,8 @@ abbrev pub joining : MemberState → Round → MemberState
 joining m r = with-durable m (record { joined = r; voted = m .durable .voted; vote = m .durable .vote; led = m .durable .led })
 
 -- JOIN with V, W if V > 0
-abbrev pub join-of : MemberState → Round → Message
-join-of m r = cond (ltb 0 (m .durable .voted .0)) (JoinVoted r (m .who .me) (m .durable .voted) (m .durable .vote)) (Join r (m .who .me))
+abbrev pub join-of : Member → Durable → Round → Message
+join-of me d r = cond (ltb 0 (d .voted .0)) (JoinVoted r me (d .voted) (d .vote)) (Join r me)
 
 -- flags the sender
 abbrev pub counting : MemberState → Member → MemberState

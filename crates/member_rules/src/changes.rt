@@ -39,7 +39,7 @@ pub fn joining(m: MemberState, r: Round) -> MemberState
 
 // The JOIN of round r: with the last vote, if there was one.
 pub fn join_message(m: MemberState, r: Round) -> Message
-    ensures { λ g. ⌜ g ≡ join-of m r ⌝ }
+    ensures { λ g. ⌜ g ≡ join-of (m .who .me) (m .durable) r ⌝ }
 {
     let me = m.who.me;
     let voted = m.durable.voted;

@@ -7,7 +7,7 @@ use member_record::is_leader;
 ghost use mathlib.Core.Path.{_≡_};
 ghost use Prim.Native.Nat.{_≤_};
 ghost use Rattle.laws.specs.First.{first};
-ghost use Rattle.member_rules.specs.Causes.{start-call-causes, START-causes, count-causes, other-vote, PROPOSE-causes};
+ghost use Rattle.member_rules.specs.Causes.{start-call-causes, START-late, START-causes, count-causes, other-vote, PROPOSE-causes};
 
 // The refusals of start(r, offer).
 pub fn check_start_call(m: MemberState, r: Round) -> u32
@@ -27,6 +27,16 @@ pub fn check_start_call(m: MemberState, r: Round) -> u32
     numbers::OK
 }
 
+// Whether START r comes too late: a higher round is joined, or the vote in this one is given.
+fn start_late(m: MemberState, r: Round) -> bool
+    ensures { λ b. ⌜ b ≡ START-late m r ⌝ }
+{
+    if m.durable.joined.0 == r.0 {
+        return m.durable.voted.0 == r.0;
+    }
+    m.durable.joined.0 > r.0
+}
+
 // The refusals of START r.
 pub fn check_start(m: MemberState, r: Round, s: Member) -> u32
     requires { ⌜ 1 ≤ m .who .n ⌝ }
@@ -35,7 +45,7 @@ pub fn check_start(m: MemberState, r: Round, s: Member) -> u32
     if !is_leader(m.who.n, s, r) {
         return numbers::WRONG_SENDER;
     }
-    if r.0 <= m.durable.joined.0 {
+    if start_late(m, r) {
         return numbers::MOVED_PAST;
     }
     numbers::OK

@@ -1,6 +1,6 @@
 -- A leader that counts JOINs or VOTEs: its flags with one more, and the quorum that they are when the count is complete. What a
 -- member said, with what it says now. Assumes nothing.
-use mathlib.Core.Path.{_≡_, refl, _∙_}
+use mathlib.Core.Path.{_≡_, refl, sym, subst, _∙_}
 use mathlib.Core.Bool.{Bool, true, false, not}
 use mathlib.Core.List.{List, _++_, List·Memᴰ·append-cases}
 use mathlib.Core.Logic.{_≢_, ⊎-elim}
@@ -18,17 +18,19 @@ use Rattle.quorum.specs.Count.{count, some}
 use Rattle.quorum.specs.Quorum.{HasQuorum}
 use Rattle.message.specs.declared.Message.{Message}
 use Rattle.message.specs.declared.Message.the-variants.{Start, Join, JoinVoted, Propose, Vote}
+use Rattle.member_record.specs.declared.Durable.{Durable}
 use Rattle.member_record.specs.declared.MemberState.{MemberState}
 use Rattle.member_record.specs.Phases.{COLLECTING, needed}
 use Rattle.member_record.specs.Record.{flag, flagged, flag-from, no-flags}
-use Rattle.member_rules.specs.Changes.{counting, adopted}
+use Rattle.member_rules.specs.Changes.{join-of, counting, adopted}
 use Rattle.member.specs.Table.{complete}
 use Rattle.member_record.proofs.Sound.{parts, sound-size}
 use Rattle.member_record.proofs.Flags.{counts-agree, set-from}
 use Rattle.member_record.proofs.Quorums.{needed-alike}
 use Rattle.model.specs.Model.{Sizes, member-number}
+use Rattle.model.specs.Joins.{JoinOf}
 use Rattle.model.proofs.Kept.{KeptMember, own-round, led-ranged, source-lower}
-use Rattle.model.proofs.Invariant.{office-who, JoinOf, carried, Voted, Reached, Spoken}
+use Rattle.model.proofs.Invariant.{office-who, carried, Voted, Reached, Spoken}
 use Rattle.model.proofs.Grows.{reached-rises}
 
 -- what soundness says of a member that isn't idle, its vote count apart
@@ -107,17 +109,39 @@ no-join r t (JoinVoted r₁ s p w) q o = q
 no-join r t (Propose r₁ s x) q o = o
 no-join r t (Vote r₁ s) q o = o
 
--- what member t says beside what it said, while its J, V and L rise
-module _ (sent gs : List Message) (t j v l j′ v′ l′ : ℕ) (more : (g : Message) → g ∈ gs → Reached j′ v′ l′ g) (a : j ≤ j′) (b : v ≤ v′) (c : l ≤ l′)
-    (S : Spoken sent t j v l) where
-  pub spoken-new : ((g : Message) (r k : ℕ) → g ∈ gs → JoinOf r t g → Voted (sent ++ gs) k t → k < r → k ≤ carried g) →
-      ((g : Message) (r k : ℕ) → g ∈ sent → JoinOf r t g → Voted gs k t → k < r → k ≤ carried g) → Spoken (sent ++ gs) t j′ v′ l′
-  spoken-new joins votes = record {
-    reached = λ g i e. ⊎-elim (λ h. reached-rises j v l j′ v′ l′ g a b c (S .reached g h e)) (more g) (List·Memᴰ·append-cases sent i);
-    past = λ g r k i o w low. ⊎-elim
-        (λ h. ⊎-elim (λ u. S .past g r k h o u low) (λ u. votes g r k h o u low) (List·Memᴰ·append-cases sent w))
-        (λ h. joins g r k h o w low) (List·Memᴰ·append-cases sent i);
-  }
+-- what must last, with another L
+abbrev pub with-led : Durable → Round → Durable
+with-led d l = record { joined = d .joined; voted = d .voted; vote = d .vote; led = l }
 
-  pub spoken-quiet : ((g : Message) → g ∈ gs → Quiet g) → Spoken (sent ++ gs) t j′ v′ l′
-  spoken-quiet f = spoken-new (λ g r k i o w low. absurd (no-join r t g (f g i) o)) (λ g r k i o w low. absurd (f (Vote _ _) w))
+-- what member t says beside what it said, while its J, V and L rise
+module _ (sent gs : List Message) (t : ℕ) (d : Durable) (S : Spoken sent t d) where
+  module _ (e : Durable) (more : (g : Message) → g ∈ gs → Reached e g) (a : d .joined .0 ≤ e .joined .0) (b : d .voted .0 ≤ e .voted .0)
+      (c : d .led .0 ≤ e .led .0) where
+    -- asked of what is new: each VOTE for a round below that of a JOIN, where one of the two is new; that a new JOIN is of J, which has no vote
+    -- yet; and that all JOINs of J are the one that V and W make
+    pub spoken-new : ((g : Message) (r k : ℕ) → g ∈ gs → JoinOf r t g → Voted (sent ++ gs) k t → k < r → k ≤ carried g) →
+        ((g : Message) (r k : ℕ) → g ∈ sent → JoinOf r t g → Voted gs k t → k < r → k ≤ carried g) →
+        ((g : Message) (r : ℕ) → g ∈ gs → JoinOf r t g → (r ≡ e .joined .0) × (e .voted .0 < e .joined .0)) →
+        ((g : Message) → g ∈ sent ++ gs → JoinOf (e .joined .0) t g → e .voted .0 < e .joined .0 → g ≡ join-of (member-number t) e (e .joined)) →
+        Spoken (sent ++ gs) t e
+    spoken-new joins votes newest told = record {
+      reached = λ g i s. ⊎-elim (λ h. reached-rises d e g a b c (S .reached g h s)) (more g) (List·Memᴰ·append-cases sent i);
+      past = λ g r k i o w low. ⊎-elim
+          (λ h. ⊎-elim (λ u. S .past g r k h o u low) (λ u. votes g r k h o u low) (List·Memᴰ·append-cases sent w))
+          (λ h. joins g r k h o w low) (List·Memᴰ·append-cases sent i);
+      told = told;
+      same = λ r g h i j o p.
+          let of-last : (r ≡ e .joined .0) × (e .voted .0 < e .joined .0) → g ≡ h =
+          λ q. told g i (subst (λ n. JoinOf n t g) (q .0) o) (q .1) ∙ sym (told h j (subst (λ n. JoinOf n t h) (q .0) p) (q .1)) in
+          ⊎-elim (λ k. ⊎-elim (λ l. S .same r g h k l o p) (λ l. of-last (newest h r l p)) (List·Memᴰ·append-cases sent j))
+          (λ k. of-last (newest g r k o)) (List·Memᴰ·append-cases sent i);
+    }
+
+  -- neither a JOIN nor a VOTE is said, and only L rises
+  pub spoken-quiet : (l : Round) → d .led .0 ≤ l .0 → ((g : Message) → g ∈ gs → Reached (with-led d l) g) → ((g : Message) → g ∈ gs → Quiet g) →
+      Spoken (sent ++ gs) t (with-led d l)
+  spoken-quiet l c more f =
+      spoken-new (with-led d l) more (omega arith) (omega arith) c
+      (λ g r k i o w low. absurd (no-join r t g (f g i) o)) (λ g r k i o w low. absurd (f (Vote _ _) w))
+      (λ g r i o. absurd (no-join r t g (f g i) o))
+      (λ g i o. ⊎-elim (λ k. S .told g k o) (λ k. absurd (no-join (d .joined .0) t g (f g k) o)) (List·Memᴰ·append-cases sent i))

@@ -26,9 +26,10 @@ use Rattle.model.specs.Model.{Sizes, Event, start, deliver, Office, memb
 use Rattle.model.specs.Model.{event-outcome, proposes-one}
 use Rattle.model.specs.Model.{proposals, event-answer, next, office-after, offer-of, offers-at, offered}
 use Rattle.model.specs.Demand.{calls, ended}
+use Rattle.model.specs.Joins.{JoinOf}
 use Rattle.model.proofs.Kept.{KeptMember, KeptOffice, EventAccepted, was-accepted, message-in, accepted-row, sent-by, next-kept, first-member}
 use Rattle.model.proofs.Kept.{first-kept}
-use Rattle.model.proofs.Invariant.{join-quorum, vote-quorum, JoinOf, carried, Joined, MemberHolds, Invariant}
+use Rattle.model.proofs.Invariant.{join-quorum, vote-quorum, carried, Joined, MemberHolds, Invariant}
 use Rattle.model.proofs.Grows.{New, keep}
 use Rattle.model.proofs.Meeting.{allowed-meets}
 use Rattle.model.proofs.Counts.{Counts, counts-of, counts-adopted}
@@ -160,7 +161,7 @@ module _ (z : Sizes) (ok : allowed (z .n) ≡ true) where
     where
       fresh-stands : (t : ℕ) → MemberHolds (z .n) [] [] [] t (fresh-record (member-number t) (z .n))
       fresh-stands t = record {
-        spoken = record { reached = λ g i. elim i [ ]; past = λ g r c i. elim i [ ] };
+        spoken = record { reached = λ g i. elim i [ ]; past = λ g r c i. elim i [ ]; told = λ g i. elim i [ ]; same = λ r g h i. elim i [ ] };
         leading = record {
           highest = λ r x b i. elim i [ ];
           collects = λ p. absurd (omega arith);

@@ -12,13 +12,15 @@ use Rattle.laws.specs.Elements.{set-each}
 use Rattle.quorum.proofs.Meet.{wider}
 use Rattle.message.specs.declared.Message.{Message}
 use Rattle.message.specs.declared.Message.the-variants.{Start, Join, JoinVoted, Propose, Vote}
+use Rattle.member_record.specs.declared.Durable.{Durable}
 use Rattle.member_record.specs.Phases.{COLLECTING}
 use Rattle.member_record.specs.Record.{fresh-record}
 use Rattle.member.specs.Table.{Outcome, Named, nothing, proposal, decision}
 use Rattle.model.specs.Model.{Sizes, Office, member-number, member-at, made-by}
+use Rattle.model.specs.Joins.{JoinOf}
 use Rattle.model.proofs.Senders.{sender}
 use Rattle.model.proofs.Kept.{KeptOffice, own-round}
-use Rattle.model.proofs.Invariant.{JoinOf, Joined, ProposalMade, Reached, Spoken, Leading, MemberHolds, FromLeader, Backed, MadeSo, Invariant}
+use Rattle.model.proofs.Invariant.{Joined, ProposalMade, Reached, Spoken, Leading, MemberHolds, FromLeader, Backed, MadeSo, Invariant}
 
 abbrev pub round-named : Named → ℕ
 round-named nothing = 0
@@ -39,12 +41,12 @@ backed-grows made ns (Propose r s v) b = added-grows ns b
 backed-grows made ns (Vote r s) b = b
 
 -- J, V and L only rise
-pub reached-rises : (j v l j′ v′ l′ : ℕ) (g : Message) → j ≤ j′ → v ≤ v′ → l ≤ l′ → Reached j v l g → Reached j′ v′ l′ g
-reached-rises j v l j′ v′ l′ (Start r s) a b c h = omega arith
-reached-rises j v l j′ v′ l′ (Join r s) a b c h = omega arith
-reached-rises j v l j′ v′ l′ (JoinVoted r s q w) a b c h = omega arith
-reached-rises j v l j′ v′ l′ (Propose r s x) a b c h = omega arith
-reached-rises j v l j′ v′ l′ (Vote r s) a b c h = omega arith
+pub reached-rises : (d e : Durable) (g : Message) → d .joined .0 ≤ e .joined .0 → d .voted .0 ≤ e .voted .0 → d .led .0 ≤ e .led .0 → Reached d g → Reached e g
+reached-rises d e (Start r s) a b c h = omega arith
+reached-rises d e (Join r s) a b c h = omega arith
+reached-rises d e (JoinVoted r s q w) a b c h = omega arith
+reached-rises d e (Propose r s x) a b c h = omega arith
+reached-rises d e (Vote r s) a b c h = omega arith
 
 pub join-sender : (r s : ℕ) (g : Message) → JoinOf r s g → sender g ≡ s
 join-sender r₁ s₁ (Start r s) h = absurd h
@@ -53,22 +55,27 @@ join-sender r₁ s₁ (JoinVoted r s q w) h = h .1
 join-sender r₁ s₁ (Propose r s v) h = absurd h
 join-sender r₁ s₁ (Vote r s) h = absurd h
 
-pub join-reached : (r t j v l : ℕ) (g : Message) → JoinOf r t g → Reached j v l g → r ≤ j
-join-reached r t j v l (Start r₁ s) o h = absurd o
-join-reached r t j v l (Join r₁ s) o h = omega (arith, o .0)
-join-reached r t j v l (JoinVoted r₁ s q w) o h = omega (arith, o .0)
-join-reached r t j v l (Propose r₁ s x) o h = absurd o
-join-reached r t j v l (Vote r₁ s) o h = absurd o
+pub join-reached : (r t : ℕ) (d : Durable) (g : Message) → JoinOf r t g → Reached d g → r ≤ d .joined .0
+join-reached r t d (Start r₁ s) o h = absurd o
+join-reached r t d (Join r₁ s) o h = omega (arith, o .0)
+join-reached r t d (JoinVoted r₁ s q w) o h = omega (arith, o .0)
+join-reached r t d (Propose r₁ s x) o h = absurd o
+join-reached r t d (Vote r₁ s) o h = absurd o
 
 -- a member other than the sender said nothing new
-pub spoken-other : {sent : List Message} {t j v l : ℕ} (gs : List Message) → ((g : Message) → g ∈ gs → sender g ≢ t) →
-    Spoken sent t j v l → Spoken (sent ++ gs) t j v l
-spoken-other {sent} {t} gs f S = record {
+pub spoken-other : {sent : List Message} {t : ℕ} {d : Durable} (gs : List Message) → ((g : Message) → g ∈ gs → sender g ≢ t) →
+    Spoken sent t d → Spoken (sent ++ gs) t d
+spoken-other {sent} {t} {d} gs f S = record {
   reached = λ g i e. ⊎-elim (λ k. S .reached g k e) (λ k. absurd (f g k e)) (List·Memᴰ·append-cases sent i);
-  past = λ g r c i o w b. ⊎-elim
-      (λ k. ⊎-elim (λ h. S .past g r c k o h b) (λ h. absurd (f (Vote _ _) h refl)) (List·Memᴰ·append-cases sent w))
-      (λ k. absurd (f g k (join-sender r t g o))) (List·Memᴰ·append-cases sent i);
+  past = λ g r c i o w b.
+      ⊎-elim (λ h. S .past g r c (before g r i o) o h b) (λ h. absurd (f (Vote _ _) h refl)) (List·Memᴰ·append-cases sent w);
+  told = λ g i o. S .told g (before g (d .joined .0) i o) o;
+  same = λ r g h i j o p. S .same r g h (before g r i o) (before h r j p) o p;
 }
+  where
+    -- its JOINs were there before
+    before : (g : Message) (r : ℕ) → g ∈ sent ++ gs → JoinOf r t g → g ∈ sent
+    before g r i o = ⊎-elim (λ k. k) (λ k. absurd (f g k (join-sender r t g o))) (List·Memᴰ·append-cases sent i)
 
 -- a leader stays as it is while none of the proposals and decisions made is of a round of its own
 pub leading-grows : {n : ℕ} {sent : List Message} {made : List Named} {offers : List ℕ} {t led phase value source : ℕ} {flags : List Bool}

@@ -10,12 +10,15 @@ use Rattle.tree_theory.specs.Properties.{Properties, InRange}
 use Rattle.message.specs.declared.Message.{Message}
 use Rattle.message.specs.declared.Message.the-variants.{Start, Join, JoinVoted, Propose, Vote}
 use Rattle.member_record.specs.declared.Who.{Who}
+use Rattle.member_record.specs.declared.Durable.{Durable}
 use Rattle.member_record.specs.declared.MemberState.{MemberState}
 use Rattle.member_record.specs.Phases.{COLLECTING, PROPOSED, DECIDED, needed}
 use Rattle.member_record.specs.Record.{flag, round-number}
+use Rattle.member_rules.specs.Changes.{join-of}
 use Rattle.member.specs.Table.{Named, proposal, decision}
 use Rattle.model.specs.Model.{Sizes, Office, member-number, member-at, proposals}
 use Rattle.model.specs.Demand.{calls}
+use Rattle.model.specs.Joins.{JoinOf}
 use Rattle.model.proofs.Senders.{sender}
 
 -- an office of n, in the eyes of one of its members
@@ -28,14 +31,6 @@ join-quorum n = needed (office-who n) COLLECTING
 
 abbrev pub vote-quorum : ℕ → ℕ
 vote-quorum n = needed (office-who n) PROPOSED
-
--- a JOIN of round r by s, with or without a vote
-abbrev pub JoinOf : ℕ → ℕ → Message → Type 0
-JoinOf r s (Start r₁ s₁) = ⊥
-JoinOf r s (Join r₁ s₁) = (r₁ .0 ≡ r) × (s₁ .0 ≡ s)
-JoinOf r s (JoinVoted r₁ s₁ q w) = (r₁ .0 ≡ r) × (s₁ .0 ≡ s)
-JoinOf r s (Propose r₁ s₁ v) = ⊥
-JoinOf r s (Vote r₁ s₁) = ⊥
 
 -- the round voted for that a JOIN carries; 0 if it carries no vote
 abbrev pub carried : Message → ℕ
@@ -62,18 +57,22 @@ pub record ProposalMade (made : List Named) (r x : ℕ) : Type 0 where
   pub is-made : proposal r x parent ∈ made
 
 -- L is at least the round of a START or PROPOSE that the member sent, J that of a JOIN, V that of a VOTE
-abbrev pub Reached : (j v l : ℕ) → Message → Type 0
-Reached j v l (Start r s) = r .0 ≤ l
-Reached j v l (Join r s) = r .0 ≤ j
-Reached j v l (JoinVoted r s q w) = r .0 ≤ j
-Reached j v l (Propose r s x) = r .0 ≤ l
-Reached j v l (Vote r s) = r .0 ≤ v
+abbrev pub Reached : Durable → Message → Type 0
+Reached d (Start r s) = r .0 ≤ d .led .0
+Reached d (Join r s) = r .0 ≤ d .joined .0
+Reached d (JoinVoted r s q w) = r .0 ≤ d .joined .0
+Reached d (Propose r s x) = r .0 ≤ d .led .0
+Reached d (Vote r s) = r .0 ≤ d .voted .0
 
--- what member t said, its J, V and L beside it
-pub record Spoken (sent : List Message) (t j v l : ℕ) : Type 0 where
-  pub reached : (g : Message) → g ∈ sent → sender g ≡ t → Reached j v l g
+-- what member t said, its J, V, W and L beside it
+pub record Spoken (sent : List Message) (t : ℕ) (d : Durable) : Type 0 where
+  pub reached : (g : Message) → g ∈ sent → sender g ≡ t → Reached d g
   -- a VOTE for a round below that of a JOIN is for a round at most the one that the JOIN carries
   pub past : (g : Message) (r c : ℕ) → g ∈ sent → JoinOf r t g → Voted sent c t → c < r → c ≤ carried g
+  -- until it votes in J, each JOIN of J is the one that V and W make
+  pub told : (g : Message) → g ∈ sent → JoinOf (d .joined .0) t g → d .voted .0 < d .joined .0 → g ≡ join-of (member-number t) d (d .joined)
+  -- JOINs of one round are equal
+  pub same : (r : ℕ) (g h : Message) → g ∈ sent → h ∈ sent → JoinOf r t g → JoinOf r t h → g ≡ h
 
 -- what member t does as a leader: its L, phase, X, B and flags
 pub record Leading (n : ℕ) (sent : List Message) (made : List Named) (offers : List ℕ) (t led phase value source : ℕ) (flags : List Bool) : Type 0 where
@@ -94,7 +93,7 @@ pub record Leading (n : ℕ) (sent : List Message) (made : List Named) (offers :
 
 -- what holds of member t, whose record is m
 pub record MemberHolds (n : ℕ) (sent : List Message) (made : List Named) (offers : List ℕ) (t : ℕ) (m : MemberState) : Type 0 where
-  pub spoken : Spoken sent t (m .durable .joined .0) (m .durable .voted .0) (m .durable .led .0)
+  pub spoken : Spoken sent t (m .durable)
   pub leading : Leading n sent made offers t (m .durable .led .0) (m .lead .phase) (m .lead .value) (m .lead .source .0) (m .lead .flags)
   -- V, if above 0, was proposed with W
   pub vote-added : 0 < m .durable .voted .0 → ProposalMade made (m .durable .voted .0) (m .durable .vote)

@@ -10,6 +10,7 @@ pub mod Meeting
 pub mod Counts
 pub mod Rows
 pub mod Events
+pub mod Joins
 pub mod Demanded
 pub mod Committed
 pub mod Fold

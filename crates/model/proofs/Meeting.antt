@@ -20,8 +20,9 @@ use Rattle.member_record.specs.Record.{allowed}
 use Rattle.member.specs.Table.{Named, proposal, decision}
 use Rattle.model.specs.Model.{Sizes, proposals}
 use Rattle.model.specs.Demand.{calls}
+use Rattle.model.specs.Joins.{JoinOf}
 use Rattle.model.proofs.Made.{calls-append, proposals-append, proposal-call, call-proposal, call-decision}
-use Rattle.model.proofs.Invariant.{join-quorum, vote-quorum, JoinOf, carried, Joined, Voted, ProposalMade, MadeSo}
+use Rattle.model.proofs.Invariant.{join-quorum, vote-quorum, carried, Joined, Voted, ProposalMade, MadeSo}
 use Rattle.model.proofs.Grows.{added-grows, joined-grows}
 
 -- joins and votes needed are more than N together, in every office of 2f+1

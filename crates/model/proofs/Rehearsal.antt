@@ -6,7 +6,9 @@ use Prim.Native.Nat.{ℕ}
 use Rattle.quorum.specs.Count.{some}
 use Rattle.tree_theory.specs.Machine.{ADDED, COMMITTED, node-of, add, commit, struck, new-node, find, path-in, commit-node}
 use Rattle.tree_theory.specs.Machine.{after as after-calls}
-use Rattle.model.specs.Model.{Sizes, Event, start, deliver, first-office, office-after, event-answers, offered}
+use Rattle.message.specs.declared.Message.the-variants.{Start, Join, JoinVoted, Propose, Vote}
+use Rattle.member_record.specs.Record.{round-number}
+use Rattle.model.specs.Model.{Sizes, Event, start, deliver, member-number, first-office, office-after, event-answers, offered}
 use Rattle.model.specs.Demand.{calls, ended}
 use Rattle.model.specs.Counts.{made-tree}
 
@@ -33,16 +35,37 @@ rehearsed : RehearsalMet
 unfolding event-answers offered office-after first-office calls after-calls some struck new-node find path-in commit-node
 rehearsed = record { answers-are = refl; calls-are = refl; nodes-are = refl; offers-are = refl }
 
+-- Member 0 joins round 1, and its JOIN, message 1, is lost. START is delivered to it again, its second JOIN makes the quorum, and the round is
+-- decided. Then START comes once more, where the vote is given; and START of round 2 comes twice to member 0, which tells its vote both times.
+abbrev lost-join : List Event
+lost-join =
+    start 1 1 70 ∷ deliver 0 0 ∷ deliver 0 1 ∷ deliver 2 1 ∷ deliver 0 0 ∷ deliver 3 1 ∷ deliver 4 0 ∷ deliver 4 1 ∷ deliver 5 1 ∷ deliver 6 1 ∷
+    deliver 0 0 ∷ start 2 2 80 ∷ deliver 7 0 ∷ deliver 7 0 ∷ deliver 0 0 ∷ []
+
+record LostJoinMet : Type 0 where
+  answers-are : answered (sizes 10 9) lost-join ≡ 0 ∷ 0 ∷ 0 ∷ 0 ∷ 0 ∷ 0 ∷ 0 ∷ 0 ∷ 0 ∷ 0 ∷ 22 ∷ 0 ∷ 0 ∷ 0 ∷ 22 ∷ []
+  calls-are : calls (ended (sizes 10 9) lost-join .made) ≡ add 1 70 0 ∷ commit 1 ∷ []
+  sent-are : ended (sizes 10 9) lost-join .sent ≡
+      Start (round-number 1) (member-number 1) ∷ Join (round-number 1) (member-number 0) ∷ Join (round-number 1) (member-number 1) ∷
+      Join (round-number 1) (member-number 0) ∷ Propose (round-number 1) (member-number 1) 70 ∷ Vote (round-number 1) (member-number 0) ∷
+      Vote (round-number 1) (member-number 1) ∷ Start (round-number 2) (member-number 2) ∷
+      JoinVoted (round-number 2) (member-number 0) (round-number 1) 70 ∷ JoinVoted (round-number 2) (member-number 0) (round-number 1) 70 ∷ []
+
+lost-join-met : LostJoinMet
+unfolding event-answers office-after first-office calls some
+lost-join-met = record { answers-are = refl; calls-are = refl; sent-are = refl }
+
 record NumberListsMet : Type 0 where
   -- rounds 0 and above 1,000,000; a member that doesn't lead the round; the round led already
   starts : answered (sizes 9 9) (start 0 0 5 ∷ start 1 1000001 5 ∷ start 1 2 5 ∷ start 1 1 5 ∷ start 1 1 5 ∷ []) ≡ 3 ∷ 3 ∷ 19 ∷ 0 ∷ 20 ∷ []
   -- no such member; no message sent yet; a number that is too high by one
   absent : answered (sizes 9 9) (start 3 3 5 ∷ deliver 0 0 ∷ start 1 1 5 ∷ deliver 1 0 ∷ deliver 0 3 ∷ []) ≡ 29 ∷ 29 ∷ 0 ∷ 29 ∷ 29 ∷ []
-  -- START of the round joined; JOIN to a member that didn't start the round
-  late : answered (sizes 9 9) (start 1 1 5 ∷ deliver 0 0 ∷ deliver 0 0 ∷ deliver 1 0 ∷ []) ≡ 0 ∷ 0 ∷ 22 ∷ 24 ∷ []
-  -- the store is full: a step that sends is refused, one that doesn't is not; the refused START leaves the member as it was
-  full : answered (sizes 3 9) (start 1 1 5 ∷ deliver 0 0 ∷ deliver 0 2 ∷ deliver 0 1 ∷ deliver 0 1 ∷ deliver 1 1 ∷ deliver 2 1 ∷ []) ≡
-      0 ∷ 0 ∷ 0 ∷ 30 ∷ 30 ∷ 0 ∷ 30 ∷ []
+  -- START of a round below the one joined; JOIN to a member that didn't start the round
+  late : answered (sizes 9 9) (start 1 1 5 ∷ start 2 2 6 ∷ deliver 1 0 ∷ deliver 0 0 ∷ deliver 2 0 ∷ []) ≡ 0 ∷ 0 ∷ 0 ∷ 22 ∷ 24 ∷ []
+  -- the store is full: a step that sends is refused, one that doesn't is not; the refused START leaves the member as it was, and a repeated one
+  -- would send too
+  full : answered (sizes 3 9) (start 1 1 5 ∷ deliver 0 0 ∷ deliver 0 2 ∷ deliver 0 1 ∷ deliver 0 1 ∷ deliver 0 0 ∷ deliver 1 1 ∷ deliver 2 1 ∷ []) ≡
+      0 ∷ 0 ∷ 0 ∷ 30 ∷ 30 ∷ 30 ∷ 0 ∷ 30 ∷ []
   -- no row beside the root: a step that proposes is refused with 9
   rowless : answered (sizes 9 1) (start 1 1 5 ∷ deliver 0 0 ∷ deliver 0 1 ∷ deliver 1 1 ∷ deliver 2 1 ∷ []) ≡ 0 ∷ 0 ∷ 0 ∷ 0 ∷ 9 ∷ []
   -- one row beside the root: the first proposal takes it

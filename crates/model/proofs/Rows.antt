@@ -1,5 +1,5 @@
 -- Each row of the member table keeps the invariant: what is new of the member, of what it sends and of what is made. Assumes nothing.
-use mathlib.Core.Path.{_≡_, refl, sym, ap, _∙_}
+use mathlib.Core.Path.{_≡_, refl, sym, ap, subst, _∙_}
 use mathlib.Core.Bool.{true, false, not}
 use mathlib.Core.List.{List, [], _∷_, _++_, append-nil, List·Memᴰ·eq-of-singleton, List·Memᴰ·append-cases, Memᴰ·append-left}
 use mathlib.Core.Logic.{⊎-elim}
@@ -20,18 +20,20 @@ use Rattle.member_record.specs.declared.MemberState.{MemberState}
 use Rattle.member_record.specs.Phases.{COLLECTING, PROPOSED}
 use Rattle.member_record.specs.Record.{leads, round-number}
 use Rattle.member_rules.specs.Causes.{start-call-causes, START-causes, PROPOSE-causes}
-use Rattle.member_rules.specs.Changes.{join-of, counting}
+use Rattle.member_rules.specs.Changes.{joining, join-of, counting, voting}
+use Rattle.member_rules.proofs.Late.{joined-within, vote-below}
 use Rattle.member.specs.Table.{proposal, decision, silent, start-call-row, START-row, complete, proposes, decides, count-row, PROPOSE-row}
 use Rattle.model.specs.Model.{Sizes, Office, member-number, proposals, proposes-one}
 use Rattle.model.specs.Demand.{calls}
+use Rattle.model.specs.Joins.{JoinOf}
 use Rattle.model.proofs.Made.{decision-call, call-proposal}
 use Rattle.model.proofs.Senders.{only}
 use Rattle.model.proofs.Kept.{KeptMember, vote-lower}
-use Rattle.model.proofs.Invariant.{join-quorum, vote-quorum, JoinOf, carried, Joined, Voted, Reached, Leading, MemberHolds, FromLeader, Backed}
+use Rattle.model.proofs.Invariant.{join-quorum, vote-quorum, carried, Joined, Voted, Reached, Leading, MemberHolds, FromLeader, Backed}
 use Rattle.model.proofs.Invariant.{Invariant}
 use Rattle.model.proofs.Grows.{join-sender, join-reached, added-grows, joined-grows, leading-grows, made-calm, New}
 use Rattle.model.proofs.Meeting.{Pasts, proposes-so, decides-so}
-use Rattle.model.proofs.Counts.{Counts, counts-of, flag-set, no-flag, flagged-quorum, spoken-new, spoken-quiet}
+use Rattle.model.proofs.Counts.{Counts, counts-of, flag-set, no-flag, flagged-quorum, with-led, spoken-new, spoken-quiet}
 
 module _ (z : Sizes) (o : Office) (offers : List ℕ) (I : Invariant z o offers) (t : ℕ) (m : MemberState) (M : KeptMember z t m)
     (S : MemberHolds (z .n) (o .sent) (o .made) offers t m) where
@@ -53,11 +55,8 @@ module _ (z : Sizes) (o : Office) (offers : List ℕ) (I : Invariant z o offers)
   pub start-call-new : (r : Round) (x : ℕ) → AllPassed (start-call-causes m r) → New z o offers t (start-call-row m r x) (x ∷ [])
   start-call-new r x (range, (leader, (above, end))) = record {
     stands = record {
-      spoken = spoken-quiet (o .sent) (Start r (m .who .me) ∷ []) t (m .durable .joined .0) (m .durable .voted .0) (m .durable .led .0) (m .durable .joined .0)
-          (m .durable .voted .0) (r .0)
-          (only (Reached (m .durable .joined .0) (m .durable .voted .0) (r .0)) (Start r (m .who .me)) (omega arith)) (omega arith) (omega arith) (omega tests)
-          (S .spoken)
-          (only _ (Start r (m .who .me)) tt);
+      spoken = spoken-quiet (o .sent) (Start r (m .who .me) ∷ []) t (m .durable) (S .spoken) r (omega tests)
+          (only (Reached (with-led (m .durable) r)) (Start r (m .who .me)) (omega arith)) (only _ (Start r (m .who .me)) tt);
       leading = record {
         highest = λ s y b i e. omega (tests, S .leading .highest s y b (rw (append-nil (o .made)) at i) e);
         collects = λ p y b i. absurd (omega (tests, S .leading .highest (r .0) y b (rw (append-nil (o .made)) at i) (own-lead r leader)));
@@ -76,36 +75,57 @@ module _ (z : Sizes) (o : Office) (offers : List ℕ) (I : Invariant z o offers)
     made-so = made-calm (Start r (m .who .me) ∷ []) (x ∷ []) (I .made-so);
   }
 
+  -- the JOIN that the member sends
+  abbrev own-join : Round → Message
+  own-join r = join-of (m .who .me) (m .durable) r
+
   -- what holds of a JOIN with the member's vote and of one without
   of-join : (r : Round) (P : Message → Type 0) → (0 < m .durable .voted .0 → P (JoinVoted r (m .who .me) (m .durable .voted) (m .durable .vote)))
-      → (m .durable .voted .0 ≡ 0 → P (Join r (m .who .me))) → P (join-of m r)
+      → (m .durable .voted .0 ≡ 0 → P (Join r (m .who .me))) → P (own-join r)
   of-join r P f g = by-test (ltb 0 (m .durable .voted .0)) (λ h. rw h (f (omega tests))) (λ h. rw h (g (omega tests)))
 
-  no-vote : (r : Round) (k : ℕ) → Voted (join-of m r ∷ []) k t → ⊥
+  no-vote : (r : Round) (k : ℕ) → Voted (own-join r ∷ []) k t → ⊥
   no-vote r k i =
       of-join r (λ g. Vote (round-number k) (member-number t) ≡ g → ⊥) (λ v e. impossible (cc)) (λ v e. impossible (cc)) (List·Memᴰ·eq-of-singleton i)
 
   pub START-new : (r : Round) (s : Member) → AllPassed (START-causes m r s) → New z o offers t (START-row m r) []
-  START-new r s (leader, (above, end)) = record {
+  START-new r s (leader, (early, end)) = record {
     stands = record {
-      spoken = spoken-new (o .sent) (join-of m r ∷ []) t (m .durable .joined .0) (m .durable .voted .0) (m .durable .led .0) (r .0) (m .durable .voted .0)
-          (m .durable .led .0)
-          (only (Reached (r .0) (m .durable .voted .0) (m .durable .led .0)) (join-of m r)
-          (of-join r (Reached (r .0) (m .durable .voted .0) (m .durable .led .0)) (λ v. omega arith) (λ v. omega arith)))
-          (omega tests) (omega arith) (omega arith) (S .spoken)
-          (λ g r₁ k i j w low. only (λ x. k ≤ carried x) (join-of m r) (of-join r (λ x. k ≤ carried x) (λ v. lower k w) (λ v. omega (arith, lower k w))) g i)
-          (λ g r₁ k i j w low. absurd (no-vote r k w));
-      leading = leading-calm (join-of m r ∷ []) [];
+      spoken = spoken-new (o .sent) (own-join r ∷ []) t (m .durable) (S .spoken) (joining m r .durable)
+          (only (Reached (joining m r .durable)) (own-join r) (of-join r (Reached (joining m r .durable)) (λ v. omega arith) (λ v. omega arith)))
+          up (omega arith) (omega arith)
+          (λ g r₁ k i j w low. only (λ x. k ≤ carried x) (own-join r) (of-join r (λ x. k ≤ carried x) (λ v. lower k w) (λ v. omega (arith, lower k w))) g i)
+          (λ g r₁ k i j w low. absurd (no-vote r k w))
+          (λ g r₁ i j. (only (λ x. JoinOf r₁ t x → r₁ ≡ r .0) (own-join r) (of-join r (λ x. JoinOf r₁ t x → r₁ ≡ r .0) (λ v q. sym (q .0)) (λ v q. sym (q .0))) g i j, unvoted))
+          (λ g i j v. ⊎-elim (λ k. first-told g k j) (λ k. List·Memᴰ·eq-of-singleton k ∙ own) (List·Memᴰ·append-cases (o .sent) i));
+      leading = leading-calm (own-join r ∷ []) [];
       vote-added = λ h. added-grows [] (S .vote-added h);
     };
-    leaders = only (FromLeader (z .n)) (join-of m r) (of-join r (FromLeader (z .n)) (λ v. tt) (λ v. tt));
-    backed = only (Backed (o .made ++ [])) (join-of m r) (of-join r (Backed (o .made ++ [])) (λ h. added-grows [] (S .vote-added h)) (λ v. tt));
+    leaders = only (FromLeader (z .n)) (own-join r) (of-join r (FromLeader (z .n)) (λ v. tt) (λ v. tt));
+    backed = only (Backed (o .made ++ [])) (own-join r) (of-join r (Backed (o .made ++ [])) (λ h. added-grows [] (S .vote-added h)) (λ v. tt));
     names = λ a i. elim i [ ];
-    made-so = made-calm (join-of m r ∷ []) [] (I .made-so);
+    made-so = made-calm (own-join r ∷ []) [] (I .made-so);
   }
     where
+      up : m .durable .joined .0 ≤ r .0
+      up = joined-within m r early
+
+      unvoted : m .durable .voted .0 < r .0
+      unvoted = vote-below m r early (vote-lower z t m M)
+
+      own : own-join r ≡ join-of (member-number t) (m .durable) r
+      own = ap (λ s. join-of s (m .durable) r) (M .number)
+
+      -- a JOIN of r sent before: START was repeated, and V and W are as they were
+      first-told : (g : Message) → g ∈ o .sent → JoinOf (r .0) t g → g ≡ join-of (member-number t) (m .durable) r
+      first-told g i j =
+          let at-most : r .0 ≤ m .durable .joined .0 = join-reached (r .0) t (m .durable) g j (S .spoken .reached g i (join-sender (r .0) t g j)) in
+          let e : r .0 ≡ m .durable .joined .0 = omega (arith, up) in
+          S .spoken .told g i (subst (λ k. JoinOf k t g) e j) (omega (arith, unvoted)) ∙
+          ap (λ k. join-of (member-number t) (m .durable) (round-number k)) (sym e)
+
       -- each vote was for a round at most V
-      lower : (k : ℕ) → Voted (o .sent ++ join-of m r ∷ []) k t → k ≤ m .durable .voted .0
+      lower : (k : ℕ) → Voted (o .sent ++ own-join r ∷ []) k t → k ≤ m .durable .voted .0
       lower k w =
           ⊎-elim (λ i. S .spoken .reached (Vote (round-number k) (member-number t)) i refl) (λ i. absurd (no-vote r k i)) (List·Memᴰ·append-cases (o .sent) w)
 
@@ -114,20 +134,19 @@ module _ (z : Sizes) (o : Office) (offers : List ℕ) (I : Invariant z o offers)
       let up : m .durable .voted .0 ≤ m .durable .joined .0 = vote-lower z t m M in
       record {
         stands = record {
-          spoken = spoken-new (o .sent) (Vote r (m .who .me) ∷ []) t (m .durable .joined .0) (m .durable .voted .0) (m .durable .led .0) (r .0) (r .0)
-              (m .durable .led .0)
-              (only (Reached (r .0) (r .0) (m .durable .led .0)) (Vote r (m .who .me)) (omega arith))
-              (omega tests) (omega tests) (omega arith) (S .spoken)
-              (λ g r₁ k i j w low. absurd (only (λ x. JoinOf r₁ t x → ⊥) (Vote r (m .who .me)) (λ x. x) g i j))
+          spoken = spoken-new (o .sent) (Vote r (m .who .me) ∷ []) t (m .durable) (S .spoken) (voting m r v .durable)
+              (only (Reached (voting m r v .durable)) (Vote r (m .who .me)) (omega arith)) (omega tests) (omega tests) (omega arith)
+              (λ g r₁ k i j w low. absurd (no-join-sent g r₁ i j))
               (λ g r₁ k i j w low.
               let e : Vote (round-number k) (member-number t) ≡ Vote r (m .who .me) = List·Memᴰ·eq-of-singleton w in
               let q : round-number k ≡ r = cc in
               absurd (omega (
                 tests,
                 ap (λ x. x .0) q,
-                join-reached r₁ t (m .durable .joined .0) (m .durable .voted .0) (m .durable .led .0) g j
-                    (S .spoken .reached g i (join-sender r₁ t g j)),
-              )));
+                join-reached r₁ t (m .durable) g j (S .spoken .reached g i (join-sender r₁ t g j)),
+              )))
+              (λ g r₁ i j. absurd (no-join-sent g r₁ i j))
+              (λ g i j w. absurd (omega arith));
           leading = leading-calm (Vote r (m .who .me) ∷ []) [];
           vote-added = λ h. added-grows [] (I .backed (Propose r s v) sent);
         };
@@ -136,6 +155,9 @@ module _ (z : Sizes) (o : Office) (offers : List ℕ) (I : Invariant z o offers)
         names = λ a i. elim i [ ];
         made-so = made-calm (Vote r (m .who .me) ∷ []) [] (I .made-so);
       }
+    where
+      no-join-sent : (g : Message) (k : ℕ) → g ∈ Vote r (m .who .me) ∷ [] → JoinOf k t g → ⊥
+      no-join-sent g k = only (λ x. JoinOf k t x → ⊥) (Vote r (m .who .me)) (λ x. x) g
 
 -- JOINs and VOTEs counted; k is the member's record once the JOIN's vote is taken over
 module _ (z : Sizes) (o : Office) (offers : List ℕ) (I : Invariant z o offers) (meets : z .n < join-quorum (z .n) + vote-quorum (z .n))
@@ -156,9 +178,7 @@ module _ (z : Sizes) (o : Office) (offers : List ℕ) (I : Invariant z o offers)
       leading-grows [] [] [] (λ a i. elim i [ ]) (λ h. C .own) (S .leading) in
       record {
         stands = record {
-          spoken = spoken-quiet (o .sent) [] t (k .durable .joined .0) (k .durable .voted .0) (k .durable .led .0) (k .durable .joined .0)
-              (k .durable .voted .0) (k .durable .led .0)
-              (λ g i. elim i [ ]) (omega arith) (omega arith) (omega arith) (S .spoken) (λ g i. elim i [ ]);
+          spoken = spoken-quiet (o .sent) [] t (k .durable) (S .spoken) (k .durable .led) (omega arith) (λ g i. elim i [ ]) (λ g i. elim i [ ]);
           leading = record {
             highest = L .highest;
             collects = L .collects;
@@ -184,10 +204,8 @@ module _ (z : Sizes) (o : Office) (offers : List ℕ) (I : Invariant z o offers)
   proposes-new now join full row =
       record {
         stands = record {
-          spoken = spoken-quiet (o .sent) (Propose (k .durable .led) (k .who .me) (k .lead .value) ∷ []) t (k .durable .joined .0) (k .durable .voted .0)
-              (k .durable .led .0) (k .durable .joined .0) (k .durable .voted .0) (k .durable .led .0)
-              (only (Reached (k .durable .joined .0) (k .durable .voted .0) (k .durable .led .0)) (Propose (k .durable .led) (k .who .me) (k .lead .value))
-              (omega arith)) (omega arith) (omega arith) (omega arith) (S .spoken)
+          spoken = spoken-quiet (o .sent) (Propose (k .durable .led) (k .who .me) (k .lead .value) ∷ []) t (k .durable) (S .spoken) (k .durable .led)
+              (omega arith) (only (Reached (k .durable)) (Propose (k .durable .led) (k .who .me) (k .lead .value)) (omega arith))
               (only _ (Propose (k .durable .led) (k .who .me) (k .lead .value)) tt);
           leading = record {
             highest = λ r y b i e. by-last (o .made) i (λ j. S .leading .highest r y b j e) (λ q. let w : r ≡ k .durable .led .0 = cc in omega arith);
@@ -227,9 +245,7 @@ module _ (z : Sizes) (o : Office) (offers : List ℕ) (I : Invariant z o offers)
       → New z o offers t (decides (counting k s) (k .durable .led)) []
   decides-new now vote full = record {
     stands = record {
-      spoken = spoken-quiet (o .sent) [] t (k .durable .joined .0) (k .durable .voted .0) (k .durable .led .0) (k .durable .joined .0) (k .durable .voted .0)
-          (k .durable .led .0)
-          (λ g i. elim i [ ]) (omega arith) (omega arith) (omega arith) (S .spoken) (λ g i. elim i [ ]);
+      spoken = spoken-quiet (o .sent) [] t (k .durable) (S .spoken) (k .durable .led) (omega arith) (λ g i. elim i [ ]) (λ g i. elim i [ ]);
       leading = record {
         highest = λ r y b i e. by-last (o .made) i (λ j. S .leading .highest r y b j e) (λ q. impossible (cc));
         collects = λ p. absurd (omega arith);

@@ -44,7 +44,7 @@ own-refused m k = record { number = refl; size = refl; from = λ g i. elim i [ ]
 pub only : (P : Message → Type 0) (x : Message) → P x → (g : Message) → g ∈ x ∷ [] → P g
 only P x h g i = rw (List·Memᴰ·eq-of-singleton i) h
 
-own-join-of : (m : MemberState) (r : Round) → sender (join-of m r) ≡ m .who .me .0
+own-join-of : (m : MemberState) (r : Round) → sender (join-of (m .who .me) (m .durable) r) ≡ m .who .me .0
 own-join-of m r = pick (ltb 0 (m .durable .voted .0))
   where
     pick : (b : Bool) → sender (cond b (JoinVoted r (m .who .me) (m .durable .voted) (m .durable .vote)) (Join r (m .who .me))) ≡ m .who .me .0
@@ -71,7 +71,7 @@ pub own-row : (m : MemberState) (e : MemberEvent) → Own m (step-row m e)
 unfolding step-row
 own-row m (starts r offer) = record { number = refl; size = refl; from = only (λ g. sender g ≡ m .who .me .0) (Start r (m .who .me)) refl; one = omega arith }
 own-row m (delivers (Start r s)) = record
-    { number = refl; size = refl; from = only (λ g. sender g ≡ m .who .me .0) (join-of m r) (own-join-of m r); one = omega arith }
+    { number = refl; size = refl; from = only (λ g. sender g ≡ m .who .me .0) (join-of (m .who .me) (m .durable) r) (own-join-of m r); one = omega arith }
 own-row m (delivers (Join r s)) = own-JOIN m m r s refl refl
 own-row m (delivers (JoinVoted r s q w)) =
     let (p, c) = own-adopting m (ltb (m .lead .source .0) (q .0)) q w in own-JOIN m (adopting m q w) r s p c
