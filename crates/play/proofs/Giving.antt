@@ -150,6 +150,7 @@ module _ {list : List ℕ} {L : Lent} (P : PassedList list L) where
           store-is =
               subst (λ y. L′ .memory .store ≡ stored (length (L .memory .store)) (ended y es .sent)) e
               (W .store-is ∙ ap (λ m. stored m (ended cleared-sizes es .sent)) length-clear);
+          joins-same = W .joins-same;
           table-is =
               subst (λ y. L′ .memory .table ≡ table (length (L .memory .table)) (made-tree y (ended y es))) e
               (W .table-is ∙ ap (λ m. table m (made-tree cleared-sizes (ended cleared-sizes es))) length-fresh);

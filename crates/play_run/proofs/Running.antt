@@ -12,18 +12,22 @@ use lib.Seq.{drop-cons, set-at, drop-drop}
 use lib.Dec.{leb, eqb}
 use borrow.Author.Tests.{leb-true, eq-eqb, ne-eqb}
 use Rattle.laws.specs.Tests.{by-test, and-left, and-right}
+use Rattle.laws.specs.Elements.{getD-in}
 use Rattle.numbers.specs.Numbers.{OK}
 use Rattle.xdr.specs.Words.{AllBytes}
 use Rattle.tree_theory.specs.Machine.{after}
 use Rattle.tree_theory.specs.Table.{rows, sized, table}
 use Rattle.tree_theory.proofs.Trees.{sized-rows}
+use Rattle.message.specs.declared.Message.{Message}
 use Rattle.member_record.specs.declared.MemberState.{MemberState}
 use Rattle.member_record.specs.Record.{fresh-record as fresh-member}
 use Rattle.model.specs.Model.{Event, Office, at-member, member-number, fresh-members, first-office, event-answers, proposals}
-use Rattle.model.specs.Model.{office-after}
+use Rattle.model.specs.Model.{message-at, office-after}
 use Rattle.model.specs.Demand.{calls, ended}
+use Rattle.model.specs.Joins.{JoinOf}
 use Rattle.model.specs.Counts.{made-tree, zeros, decisions}
 use Rattle.model.proofs.Fold.{after-last, answers-last, length-answers, zeros-append}
+use Rattle.model.proofs.Joins.{same-joins}
 use Rattle.model.proofs.Sound.{ended-sound}
 use Rattle.play_events.specs.declared.EventRead.{EventRead}
 use Rattle.play_events.specs.declared.ListHead.{ListHead}
@@ -31,7 +35,8 @@ use Rattle.play_events.specs.List.{HEAD-BYTES, MOST-EVENTS, members-of, count-o
 use Rattle.play_events.specs.List.{events-in, events-of, event-at, event-size, behind, rest}
 use Rattle.play_events.specs.Value.{model-event, ReadsEvent}
 use Rattle.play_events.proofs.Events.{events-suc, behind-suc, length-events, due-stands, offers-small, bytes-left}
-use Rattle.play_store.specs.Rows.{most-rows, store-rows, store-sized, stored}
+use Rattle.play_store.specs.Rows.{most-rows, store-rows, store-sized, stored, row-with, row-at, fetched}
+use Rattle.play_store.proofs.Stored.{row-stored, fetch-stored}
 use Rattle.play_effects.specs.declared.EventEffect.{EventEffect}
 use Rattle.play_effects.specs.declared.Tally.{Tally}
 use Rattle.play_effects.specs.Memory.{Memory}
@@ -41,7 +46,7 @@ use Rattle.play_office.specs.Represents.{after-event, fresh-office, place-of}
 use Rattle.play_office.proofs.Settling.{set-same}
 use Rattle.play_office.proofs.Before.{default, place-below, allowed-seven, sent-few, proposals-few, decisions-few}
 use Rattle.play_run.specs.Lent.{Lent}
-use Rattle.play_run.specs.Ran.{sizes-of, one, Ready, Ran}
+use Rattle.play_run.specs.Ran.{sizes-of, one, SameJoinRows, Ready, Ran}
 
 -- elements below 256 are bytes
 pub bytes-of : (s : List ℕ) → ((i : ℕ) → getD s i 0 < 256) → AllBytes s
@@ -290,6 +295,27 @@ module _ {list : List ℕ} {L₀ : Lent} {count : ℕ} {L : Lent} {members : Lis
   pub counts-small : (t .sent ≤ most-rows) × (t .proposals < 256) × (t .decisions < 256)
   counts-small = (sent-few before, proposals-few before, decisions-few before)
 
+  -- message k, and the row that it fills
+  abbrev sent-at : ℕ → Message
+  sent-at k = message-at (before .o) k
+
+  row-is : (i : ℕ) → i < t .sent → row-at (L .memory .store) i ≡ row-with (sent-at i)
+  row-is i h = row-stored (L .memory .store) (before .o .sent) i _ (G .represents .shared .messages) (omega (arith, G .represents .shared .sent-count))
+
+  sent-is : (i : ℕ) → i < t .sent → fetched (L .memory .store) i ≡ sent-at i
+  sent-is i h =
+      fetch-stored (L .memory .store) (before .o .sent) i _ (G .represents .shared .messages) (omega (arith, G .represents .shared .sent-count))
+      (before .sound .ranged) (before .sound .readable)
+
+  rows-same : SameJoinRows (L .memory .store) (t .sent)
+  rows-same i j r m a b p q =
+      let within : t .sent ≡ length (before .o .sent) = G .represents .shared .sent-count in
+      let same : sent-at i ≡ sent-at j =
+      same-joins (before .z) (events-in k (body list)) (G .ready .members) r m (sent-at i) (sent-at j)
+      (getD-in (before .o .sent) i _ (omega arith)) (getD-in (before .o .sent) j _ (omega arith))
+      (subst (JoinOf r m) (sent-is i a) p) (subst (JoinOf r m) (sent-is j b) q) in
+      row-is i a ∙ ap row-with same ∙ sym (row-is j b)
+
   -- after the last event
   pub running-ended : count ≤ k →
       Ran list L₀ (record { number = OK; accepted = accepted; messages = t .sent; proposals = t .proposals; decisions = t .decisions }) L
@@ -307,6 +333,7 @@ module _ {list : List ℕ} {L₀ : Lent} {count : ℕ} {L : Lent} {members : Lis
             G .said ∙ ap (λ n. answers-to list (L₀ .memory) n ++ drop n (L₀ .answers)) e ∙
             ap (λ n. answers-to list (L₀ .memory) last ++ drop n (L₀ .answers)) (sym long);
         store-is = R .shared .messages ∙ ap (λ n. stored n (end .sent)) (G .store-long);
+        joins-same = rows-same;
         table-is = R .slot .nodes-are ∙ ap (λ n. table n (made-tree z end)) (G .table-long);
         accepted-is = G .counted ∙ ap (λ n. zeros (answers-to list (L₀ .memory) n)) e;
         messages-are = R .shared .sent-count;

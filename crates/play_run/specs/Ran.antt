@@ -2,7 +2,7 @@
 use mathlib.Core.Path.{_≡_}
 use mathlib.Core.Bool.{true, cond}
 use mathlib.Core.List.{List, [], _++_}
-use Prim.Native.Nat.{ℕ, _≤_}
+use Prim.Native.Nat.{ℕ, _<_, _≤_}
 use lib.ListN.{length, drop}
 use lib.Dec.{eqb}
 use Rattle.numbers.specs.Numbers.{OK}
@@ -11,9 +11,10 @@ use Rattle.tree_theory.specs.Table.{rows, sized, table}
 use Rattle.member_record.specs.Record.{allowed}
 use Rattle.model.specs.Model.{Sizes, Event, first-office, event-answers, proposals}
 use Rattle.model.specs.Demand.{ended}
+use Rattle.model.specs.Joins.{JoinOf}
 use Rattle.model.specs.Counts.{made-tree, zeros, decisions}
 use Rattle.play_events.specs.List.{members-of, count-of, list-fits, events-of}
-use Rattle.play_store.specs.Rows.{store-rows, store-sized, stored}
+use Rattle.play_store.specs.Rows.{store-rows, store-sized, stored, row-at, fetched}
 use Rattle.play_effects.specs.Memory.{Memory}
 use Rattle.play_run.specs.declared.PlayAnswer.{PlayAnswer}
 use Rattle.play_run.specs.Lent.{Lent}
@@ -26,6 +27,11 @@ sizes-of list M = record { n = members-of list; store = store-rows (M .store); t
 abbrev pub one : ℕ → ℕ
 one number = cond (eqb number OK) 1 0
 
+-- two JOINs of one member for one round, in the rows used, are equal, byte for byte
+abbrev pub SameJoinRows : List ℕ → ℕ → Type 0
+SameJoinRows s used =
+    (i j r m : ℕ) → i < used → j < used → JoinOf r m (fetched s i) → JoinOf r m (fetched s j) → row-at s i ≡ row-at s j
+
 -- What the events of a list come to, on what was lent. `z` is what the model is fed, `es` the events.
 pub record PlayedEvents (z : Sizes) (es : List Event) (L : Lent) (r : PlayAnswer) (L′ : Lent) : Type 0 where
   pub number-ok : r .number ≡ OK
@@ -33,6 +39,8 @@ pub record PlayedEvents (z : Sizes) (es : List Event) (L : Lent) (r : PlayAnswer
   pub answers-are : L′ .answers ≡ event-answers z (first-office (z .n)) es ++ drop (length es) (L .answers)
   -- message k at the front of row k, zeros after
   pub store-is : L′ .memory .store ≡ stored (length (L .memory .store)) (ended z es .sent)
+  -- however often START was repeated, JOINs are
+  pub joins-same : SameJoinRows (L′ .memory .store) (r .messages)
   -- the tree that the model's proposals and decisions make, in every row
   pub table-is : L′ .memory .table ≡ table (length (L .memory .table)) (made-tree z (ended z es))
   -- accepted is the zeros among the answers, messages the rows used

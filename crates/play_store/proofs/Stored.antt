@@ -99,12 +99,17 @@ row-found (g ∷ gs) behind (suc k) d h =
     )
     (row-found gs behind k d (omega arith))
 
+-- row k of a store is that of message k
+pub row-stored : (s : List ℕ) (gs : List Message) (k : ℕ) (d : Message) → s ≡ stored (length s) gs → k < length gs → row-at s k ≡ row-with (getD gs k d)
+unfolding stored
+row-stored s gs k d e h = ap (λ (t : List ℕ). row-at t k) e ∙ row-found gs (zeros (length s - row-start (length gs))) k d h
+
 -- the message of row k is message k
 pub fetch-stored : (s : List ℕ) (gs : List Message) (k : ℕ) (d : Message) → s ≡ stored (length s) gs → k < length gs →
     ((g : Message) → g ∈ gs → in-range g ≡ true) → ((g : Message) → g ∈ gs → ValueFits g) → fetched s k ≡ getD gs k d
-unfolding stored fetched row-with
+unfolding fetched row-with
 fetch-stored s gs k d e h ranged held =
     let g = getD gs k d in
     let m : g ∈ gs = getD-in gs k d h in
-    let row : row-at s k ≡ row-with g = ap (λ (t : List ℕ). row-at t k) e ∙ row-found gs (zeros (length s - row-start (length gs))) k d h in
-    ap (λ (r : List ℕ). decoded (take (size r) r)) row ∙ spelt-front g (zeros (row-length - length (bytes g))) (held g m) (ranged g m)
+    ap (λ (r : List ℕ). decoded (take (size r) r)) (row-stored s gs k d e h) ∙
+    spelt-front g (zeros (row-length - length (bytes g))) (held g m) (ranged g m)
