@@ -180,7 +180,7 @@ impl Office<'_> {
                 if round.leader(n) != Some(sender) {
                     return Err(Refusal::WrongSender);
                 }
-                if record.j >= round {
+                if record.j > round || (record.j == round && record.v == round) {
                     return Err(Refusal::MovedPast);
                 }
                 let join = self.store.send(JOIN, round, member)?;

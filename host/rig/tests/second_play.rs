@@ -92,8 +92,9 @@ fn event_refusals() {
     assert_eq!(answers("n=3 s(3,1,70) s(1,0,70) s(1,1000001,70) s(2,1,70) s(1,1,70) s(1,1,70)"), [29, 3, 3, 19, 0, 20]);
     assert_eq!(
         answers("n=3 d(0,0) s(1,1,70) d(0,3) d(1,0) d(0,0) d(0,0) d(1,0) d(1,2)"),
-        [29, 0, 29, 29, 0, 22, 24, 24]
+        [29, 0, 29, 29, 0, 0, 24, 24]
     );
+    assert_eq!(answers("n=3 s(1,1,70) s(2,2,80) d(1,0) d(0,0) d(1,0)"), [0, 0, 0, 22, 0]);
 }
 
 /// 30 before 9; an event refused with either changes nothing, its flag too.
@@ -117,8 +118,8 @@ fn faults_seen_on_earlier_builds() {
     assert_eq!(nodes(&table).map(|node| node.value).collect::<Vec<_>>(), [0, 70, 70]);
     // One sender's JOIN counted twice.
     assert_eq!(answers("n=3 s(1,1,70) d(0,0) d(1,1) d(1,1)"), [0, 0, 0, 25]);
-    // START accepted when J = r.
-    assert_eq!(answers("n=3 s(1,1,70) d(0,0) d(0,0)"), [0, 0, 22]);
+    // START accepted when V = r: member 0 has voted in round 1.
+    assert_eq!(answers("n=3 s(1,1,70) d(0,0) d(0,1) d(1,1) d(2,1) d(3,0) d(0,0)"), [0, 0, 0, 0, 0, 0, 22]);
     // Status GHOST written over COMMITTED: round 1 is decided, round 3 follows it and strikes out round 2.
     let committed =
         "n=3 s(1,1,70) d(0,0) d(0,1) d(1,1) d(2,1) d(3,0) d(3,1) d(4,1) d(5,1) s(2,2,80) d(6,0) d(6,2) d(7,2) \

@@ -13,7 +13,20 @@ const FAULTS: &[Fault] = &[
     Fault("nothing is changed", "member.rs", "", ""),
     Fault("presence is taken as 0", "member.rs", "if self.v > Round(0) { Some", "if self.v > Round::HIGHEST { Some"),
     Fault("a JOIN is counted twice", "member.rs", "*flag = true;", "*flag = phase == PROPOSED;"),
-    Fault("START is accepted when J = r", "member.rs", "if self.j >= round {", "if self.j > round {"),
+    // A JOIN tells no vote of its own round, so this one tells none.
+    Fault(
+        "START is accepted when V = r",
+        "member.rs",
+        "|| (self.j == round && self.v == round) {
+            return Err(Refusal::MovedPast);
+        }",
+        "{
+            return Err(Refusal::MovedPast);
+        }
+        if self.v == round {
+            return Ok(sends(Message::join(round, self.number, None)));
+        }",
+    ),
     Fault(
         "GHOST over COMMITTED",
         "tree.rs",

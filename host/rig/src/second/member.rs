@@ -256,15 +256,16 @@ impl Record {
         }
     }
 
+    /// START r at J = r and V < r changes nothing and sends the same JOIN.
     fn on_start(&mut self, round: Round, sender: Member) -> Result<Step, Refusal> {
         if Some(sender) != round.leader(self.n) {
             return Err(Refusal::WrongSender);
         }
-        if self.j >= round {
+        if self.j > round || (self.j == round && self.v == round) {
             return Err(Refusal::MovedPast);
         }
-        self.j = round;
         let vote = if self.v > Round(0) { Some(Vote { round: self.v, value: self.w }) } else { None };
+        self.j = round;
         Ok(sends(Message::join(round, self.number, vote)))
     }
 

@@ -1,4 +1,5 @@
-//! The second implementation: document 01, and Ticket 1 of document 02, in plain Rust, written from the documents alone.
+//! The second implementation: document 01, and Tickets 1 and 2 of document 02, in plain Rust, written from the
+//! documents alone.
 //!
 //! It is the reference for tests: the proved core is compared with it call for call, lent memory included. It has no
 //! proofs and knows nothing of how the core is made. The office's host program calls the core, not this.
