@@ -1,5 +1,5 @@
-//! The second implementation's members against document 01: soundness field by field, each row of the member table,
-//! and that a refused step changes nothing.
+//! The second implementation's members against document 01 and Ticket 2 of document 02: soundness field by field, each
+//! row of the member table, and that a refused step changes nothing.
 
 use kalebasin::notation::parse;
 use kalebasin::{number_of, Event, Member, Message, Refusal, Round, Vote};
@@ -134,26 +134,126 @@ fn starts() {
     assert_eq!(record, Record { l: Round(7), phase: COLLECTING, x: 80, b: Round(0), flags: [false; 7], ..before });
 }
 
+fn start_of(round: u32, sender: u32) -> Message {
+    Message::start(Round(round), Member(sender))
+}
+
+fn join(round: u32, sender: u32, vote: Option<(u32, u64)>) -> Message {
+    Message::join(Round(round), Member(sender), vote.map(|(round, value)| Vote { round: Round(round), value }))
+}
+
 #[test]
 fn start_messages() {
-    let start = |round, sender| Message::start(Round(round), Member(sender));
     let mut record = member(2);
-    assert_eq!(give(&mut record, start(4, 0)), Err(21));
-    assert_eq!(give(&mut record, start(4, 1)), Ok(Some(Message::join(Round(4), Member(2), None))));
+    assert_eq!(give(&mut record, start_of(4, 0)), Err(21));
+    assert_eq!(give(&mut record, start_of(4, 1)), Ok(Some(join(4, 2, None))));
     assert_eq!(record, Record { j: Round(4), ..member(2) });
-    assert_eq!(give(&mut record, start(4, 1)), Ok(Some(Message::join(Round(4), Member(2), None))));
-    assert_eq!(record, Record { j: Round(4), ..member(2) });
-    assert_eq!(give(&mut record, start(3, 0)), Err(22));
+    assert_eq!(give(&mut record, start_of(3, 0)), Err(22));
     let mut voted = Record { j: Round(4), v: Round(3), w: 0, ..member(2) };
-    let vote = Some(Vote { round: Round(3), value: 0 });
-    assert_eq!(give(&mut voted, start(6, 0)), Ok(Some(Message::join(Round(6), Member(2), vote))));
+    assert_eq!(give(&mut voted, start_of(6, 0)), Ok(Some(join(6, 2, Some((3, 0))))));
+    assert_eq!(voted, Record { j: Round(6), v: Round(3), w: 0, ..member(2) });
+}
+
+/// The answers to START 4, by J and then by V.
+const START_4: [&[u32]; 6] = [&[0], &[0, 0], &[0, 0, 0], &[0, 0, 0, 0], &[0, 0, 0, 0, 22], &[22, 22, 22, 22, 22, 22]];
+
+#[test]
+fn start_messages_by_joined_and_voted_round() {
+    for (j, numbers) in (0..).zip(START_4) {
+        for (v, number) in (0..).zip(numbers) {
+            let voted = (v > 0).then_some((v, 9));
+            let before = Record { j: Round(j), v: Round(v), w: voted.map_or(0, |(_, value)| value), ..member(2) };
+            let mut record = before;
+            match give(&mut record, start_of(4, 1)) {
+                Ok(sent) => {
+                    assert_eq!((0, sent), (*number, Some(join(4, 2, voted))), "{before:?}");
+                    assert_eq!(record, Record { j: Round(4), ..before });
+                }
+                Err(given) => assert_eq!(given, *number, "{before:?}"),
+            }
+        }
+    }
+}
+
+/// START r at J = r and V < r, however often it comes: every field stays, and the JOIN is the same.
+#[test]
+fn repeated_start_messages() {
+    let with_flags = |set: &[usize], record| Record { flags: std::array::from_fn(|at| set.contains(&at)), ..record };
+    let counting = with_flags(&[2], Record { x: 66, b: Round(2), ..collecting() });
+    let last = Record { j: Round(1_000_000), v: Round(999_999), w: u64::MAX, ..member(0) };
+    let of_five = fresh(Member(4), 5).unwrap();
+    let of_seven = fresh(Member(0), 7).unwrap();
+    // The record, the round and its leader, the vote that the JOIN tells.
+    let cases = [
+        (Record { j: Round(1), ..member(0) }, 1, 1, None),
+        (Record { j: Round(4), ..member(2) }, 4, 1, None),
+        (Record { j: Round(6), v: Round(3), w: 9, ..member(2) }, 6, 0, Some((3, 9))),
+        (Record { j: Round(6), v: Round(5), w: 0, ..member(2) }, 6, 0, Some((5, 0))),
+        (last, 1_000_000, 1, Some((999_999, u64::MAX))),
+        (Record { j: Round(7), ..of_five }, 7, 2, None),
+        (Record { j: Round(20), v: Round(1), w: 70, ..of_seven }, 20, 6, Some((1, 70))),
+        // A leader of round 4 gets START 5.
+        (counting, 5, 2, Some((3, 9))),
+        (Record { phase: PROPOSED, ..counting }, 5, 2, Some((3, 9))),
+        (with_flags(&[0, 2], Record { phase: DECIDED, ..counting }), 5, 2, Some((3, 9))),
+        // It gets its own START.
+        (Record { j: Round(4), ..counting }, 4, 1, Some((3, 9))),
+        (Record { j: Round(4), v: Round(0), w: 0, phase: PROPOSED, ..counting }, 4, 1, None),
+    ];
+    for (before, round, leader, voted) in cases {
+        let mut record = before;
+        for _ in 0..3 {
+            let answer = give(&mut record, start_of(round, leader));
+            assert_eq!(answer, Ok(Some(join(round, before.number.0, voted))), "{before:?}");
+            assert_eq!(record, before);
+        }
+        assert_eq!(give(&mut record, start_of(round, (leader + 1) % 7)), Err(21), "{before:?}");
+    }
+}
+
+/// The bytes of a JOIN that is sent twice, by a member that never voted and by one that has.
+#[test]
+fn bytes_of_a_join_sent_again() {
+    let mut never = member(2);
+    let mut voted = Record { j: Round(4), v: Round(4), w: 9, ..member(2) };
+    let bytes_sent = |record: &mut Record, start| {
+        let mut reply = [0xaa; 28];
+        let (sent, _) = deliver(record, &mut reply, &put(start)).unwrap();
+        reply[..sent].to_vec()
+    };
+    let bytes = |words: &[u32]| words.iter().flat_map(|word| word.to_be_bytes()).collect::<Vec<u8>>();
+    for _ in 0..2 {
+        assert_eq!(bytes_sent(&mut never, start_of(4, 1)), bytes(&[2, 4, 2, 0]));
+        assert_eq!(bytes_sent(&mut voted, start_of(6, 0)), bytes(&[2, 6, 2, 1, 4, 0, 9]));
+    }
+}
+
+/// START r is refused from the vote in r on: at J = V = r, and at J > r.
+#[test]
+fn start_messages_after_the_vote() {
+    let propose = |round, sender, value| Message::propose(Round(round), Member(sender), value);
+    let vote = |round| Ok(Some(Message::vote(Round(round), Member(2))));
+    let mut record = member(2);
+    assert_eq!(give(&mut record, start_of(4, 1)), Ok(Some(join(4, 2, None))));
+    assert_eq!(give(&mut record, start_of(4, 1)), Ok(Some(join(4, 2, None))));
+    assert_eq!(give(&mut record, propose(4, 1, 9)), vote(4));
+    assert_eq!(give(&mut record, start_of(4, 1)), Err(22));
+    assert_eq!(give(&mut record, start_of(4, 0)), Err(21));
+    assert_eq!(record, Record { j: Round(4), v: Round(4), w: 9, ..member(2) });
+    assert_eq!(give(&mut record, start_of(6, 0)), Ok(Some(join(6, 2, Some((4, 9))))));
+    assert_eq!(give(&mut record, start_of(4, 1)), Err(22));
+    assert_eq!(give(&mut record, start_of(5, 2)), Err(22));
+    assert_eq!(give(&mut record, start_of(6, 0)), Ok(Some(join(6, 2, Some((4, 9))))));
+    assert_eq!(give(&mut record, propose(6, 0, 9)), vote(6));
+    assert_eq!(give(&mut record, start_of(6, 0)), Err(22));
+    // A vote without a JOIN before it.
+    let mut record = member(2);
+    assert_eq!(give(&mut record, propose(4, 1, 0)), vote(4));
+    assert_eq!(give(&mut record, start_of(4, 1)), Err(22));
 }
 
 #[test]
 fn join_messages() {
-    let join = |round, sender, vote: Option<(u32, u64)>| {
-        Message::join(Round(round), Member(sender), vote.map(|(round, value)| Vote { round: Round(round), value }))
-    };
     let mut record = collecting();
     assert_eq!(give(&mut record, join(4, 3, None)), Err(21));
     assert_eq!(give(&mut record, join(7, 0, None)), Err(24));

@@ -1,8 +1,9 @@
-//! The second implementation's play against document 01: the rehearsal to the letter, the list refusals in order, the
-//! faults seen on earlier builds, and the third demand on random lists.
+//! The second implementation's play against document 01 and Ticket 2 of document 02: the rehearsal to the letter, the
+//! list refusals in order, a lost JOIN that is sent again, the faults seen on earlier builds, and the third demand on
+//! random lists.
 
 use kalebasin::notation::parse;
-use kalebasin::{nodes, number_of, sent, EventList, Played, Refusal, Status};
+use kalebasin::{nodes, number_of, sent, EventList, Message, Played, Refusal, Status};
 use kalebasin_rig::compare::{play, Left, Lent};
 use kalebasin_rig::random::Random;
 use kalebasin_rig::search::{Run, ALWAYS};
@@ -10,6 +11,7 @@ use kalebasin_rig::second;
 use kalebasin_rig::second::model::Made;
 use kalebasin_rig::suite::REHEARSAL;
 use kalebasin_rig::{generate, rehearsal};
+use std::collections::HashMap;
 
 fn list(notation: &str) -> EventList {
     parse(notation, None).unwrap()
@@ -110,6 +112,59 @@ fn full_store_and_full_table() {
     assert_eq!(run("n=3 s(1,1,70) s(2,2,80) d(0,0)", 1, 1).answers(), [0, 30, 30]);
 }
 
+/// The words of a row of the store.
+fn words(left: &Left, row: usize) -> Vec<u32> {
+    let bytes = &left.store()[28 * row..][..28];
+    bytes.chunks(4).map(|word| u32::from_be_bytes(word.try_into().unwrap())).collect()
+}
+
+/// Each node's round, parent, value, status.
+fn rows(left: &Left) -> Vec<[u64; 4]> {
+    left.table().chunks(4).map(|row| row.try_into().unwrap()).take_while(|row: &[u64; 4]| row[3] != 0).collect()
+}
+
+/// Member 0 gets START 1, and no event delivers its JOIN, message 1. It gets START 1 again. Its second JOIN, message 3,
+/// is delivered, and the round is decided.
+#[test]
+fn a_lost_join_is_sent_again() {
+    let lost = "n=3 s(1,1,70) d(0,0) d(0,1) d(2,1) d(0,0) d(3,1) d(4,0) d(4,1) d(5,1) d(6,1)";
+    let left = run(lost, 100, 64);
+    assert_eq!(left.answers(), [0; 10]);
+    assert_eq!(left.result.map(counts), Ok([10, 7, 1, 1]));
+    assert_eq!(words(&left, 1), [2, 1, 0, 0, 0, 0, 0]);
+    assert_eq!(words(&left, 3), [2, 1, 0, 0, 0, 0, 0]);
+    assert_eq!(rows(&left), [[0, 0, 0, 3], [1, 0, 70, 3]]);
+    // Delivered late, the first JOIN isn't awaited; delivered before a quorum, one of the two is counted.
+    assert_eq!(answers(&format!("{lost} d(1,1)"))[10..], [24]);
+    assert_eq!(answers("n=3 s(1,1,70) d(0,0) d(0,0) d(2,1) d(1,1)"), [0, 0, 0, 0, 25]);
+}
+
+/// Member 0 votes for 70 in round 1. Its JOIN of round 2, message 6, is lost. The second, message 8, tells the vote
+/// too, and round 2 proposes and decides 70.
+#[test]
+fn a_lost_join_with_a_vote_is_sent_again() {
+    let lost = "n=3 s(1,1,70) d(0,0) d(0,1) d(1,1) d(2,1) d(3,0) s(2,2,80) d(5,0) d(5,2) d(7,2) d(5,0) d(8,2) d(9,0) \
+                d(9,2) d(10,2) d(11,2)";
+    let left = run(lost, 100, 64);
+    assert_eq!(left.answers(), [0; 16]);
+    assert_eq!(left.result.map(counts), Ok([16, 12, 2, 1]));
+    assert_eq!(words(&left, 6), [2, 2, 0, 1, 1, 0, 70]);
+    assert_eq!(words(&left, 8), [2, 2, 0, 1, 1, 0, 70]);
+    assert_eq!(rows(&left), [[0, 0, 0, 3], [1, 0, 70, 1], [2, 1, 70, 3]]);
+}
+
+/// 30 while J = r and V < r; 22 comes before it at V = r and at J > r.
+#[test]
+fn repeated_starts_on_a_full_store() {
+    assert_eq!(run("n=3 s(1,1,70) d(0,0) d(0,0)", 3, 1).answers(), [0, 0, 0]);
+    let full = run("n=3 s(1,1,70) d(0,0) d(0,0) d(0,0)", 2, 1);
+    assert_eq!(full.answers(), [0, 0, 30, 30]);
+    assert_eq!(full.result.map(counts), Ok([2, 2, 0, 0]));
+    let voted = run("n=3 s(1,1,70) d(0,0) d(0,1) d(1,1) d(2,1) d(3,0) d(0,0) d(0,1)", 5, 2);
+    assert_eq!(voted.answers(), [0, 0, 0, 0, 0, 0, 22, 30]);
+    assert_eq!(run("n=3 s(1,1,70) s(2,2,80) d(1,0) d(0,0) d(1,0)", 3, 1).answers(), [0, 0, 0, 22, 30]);
+}
+
 /// Faults seen on earlier builds, each with a list that shows it.
 #[test]
 fn faults_seen_on_earlier_builds() {
@@ -145,6 +200,7 @@ struct Reached {
     proposed: usize,
     decided: usize,
     taken_over: usize,
+    joined_again: usize,
     late_decision: usize,
     two_decisions: usize,
     full_store: usize,
@@ -167,11 +223,26 @@ impl Reached {
         self.proposed += usize::from(run.model.proposals().next().is_some());
         self.decided += usize::from(run.model.decisions().next().is_some());
         self.taken_over += usize::from(run.model.proposals().any(|made| made.parent.0 > 0));
+        self.joined_again += usize::from(joined_again(run));
         self.late_decision += usize::from(late);
         self.two_decisions += usize::from(run.model.decisions().count() > 1);
         self.full_store += usize::from(run.answers.contains(&30));
         self.full_table += usize::from(run.answers.contains(&9));
     }
+}
+
+/// Whether a JOIN is sent again. The JOINs of one member and round are the same.
+fn joined_again(run: &Run) -> bool {
+    let mut votes = HashMap::new();
+    let mut again = false;
+    for sent in &run.model.sent {
+        let Message::Join { round, sender, vote, .. } = *sent else { continue };
+        if let Some(before) = votes.insert((round, sender), vote) {
+            assert_eq!(before, vote, "JOIN {round} of member {sender}\n{}", run.case.list);
+            again = true;
+        }
+    }
+    again
 }
 
 /// What document 01 says of every run, on steered lists; and that the steering reaches what it is to reach.
@@ -194,6 +265,7 @@ fn third_demand_on_random_lists() {
         (reached.proposed, 60),
         (reached.decided, 35),
         (reached.taken_over, 30),
+        (reached.joined_again, 30),
         (reached.late_decision, 6),
         (reached.two_decisions, 10),
         (reached.full_store, 10),
