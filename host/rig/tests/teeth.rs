@@ -28,6 +28,40 @@ const FAULTS: &[Fault] = &[
         }",
     ),
     Fault(
+        "a repeated START is refused",
+        "member.rs",
+        "if self.j > round || (self.j == round && self.v == round) {",
+        "if self.j >= round {",
+    ),
+    Fault(
+        "a repeated START changes the record",
+        "member.rs",
+        "self.j = round;
+        Ok(sends(Message::join(",
+        "if self.j == round {
+            (self.v, self.w) = (Round(0), 0);
+        }
+        self.j = round;
+        Ok(sends(Message::join(",
+    ),
+    Fault(
+        "a repeated START sends a JOIN without its vote",
+        "member.rs",
+        "if self.v > Round(0) { Some",
+        "if self.v > Round(0) && self.j < round { Some",
+    ),
+    Fault(
+        "a repeated START sends nothing",
+        "member.rs",
+        "self.j = round;
+        Ok(sends(Message::join(",
+        "if self.j == round {
+            return Ok(Step::default());
+        }
+        self.j = round;
+        Ok(sends(Message::join(",
+    ),
+    Fault(
         "GHOST over COMMITTED",
         "tree.rs",
         "ancestor = node[PARENT];",
