@@ -96,7 +96,7 @@ module _ (z : Sizes) (o : Office) (offers : List ℕ) (I : Invariant z o offers)
           up (omega arith) (omega arith)
           (λ g r₁ k i j w low. only (λ x. k ≤ carried x) (own-join r) (of-join r (λ x. k ≤ carried x) (λ v. lower k w) (λ v. omega (arith, lower k w))) g i)
           (λ g r₁ k i j w low. absurd (no-vote r k w))
-          (λ g r₁ i j. (only (λ x. JoinOf r₁ t x → r₁ ≡ r .0) (own-join r) (of-join r (λ x. JoinOf r₁ t x → r₁ ≡ r .0) (λ v q. sym (q .0)) (λ v q. sym (q .0))) g i j, unvoted))
+          (λ g r₁ i j. (of-round g r₁ i j, unvoted))
           (λ g i j v. ⊎-elim (λ k. first-told g k j) (λ k. List·Memᴰ·eq-of-singleton k ∙ own) (List·Memᴰ·append-cases (o .sent) i));
       leading = leading-calm (own-join r ∷ []) [];
       vote-added = λ h. added-grows [] (S .vote-added h);
@@ -112,6 +112,11 @@ module _ (z : Sizes) (o : Office) (offers : List ℕ) (I : Invariant z o offers)
 
       unvoted : m .durable .voted .0 < r .0
       unvoted = vote-below m r early (vote-lower z t m M)
+
+      -- the JOIN sent is of r
+      of-round : (g : Message) (k : ℕ) → g ∈ own-join r ∷ [] → JoinOf k t g → k ≡ r .0
+      of-round g k =
+          only (λ x. JoinOf k t x → k ≡ r .0) (own-join r) (of-join r (λ x. JoinOf k t x → k ≡ r .0) (λ v q. sym (q .0)) (λ v q. sym (q .0))) g
 
       own : own-join r ≡ join-of (member-number t) (m .durable) r
       own = ap (λ s. join-of s (m .durable) r) (M .number)
