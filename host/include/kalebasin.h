@@ -101,7 +101,7 @@ static inline const char *kalebasin_cause(uint32_t number) {
 
 /* The version of the functions that this header declares, and that which each archive has. A program that starts asks that they
  * be equal: the version goes up with each change that a caller sees. */
-enum { KALEBASIN_VERSION = 2 };
+enum { KALEBASIN_VERSION = 3 };
 uint32_t kalebasin_version(void);
 uint32_t kalebasin_member_version(void);
 

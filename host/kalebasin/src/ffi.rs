@@ -116,7 +116,7 @@ pub struct WriteResult {
 
 /// The version of the C functions that this crate is written for. A call of the front of this crate panics
 /// where an archive's version ([`kalebasin_version`], [`kalebasin_member_version`]) is another.
-pub const API_VERSION: u32 = 2;
+pub const API_VERSION: u32 = 3;
 
 extern "C" {
     /// The version of these functions that `libexports.a` has.
