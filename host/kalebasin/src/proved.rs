@@ -150,7 +150,8 @@ impl Message {
 /// A step takes the record from one sound state to the next and tells what to send; a refused one leaves it. Keep one
 /// record for each member and no copies that act: a member that goes on from an older record has forgotten what it
 /// promised, and nothing is proved of an office with such a member. So the fields of [`MemberRecord::fields`] are on disk
-/// before what a step sends leaves the machine.
+/// before what a step sends leaves the machine. A START or PROPOSE that comes again leaves them as they are: then nothing has
+/// to be written before the answer goes out.
 ///
 /// ```
 /// use kalebasin::{Made, Member, MemberRecord, Message, Refusal, Round};
@@ -198,6 +199,24 @@ impl MemberRecord {
 
     /// Delivers the bytes of one message to this member. What it sends stands at the front of `reply` then; bytes behind it
     /// stay.
+    ///
+    /// A START or PROPOSE that comes again, as where its answer was lost, leaves the record as it is and sends the same JOIN
+    /// or VOTE. It gets 22 once the member has joined or voted in a higher round, a START also once the member has voted in
+    /// its own.
+    ///
+    /// ```
+    /// use kalebasin::{Member, MemberRecord, Message, Refusal, Round};
+    ///
+    /// let mut reply = [0; Message::LONGEST];
+    /// let sent = MemberRecord::fresh(Member(1), 3)?.start(Round(1), 70, &mut reply)?.sent;
+    /// let start = reply[..sent].to_vec();
+    /// let mut member = MemberRecord::fresh(Member(0), 3)?;
+    /// let sent = member.deliver(&start, &mut reply)?.sent;
+    /// let (join, joined) = (reply[..sent].to_vec(), member.clone());
+    /// let sent = member.deliver(&start, &mut reply)?.sent; // the JOIN was lost, and the START comes again
+    /// assert_eq!((&reply[..sent], member), (&join[..], joined));
+    /// # Ok::<(), Refusal>(())
+    /// ```
     ///
     /// # Errors
     /// 17, 18, those of [`read_message`], then 21 to 25 by the message's kind.
