@@ -1,5 +1,5 @@
-/* Calls each function of kalebasin.h and expects what documents 01 and 02 say: its rehearsal, a message, a member, a tree of each kind of two rounds, and refusals;
-   slices of no elements, also null ones, and bytes at odd addresses. */
+/* Calls each function of kalebasin.h and expects what documents 01 and 02 say: its rehearsal, a message, a member, a START that comes again, a tree of
+   each kind of two rounds, and refusals; slices of no elements, also null ones, and bytes at odd addresses. */
 #include "kalebasin.h"
 #include <stdio.h>
 #include <string.h>
@@ -109,6 +109,27 @@ static int member(void) {
     return 0;
 }
 
+/* Member 0 of three in rounds 1 and 2: a START that comes again leaves the record and sends the same JOIN, without a vote and with one; it gets 22
+   after a vote in its round, and after a higher round was joined. */
+static int start_again(void) {
+    uint8_t start[2][28], reply[28], again[28];
+    KalebasinMemberRecord record = kalebasin_member_fresh(0, 3).record;
+    for (uint32_t round = 1; round <= 2; round++) {
+        uint8_t *sent = start[round - 1], propose[28];
+        EXPECT(kalebasin_write_message(KALEBASIN_START, round, round, 0, 0, 0, sent, 28).length == 12);
+        memset(reply, 99, 28), memset(again, 99, 28);
+        KalebasinMemberResult first = kalebasin_member_deliver(record, sent, 12, reply, 28);
+        KalebasinMemberResult second = kalebasin_member_deliver(first.record, sent, 12, again, 28);
+        EXPECT(first.number == 0 && first.sent == (round == 1 ? 16 : 28) && first.record.joined == round);
+        EXPECT(!memcmp(&first, &second, sizeof first) && !memcmp(reply, again, 28));
+        EXPECT(round == 1 || kalebasin_member_deliver(second.record, start[0], 12, again, 28).number == KALEBASIN_MOVED_PAST);
+        EXPECT(kalebasin_write_message(KALEBASIN_PROPOSE, round, round, 0, 0, 70, propose, 28).length == 20);
+        record = kalebasin_member_deliver(second.record, propose, 20, reply, 28).record;
+        EXPECT(record.voted == round && kalebasin_member_deliver(record, sent, 12, again, 28).number == KALEBASIN_MOVED_PAST);
+    }
+    return 0;
+}
+
 static int tree(void) {
     uint64_t table[16], out[4] = {99, 99, 99, 99};
     EXPECT(kalebasin_tree_fresh(table, 15) == 1 && kalebasin_tree_fresh(table, 16) == 0);
@@ -199,5 +220,6 @@ static int causes(void) {
 int main(void) {
     EXPECT(kalebasin_version() == KALEBASIN_VERSION);
     EXPECT(kalebasin_member_version() == KALEBASIN_VERSION);
-    return play() || read_message() || write_message() || member() || tree() || commands() || nothing(NULL) || nothing((uint64_t *)8) || odd_addresses() || causes();
+    return play() || read_message() || write_message() || member() || start_again() || tree() || commands() || nothing(NULL) ||
+           nothing((uint64_t *)8) || odd_addresses() || causes();
 }
