@@ -61,13 +61,16 @@ fn accepted(before: &Model, after: &Model, event: &Event, step: &Step) -> String
         Event::Deliver { message, member, .. } => {
             let (was, is) = (&before.members[member.0 as usize], &after.members[member.0 as usize]);
             match &before.sent[message.0 as usize] {
-                Message::Start { round, .. } => match step.sent {
-                    Some(Message::Join { vote: Some(vote), .. }) => format!(
-                        "member {member} joins round {round} and sends {sent}, telling its vote for {} in round {}",
-                        vote.value, vote.round
-                    ),
-                    _ => format!("member {member} joins round {round} and sends {sent}; it has never voted"),
-                },
+                Message::Start { round, .. } => {
+                    let (again, same) = join_before(before, step);
+                    let told = match step.sent {
+                        Some(Message::Join { vote: Some(vote), .. }) => {
+                            format!(", telling its vote for {} in round {}", vote.value, vote.round)
+                        }
+                        _ => "; it has never voted".into(),
+                    };
+                    format!("member {member} joins round {round}{again} and sends {sent}{same}{told}")
+                }
                 Message::Propose { round, value, .. } => {
                     let again = if was.v == *round { " again" } else { "" };
                     format!("member {member} votes{again} for {value} in round {round} and sends {sent}")
@@ -77,6 +80,14 @@ fn accepted(before: &Model, after: &Model, event: &Event, step: &Step) -> String
             }
         }
         other => other.to_string(),
+    }
+}
+
+/// Words to a JOIN that was sent before: that the member joins again, and which message was the same.
+fn join_before(before: &Model, step: &Step) -> (&'static str, String) {
+    match before.sent.iter().position(|sent| Some(*sent) == step.sent) {
+        Some(first) => (" again", format!(", the same as message {first}")),
+        None => ("", String::new()),
     }
 }
 
@@ -135,7 +146,7 @@ fn why(before: &Model, event: &Event, member: Member, refusal: Refusal) -> Strin
         (Refusal::NotLeader, Event::Start { round, .. }) => format!("member {} leads it", before.leader(*round)),
         (Refusal::NotAboveLed, _) => format!("it led round {} already", record.l),
         (Refusal::RoundRange, _) => "rounds run from 1 to 1,000,000".into(),
-        (Refusal::MovedPast, _) => format!("it has joined or voted in round {}", record.j),
+        (Refusal::MovedPast, Event::Deliver { message, .. }) => moved_past(before, *message, record),
         (Refusal::AnotherValue, _) => format!("it has voted for {} in round {}", record.w, record.v),
         (Refusal::NotAwaited, _) => leading(record),
         (Refusal::CountedAlready, Event::Deliver { message, .. }) => counted_already(before, *message),
@@ -146,6 +157,14 @@ fn why(before: &Model, event: &Event, member: Member, refusal: Refusal) -> Strin
             format!("it would propose, and the {} proposals fill the table", before.proposals().count())
         }
         _ => refusal.cause().into(),
+    }
+}
+
+/// A START is refused by a member in a higher round, and by one that has voted in the START's own.
+fn moved_past(before: &Model, message: MessageNumber, record: &Record) -> String {
+    match before.message(message) {
+        Some(sent) if sent.round() == record.j => format!("it has voted in round {} already", record.v),
+        _ => format!("it has joined or voted in round {}", record.j),
     }
 }
 

@@ -204,10 +204,11 @@ fn the_rehearsal_in_words() {
 #[test]
 fn runs_in_words() {
     let every_refusal =
-        "s(3,1,7) d(0,0) s(1,1,7) s(1,0,7) s(2,1,7) s(1,1,7) d(0,0) d(0,0) d(1,0) d(1,1) d(1,1) d(5,1) s(1,4,8)";
+        "s(3,1,7) d(0,0) s(1,1,7) s(1,0,7) s(2,1,7) s(1,1,7) d(0,0) d(1,0) d(1,1) d(1,1) d(5,1) s(1,4,8) d(2,0) \
+         d(0,0) d(2,0)";
     let full_table = "s(1,1,70) d(0,0) d(0,1) d(1,1) d(2,1)";
     for on in IMPLEMENTATIONS {
-        let (status, out, _) = tool_on(on, &["run", "--store-rows", "2", "-e", every_refusal], b"");
+        let (status, out, _) = tool_on(on, &["run", "--store-rows", "4", "-e", every_refusal], b"");
         assert_eq!(status, 0);
         for words in [
             "the office has members 0 to 2",
@@ -215,11 +216,11 @@ fn runs_in_words() {
             "rounds run from 1 to 1,000,000",
             "member 1 leads it",
             "it led round 1 already",
-            "it has joined or voted in round 1",
+            "it has joined or voted in round 4",
             "it has led no round",
             "member 0 is counted already",
             "only messages 0 to 1 were sent yet",
-            "it would send, and the 2 messages sent fill the store",
+            "it would send, and the 4 messages sent fill the store",
         ] {
             assert!(out.contains(words), "{words}\n{out}");
         }
@@ -240,6 +241,36 @@ fn tree_calls_in_words() {
         let shown = shown.replace("the proved core", on.1);
         assert_eq!(tool_on(on, &["tree", "-e", calls], b""), (0, shown.clone(), String::new()));
         assert_eq!(tool_on(on, &["tree"], calls.as_bytes()).1, shown);
+    }
+}
+
+/// A START that comes again: joined again without a vote and with one, and refused after a vote in its round and in a higher
+/// round, as a PROPOSE is there.
+#[test]
+fn starts_that_come_again_in_words() {
+    let list = "s(1,1,70) d(0,0) d(0,1) d(0,0) d(1,1) d(2,1) d(4,0) d(0,0) s(2,2,80) d(6,0) d(6,0) d(0,0) d(4,0)";
+    for on in IMPLEMENTATIONS {
+        let (status, out, _) = tool_on(on, &["run", "-e", list], b"");
+        let lines: Vec<&str> = out.lines().skip(2).collect();
+        for (at, line) in [
+            (3, " 0  member 0 joins round 1 again and sends JOIN (message 3), the same as message 1; it has never voted"),
+            (7, "22  member 0 doesn't take message 0, START of round 1 from member 1: it has voted in round 1 already"),
+            (9, " 0  member 0 joins round 2 and sends JOIN (message 7), telling its vote for 70 in round 1"),
+            (
+                10,
+                " 0  member 0 joins round 2 again and sends JOIN (message 8), the same as message 7, telling its vote for 70 in \
+                 round 1",
+            ),
+            (11, "22  member 0 doesn't take message 0, START of round 1 from member 1: it has joined or voted in round 2"),
+            (
+                12,
+                "22  member 0 doesn't take message 4, PROPOSE of round 1 from member 1 with the value 70: it has joined or \
+                 voted in round 2",
+            ),
+        ] {
+            assert!(lines[at].ends_with(line), "{line}\n{out}");
+        }
+        assert_eq!(status, 0);
     }
 }
 

@@ -8,8 +8,8 @@ use kalebasin_rig::trace::{trace, Happened};
 
 /// Most sorts of refusals, deliveries again, to oneself and to nobody, a message that isn't there, and the largest offer.
 pub const REFUSALS: &str =
-    "s(3,1,7) d(0,0) s(1,1,7) s(1,0,7) s(2,1,7) s(1,1,7) d(0,0) d(0,0) d(1,0) d(1,1) d(1,1) d(5,1) \
-     s(1,4,18446744073709551615) d(0,5) d(0,1) d(0,1) d(2,1) d(3,2) d(4,2) d(5,1) d(4,2) d(4,0) d(7,1)";
+    "s(3,1,7) d(0,0) s(1,1,7) s(1,0,7) s(2,1,7) s(1,1,7) d(0,0) d(0,0) d(1,0) d(1,1) d(1,1) d(2,1) d(5,1) \
+     s(1,4,18446744073709551615) d(0,5) d(0,1) d(3,1) d(0,1) d(4,2) d(5,2) d(6,1) d(5,2) d(5,0) d(8,1)";
 
 /// The memory of the tool.
 pub const STORE_ROWS: usize = 1_000;
