@@ -23,6 +23,10 @@ pub type Compared = Result<usize, String>;
 pub const REHEARSAL: &str = "n=3 s(1,1,70) d(0,0) d(0,1) d(1,1) d(1,1) d(2,1) d(3,0) s(2,2,80) d(5,0) d(5,2) d(7,2) \
                              d(6,2) d(3,1) d(4,1) d(9,1)";
 
+/// Document 02's lost JOIN: no event delivers message 1, the START is delivered again, message 2 is the same JOIN, and round 1
+/// is decided. After its vote the member refuses the START.
+pub const LOST_JOIN: &str = "n=3 s(1,1,70) d(0,0) d(0,0) d(0,1) d(2,1) d(3,1) d(4,0) d(4,1) d(5,1) d(6,1) d(0,0)";
+
 fn rehearsal() -> EventList {
     parse(REHEARSAL, None).expect("the rehearsal is written correctly")
 }

@@ -6,10 +6,11 @@ mod compared;
 
 use compared::{same, seed};
 use kalebasin::tree::{Command, Kind, Tree, Value};
-use kalebasin::{ffi, notation, number_of, EventList, Message, Refusal, Round};
+use kalebasin::{ffi, notation, number_of, sent, EventList, Message, Refusal, Round};
 use kalebasin::{STORE_ROW, STORE_ROWS, TABLE_ROW, TABLE_ROWS};
+use kalebasin_rig::compare::{play, Lent};
 use kalebasin_rig::random::Random;
-use kalebasin_rig::suite::{self, REHEARSAL};
+use kalebasin_rig::suite::{self, LOST_JOIN, REHEARSAL};
 use kalebasin_rig::{generate, rehearsal};
 use kalebasin_rig::{proved, second, Calls};
 
@@ -75,6 +76,18 @@ fn rehearsal_to_the_letter() {
     let list = notation::parse(REHEARSAL, None).unwrap().to_bytes();
     let expected = "0 0 0 0 25 0 0 0 0 0 0 0 0 0 0\n0 0 0 3\n1 0 70 3\n2 1 70 1\n";
     assert_eq!(rehearsal::output(&proved::CALLS, &list), (expected.into(), Ok(())));
+}
+
+/// The START that comes again gets the bytes of the lost JOIN, and the round is decided; in a full store it gets 30.
+#[test]
+fn a_lost_join_is_sent_again() {
+    let list = notation::parse(LOST_JOIN, None).unwrap().to_bytes();
+    let left = play(&proved::CALLS, &list, &Lent::rows(7, 2, 11));
+    assert_eq!(left.answers(), [0, 0, 0, 0, 0, 0, 0, 0, 0, 0, 22]);
+    assert_eq!(left.table(), [0, 0, 0, 3, 1, 0, 70, 3]);
+    let sent: Vec<&[u8]> = sent(left.store(), 7).collect();
+    assert_eq!([sent[1], sent[2]], [[0, 0, 0, 2, 0, 0, 0, 1, 0, 0, 0, 0, 0, 0, 0, 0]; 2]);
+    assert_eq!(play(&proved::CALLS, &list, &Lent::rows(2, 2, 11)).answers()[..3], [0, 0, 30]);
 }
 
 /// The fields of a C result: number, kind, round, sender, present, voted; value.

@@ -6,7 +6,7 @@ mod svg;
 use kalebasin::notation::parse;
 use kalebasin::{Event, EventList, Member, Message, MessageNumber, Round};
 use kalebasin_rig::second::model::Made;
-use kalebasin_rig::suite::REHEARSAL;
+use kalebasin_rig::suite::{LOST_JOIN, REHEARSAL};
 use kalebasin_rig::timeline::{timeline, Colours};
 use kalebasin_rig::trace::Happened;
 use runs::{happened, random_list, REFUSALS};
@@ -83,9 +83,10 @@ impl Drawn {
 /// Drawn once, for all tests.
 static DRAWN: LazyLock<Vec<Drawn>> = LazyLock::new(all_drawn);
 
-/// The rehearsal, many refusals, no events at all, and random lists.
+/// The rehearsal, a lost JOIN, many refusals, no events at all, and random lists.
 fn all_drawn() -> Vec<Drawn> {
-    let mut lists: Vec<EventList> = ["n=3", REHEARSAL, REFUSALS].map(|text| parse(text, None).unwrap()).to_vec();
+    let texts = ["n=3", REHEARSAL, LOST_JOIN, REFUSALS];
+    let mut lists: Vec<EventList> = texts.map(|text| parse(text, None).unwrap()).to_vec();
     lists.extend((0..60).map(|seed| random_list(seed, [3, 5, 7][seed as usize % 3], 20 + 5 * seed as usize)));
     lists.iter().map(Drawn::new).collect()
 }
@@ -300,7 +301,7 @@ fn other_answers_than_the_models() {
 /// On each implementation, the core first where it is there.
 #[test]
 fn the_tool_draws_it() {
-    for text in [REHEARSAL, REFUSALS] {
+    for text in [REHEARSAL, LOST_JOIN, REFUSALS] {
         let list = parse(text, None).unwrap();
         let expected = timeline(list.n, &happened(&list));
         for on in [&[][..], &["--second"]] {

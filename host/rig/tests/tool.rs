@@ -7,7 +7,7 @@ mod svg;
 use kalebasin::notation::{parse, parse_tree};
 use kalebasin::{Event, EventList, Refusal, Round, TreeKind};
 use kalebasin_rig::explain_tree::explain;
-use kalebasin_rig::suite::REHEARSAL;
+use kalebasin_rig::suite::{LOST_JOIN, REHEARSAL};
 use kalebasin_rig::{draw, second, Calls};
 use std::ffi::OsStr;
 use std::io::{BufRead, BufReader, Write};
@@ -229,18 +229,28 @@ fn runs_in_words() {
     }
 }
 
-/// The calls that docs/host-notes.md shows, to the letter.
-#[test]
-fn tree_calls_in_words() {
+/// What a section of docs/host-notes.md shows: the text behind `-e`, and what the tool prints for it.
+fn shown_in_the_notes(heading: &str) -> (&'static str, String) {
     let notes = include_str!("../../../docs/host-notes.md");
-    let (_, shown) = notes.split_once("-- tree -e '").unwrap();
-    let (calls, shown) = shown.split_once("'\n\n").unwrap();
-    let (shown, _) = shown.split_once("\n\nThe numbers").unwrap();
-    let shown: String = shown.lines().map(|line| format!("{}\n", line.strip_prefix("    ").unwrap_or(line))).collect();
-    for on in IMPLEMENTATIONS {
-        let shown = shown.replace("the proved core", on.1);
-        assert_eq!(tool_on(on, &["tree", "-e", calls], b""), (0, shown.clone(), String::new()));
-        assert_eq!(tool_on(on, &["tree"], calls.as_bytes()).1, shown);
+    let (_, section) = notes.split_once(&format!("\n## {heading}\n")).unwrap();
+    let (_, shown) = section.split_once(" -e '").unwrap();
+    let (text, shown) = shown.split_once("'\n\n").unwrap();
+    let (shown, _) = shown.split_once("\n\nThe ").unwrap();
+    (text, shown.lines().map(|line| format!("{}\n", line.strip_prefix("    ").unwrap_or(line))).collect())
+}
+
+/// The list with a lost JOIN and the tree calls that docs/host-notes.md shows, to the letter.
+#[test]
+fn the_notes_in_words() {
+    let (list, _) = shown_in_the_notes("A run in words");
+    assert_eq!(parse(list, None).unwrap().to_string(), LOST_JOIN);
+    for (command, heading) in [("run", "A run in words"), ("tree", "Tree calls in words")] {
+        let (text, shown) = shown_in_the_notes(heading);
+        for on in IMPLEMENTATIONS {
+            let shown = shown.replace("the proved core", on.1);
+            assert_eq!(tool_on(on, &[command, "-e", text], b""), (0, shown.clone(), String::new()));
+            assert_eq!(tool_on(on, &[command], text.as_bytes()).1, shown);
+        }
     }
 }
 
