@@ -9,9 +9,10 @@ use crate::second::{self, message};
 use crate::shrink::{shortest, shrink};
 use crate::Calls;
 use kalebasin::{
-    nodes, number_of, Event, EventList, Member, MessageNumber, Refusal, Round, Status, STORE_ROW, STORE_ROWS,
-    TABLE_ROW, TABLE_ROWS,
+    nodes, number_of, sent, Event, EventList, Member, Message, MessageNumber, Refusal, Round, Status, STORE_ROW,
+    STORE_ROWS, TABLE_ROW, TABLE_ROWS,
 };
+use std::collections::{HashMap, HashSet};
 use std::sync::atomic::{AtomicU64, Ordering};
 use std::sync::mpsc::{self, RecvTimeoutError};
 use std::sync::{Mutex, MutexGuard, PoisonError};
@@ -65,7 +66,7 @@ pub struct Property {
     pub fails: fn(&Calls, &Run) -> Option<String>,
 }
 
-/// What document 01 says of every run.
+/// What documents 01 and 02 say of every run.
 pub const ALWAYS: &[Property] = &[
     Property {
         name: "third-demand",
@@ -74,6 +75,7 @@ pub const ALWAYS: &[Property] = &[
     },
     Property { name: "model", about: "answers and store are those of the model", fails: model },
     Property { name: "counts", about: "the result counts what answers, store and tree hold", fails: counts },
+    Property { name: "joins", about: "the JOINs of one member for one round are equal, byte for byte", fails: joins },
     Property { name: "answers", about: "answers are only 0, 3, 9, 19, 20, 22, 24, 25, 29 and 30", fails: answers },
     Property { name: "same", about: "the second implementation leaves the same", fails: same },
 ];
@@ -112,6 +114,7 @@ pub const SOMETIMES: &[Property] = &[
         about: "no round is decided after a higher one was proposed",
         fails: late_decision,
     },
+    Property { name: "no-join-again", about: "no member sends the JOIN of a round again", fails: join_again },
     Property {
         name: "no-ghost",
         about: "no node is GHOST",
@@ -169,6 +172,20 @@ fn answers(_: &Calls, run: &Run) -> Option<String> {
     Some(format!("an event is answered {other}"))
 }
 
+/// Compares the JOINs in the store that play left, by what stands in front of their presence: kind, round and sender.
+fn joins(_: &Calls, run: &Run) -> Option<String> {
+    let Ok(played) = run.left.result else { return None };
+    let messages = sent(run.left.store(), played.messages).enumerate();
+    let mut first = HashMap::new();
+    for (number, join) in messages.filter(|(_, bytes)| bytes.starts_with(&[0, 0, 0, 2])) {
+        let (before, other) = *first.entry(&join[..12]).or_insert((number, join));
+        if other != join {
+            return Some(format!("messages {before} and {number} are JOINs of one member for one round, and differ"));
+        }
+    }
+    None
+}
+
 fn same(calls: &Calls, run: &Run) -> Option<String> {
     let second = compare::play(&second::CALLS, &run.case.list.to_bytes(), &run.case.lent);
     compare::difference([calls.name, second::CALLS.name], [&run.left, &second])
@@ -186,6 +203,13 @@ fn late_decision(_: &Calls, run: &Run) -> Option<String> {
         }
     }
     None
+}
+
+fn join_again(_: &Calls, run: &Run) -> Option<String> {
+    let mut before = HashSet::new();
+    let mut joins = run.model.sent.iter().filter(|message| matches!(message, Message::Join { .. }));
+    let again = joins.find(|join| !before.insert((join.round(), join.sender())))?;
+    Some(format!("member {} sends the JOIN of round {} again", again.sender(), again.round()))
 }
 
 fn refused(run: &Run, refusal: Refusal) -> Option<String> {

@@ -1,12 +1,13 @@
 //! The lists that a search goes through, and what it finds on how many threads; shrinking, and where bytes go wrong.
 
 use kalebasin::notation::parse;
-use kalebasin::{Event, EventList, Refusal, Round};
+use kalebasin::{Event, EventList, Played, Refusal, Round, STORE_ROW};
 use kalebasin_rig::generate::Case;
-use kalebasin_rig::search::{clean_case, few_events, Search, Source, ALWAYS, SOMETIMES};
+use kalebasin_rig::search::{clean_case, few_events, Property, Run, Search, Source, ALWAYS, SOMETIMES};
 use kalebasin_rig::shape::misshape;
 use kalebasin_rig::shrink::shrink;
-use kalebasin_rig::{second, suite};
+use kalebasin_rig::suite::{LOST_JOIN, REHEARSAL};
+use kalebasin_rig::{second, suite, Calls};
 use std::collections::BTreeSet;
 
 fn case(text: &str) -> Case {
@@ -74,6 +75,35 @@ fn threads() {
         assert!(search.run(threads, &mut |progress| tried = progress.lists).is_none());
         assert_eq!(tried, 333);
     }
+}
+
+fn property(name: &str) -> &'static Property {
+    ALWAYS.iter().chain(SOMETIMES).find(|property| property.name == name).unwrap()
+}
+
+/// Two JOINs of one member for one round that differ are told; JOINs of two members may.
+#[test]
+fn joins_that_differ() {
+    fn voted(list: &[u8], store: &mut [u8], table: &mut [u64], answers: &mut [u8]) -> Result<Played, Refusal> {
+        let played = (second::CALLS.play)(list, store, table, answers);
+        store[2 * STORE_ROW + 15] = 1;
+        played
+    }
+    let faulty = Calls { play: voted, ..second::CALLS };
+    let how = |calls, list| (property("joins").fails)(calls, &Run::new(calls, &case(list)).unwrap());
+    let told = "messages 1 and 2 are JOINs of one member for one round, and differ";
+    assert_eq!(how(&faulty, LOST_JOIN).as_deref(), Some(told));
+    assert_eq!([how(&faulty, REHEARSAL), how(&second::CALLS, LOST_JOIN)], [None, None]);
+}
+
+/// The shortest list in which a JOIN is sent again: a start, and its START twice to one member.
+#[test]
+fn a_join_again() {
+    let source = Source::Random { lists: 10_000, members: None };
+    let search = Search { calls: &second::CALLS, properties: vec![property("no-join-again")], seed: 1, source };
+    let found = search.run(2, &mut |_| ()).unwrap();
+    let events = &found.case.list.events;
+    assert!(events.len() == 3 && events[1] == events[2], "{}", found.case.list);
 }
 
 fn offers(list: &EventList) -> Vec<u64> {
