@@ -29,6 +29,8 @@ struct Style {
     below: usize,
     /// Votes that wait for a proposal of a higher round.
     put_off: usize,
+    /// STARTs to a member that has joined their round and hasn't voted in it, which sends the same JOIN again.
+    again: usize,
 }
 
 /// A list of 0 to 1,000 events for 3, 5 or 7 members, with memory of any allowed size.
@@ -79,6 +81,7 @@ pub fn list(
         late: *random.pick(&[0, 10, 30, 60, 100]),
         below: *random.pick(&[0, 10, 30]),
         put_off: *random.pick(&[0, 0, 90, 100]),
+        again: *random.pick(&[0, 5, 30]),
     };
     let mut list = EventList::new(n);
     while list.events.len() < events {
@@ -98,7 +101,7 @@ fn next(random: &mut Random, model: &Model, style: Style) -> Event {
     }
     let mut tried = delivery(random, model, style);
     for _ in 0..12 {
-        if model.look(&tried).is_ok() {
+        if model.look(&tried).is_ok() && (!joins_again(model, &tried) || random.chance(style.again)) {
             return tried;
         }
         tried = delivery(random, model, style);
@@ -107,6 +110,15 @@ fn next(random: &mut Random, model: &Model, style: Style) -> Event {
         start(random, model, style)
     } else {
         tried
+    }
+}
+
+/// Whether this brings a START to a member that has joined its round.
+fn joins_again(model: &Model, event: &Event) -> bool {
+    let Event::Deliver { message, member, .. } = event else { return false };
+    match (model.message(*message), model.member(*member)) {
+        (Some(Message::Start { round, .. }), Some(record)) => record.j == *round,
+        _ => false,
     }
 }
 
