@@ -300,11 +300,35 @@ fn compare_member(calls: Pair, fields: &MemberFields, call: &MemberCall, room: u
 /// The numbers that member calls give.
 const MEMBER_NUMBERS: [u32; 14] = [0, 3, 14, 15, 16, 17, 18, 19, 20, 21, 22, 23, 24, 25];
 
+/// The members that a START can find, by what they have joined and voted in.
+const FOUND: [&str; 5] = [
+    "in a lower round",
+    "in its round that never voted",
+    "in its round that voted in a lower one",
+    "that voted in its round last",
+    "in a higher round",
+];
+
+/// Which of [`FOUND`] a call finds that got this number; none where it is no START or the number is another than its row's.
+fn found_by_start(fields: &MemberFields, call: &MemberCall, number: u32) -> Option<&'static str> {
+    let MemberCall::Deliver(bytes) = call else { return None };
+    let Ok(Message::Start { round, .. }) = message::read(bytes) else { return None };
+    let found = match (fields.joined, fields.voted) {
+        (joined, _) if joined < round => 0,
+        (joined, _) if joined > round => 4,
+        (_, voted) if voted == round => 3,
+        (_, Round::ROOT) => 1,
+        _ => 2,
+    };
+    let expected = if found < 3 { 0 } else { Refusal::MovedPast.number() };
+    (number == expected).then_some(FOUND[found])
+}
+
 /// Random calls on random members, each on the record that the calls before have left, and on a damaged copy of it. That
-/// every number is given is part of it.
+/// every number is given is part of it, and that STARTs find members in every stage of a round.
 pub fn random_members(calls: Pair, seed: u64, members: usize) -> Compared {
     let mut random = Random::new(seed);
-    let (mut compared, mut given) = (0, BTreeSet::new());
+    let (mut compared, mut given, mut found) = (0, BTreeSet::new(), BTreeSet::new());
     for _ in 0..members {
         let n = *random.pick(&[3, 3, 5, 7]);
         let number = Member(random.below(n as usize) as u32);
@@ -313,7 +337,9 @@ pub fn random_members(calls: Pair, seed: u64, members: usize) -> Compared {
             let call = random_member_call(&mut random, &fields);
             let room = *random.pick(&[28, 28, 28, 28, 40, 27, 0]);
             for fields in [fields, damaged_fields(&fields, &mut random)] {
-                given.insert(compare_member(calls, &fields, &call, room)?);
+                let number = compare_member(calls, &fields, &call, room)?;
+                given.insert(number);
+                found.extend(found_by_start(&fields, &call, number));
                 compared += 1;
             }
             if !matches!(call, MemberCall::Fresh(..)) {
@@ -321,8 +347,11 @@ pub fn random_members(calls: Pair, seed: u64, members: usize) -> Compared {
             }
         }
     }
-    match MEMBER_NUMBERS.iter().find(|number| !given.contains(number)) {
-        Some(number) => Err(format!("no call got {number}")),
+    if let Some(number) = MEMBER_NUMBERS.iter().find(|number| !given.contains(number)) {
+        return Err(format!("no call got {number}"));
+    }
+    match FOUND.iter().find(|member| !found.contains(*member)) {
+        Some(member) => Err(format!("no START found a member {member}")),
         None => Ok(compared),
     }
 }
