@@ -4,7 +4,9 @@
 use kalebasin::{number_of, Member, Message, Round, Vote};
 use kalebasin_rig::random::Random;
 use kalebasin_rig::second::member::{deliver, fresh, quorum, start, Record, COLLECTING, DECIDED, IDLE, PROPOSED};
+use kalebasin_rig::second::message;
 use kalebasin_rig::suite::message_bytes;
+use std::cmp::Ordering;
 use std::collections::BTreeMap;
 use std::fs;
 
@@ -190,12 +192,15 @@ fn unsound() -> Vec<Record> {
 /// Calls that are accepted if the reply has room: all that the cells of the member table do.
 fn acceptable() -> Vec<(Record, Call)> {
     let flagged = Record { flags: flags(&[0]), b: Round(2), ..collecting() };
+    let joined = Record { j: Round(4), ..member(2, 3) };
     let mut calls = vec![
         (member(1, 3), starts(1, 70)),
         (collecting(), starts(7, 80)),
         (decided(), starts(1_000_000, u64::MAX)),
         (member(2, 3), start_of(4, 1)),
+        (joined, start_of(4, 1)),
         (collecting(), start_of(6, 0)),
+        (collecting(), start_of(5, 2)),
         (collecting(), join(4, 0)),
         (flagged, join(4, 2)),
         (collecting(), voted_join(4, 0, 2, 66)),
@@ -229,7 +234,8 @@ fn refused() -> Vec<(Record, Call)> {
         (collecting(), starts(4, 80)),
         (collecting(), start_of(6, 1)),
         (collecting(), start_of(3, 5)),
-        (collecting(), start_of(5, 2)),
+        (voted, start_of(5, 2)),
+        (collecting(), start_of(4, 1)),
         (collecting(), start_of(3, 0)),
         (collecting(), join(4, 3)),
         (collecting(), join(7, 0)),
@@ -344,10 +350,10 @@ fn change(random: &mut Random, record: &mut Record) {
     }
 }
 
-/// A message that the record may well take: of the round that it leads, or of one near the last joined.
+/// A message that the record may well take: of the round that it leads, or of one near the last joined, often that one.
 fn some_message(random: &mut Random, record: &Record) -> Message {
     let n = record.n.max(1);
-    let near = Round(record.j.0.saturating_add(random.below(4) as u32).saturating_sub(1));
+    let near = Round(record.j.0.saturating_add(*random.pick(&[0, 1, 1, 1, 2, 3])).saturating_sub(1));
     let leader = if random.chance(85) { near.leader(n).unwrap() } else { Member(random.below(8) as u32) };
     let round = if random.chance(90) { record.l } else { near };
     let senders = if random.chance(90) { n.min(7) } else { 8 };
@@ -357,7 +363,7 @@ fn some_message(random: &mut Random, record: &Record) -> Message {
         PROPOSED => 2,
         _ => random.between(3, 4),
     };
-    let kind = if random.chance(50) { awaited } else { random.below(5) };
+    let kind = if random.chance(50) { awaited } else { *random.pick(&[0, 1, 2, 3, 3, 4]) };
     match kind {
         0 => Message::join(round, sender, None),
         1 => {
@@ -400,11 +406,13 @@ fn at_random(random: &mut Random) -> Case {
     Case { record, call, room: *random.pick(&[28, 28, 29, 35, 40, 40, 40, 27, 0]) }
 }
 
+fn random_cases() -> Vec<Case> {
+    let mut random = Random::new(7);
+    (0..300).map(|_| at_random(&mut random)).collect()
+}
+
 fn cases() -> Vec<Case> {
-    let mut random = Random::new(6);
-    let mut cases = by_hand();
-    cases.extend((0..300).map(|_| at_random(&mut random)));
-    cases
+    [by_hand(), random_cases()].concat()
 }
 
 /// The program's files: what it reads, and what it writes then.
@@ -429,6 +437,33 @@ fn the_program_member_cases() {
 fn write_the_files() {
     for (path, bytes) in files() {
         fs::write(path, bytes).unwrap();
+    }
+}
+
+/// How a START finds a record: J and V beside its round, whether there is a vote, and the number.
+fn start_row(case: &Case) -> Option<(Ordering, Ordering, bool, u32)> {
+    let Call::Deliver(bytes) = &case.call else { return None };
+    let Ok(Message::Start { round, .. }) = message::read(bytes) else { return None };
+    let Record { j, v, .. } = case.record;
+    Some((j.cmp(&round), v.cmp(&round), v > Round(0), case.worked().0))
+}
+
+/// A START of the round joined last sends the JOIN again, with a vote and without one; after a vote in the round, and in a
+/// higher one, it gets 22. Each by hand and at random.
+#[test]
+fn every_start() {
+    for cases in [by_hand(), random_cases()] {
+        let rows: Vec<_> = cases.iter().filter_map(start_row).collect();
+        for row in [
+            (Ordering::Less, Ordering::Less, false, 0),
+            (Ordering::Less, Ordering::Less, true, 0),
+            (Ordering::Equal, Ordering::Less, false, 0),
+            (Ordering::Equal, Ordering::Less, true, 0),
+            (Ordering::Equal, Ordering::Equal, true, 22),
+            (Ordering::Greater, Ordering::Less, true, 22),
+        ] {
+            assert!(rows.contains(&row), "{row:?}");
+        }
     }
 }
 
