@@ -68,7 +68,7 @@ start-call-kept m r offer s (range, (leader, (higher, end))) =
     }
 
 -- V stays below the round joined
-vote-under : (m : MemberState) (r : Round) → SoundParts m → START-late m r ≡ false → m .durable .voted .0 < r .0
+pub vote-under : (m : MemberState) (r : Round) → SoundParts m → START-late m r ≡ false → m .durable .voted .0 < r .0
 vote-under m r s early = vote-below m r early (omega (tests, vote-parts (m .durable) (s .lasting) .ordered))
 
 pub joining-sound : (m : MemberState) (r : Round) → SoundParts m → out-of-range (r .0) ≡ false → START-late m r ≡ false → sound (joining m r) ≡ true

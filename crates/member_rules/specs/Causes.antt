@@ -1,4 +1,4 @@
--- The column "Further refusals" of the member table of 01, "Members", in the order of the place table.
+-- The column "Further refusals" of the member table of 01, "Members", in the order of the place table; START's 22 is that of 02, Ticket 2.
 use mathlib.Core.Bool.{Bool, _&&_, _||_, not}
 use mathlib.Core.List.{List, [], _∷_}
 use Prim.Native.Nat.{ℕ}
@@ -18,9 +18,13 @@ start-call-causes m r =
     not (leads (m .who .n) (m .who .me) r) gives NOT-LEADER ∷
     leb (r .0) (m .durable .led .0) gives NOT-ABOVE-LED ∷ []
 
+-- V = r
+abbrev pub voted-in : MemberState → Round → Bool
+voted-in m r = eqb (m .durable .voted .0) (r .0)
+
 -- J > r, or J = r with V = r
 abbrev pub START-late : MemberState → Round → Bool
-START-late m r = ltb (r .0) (m .durable .joined .0) || (eqb (m .durable .joined .0) (r .0) && eqb (m .durable .voted .0) (r .0))
+START-late m r = ltb (r .0) (m .durable .joined .0) || (eqb (m .durable .joined .0) (r .0) && voted-in m r)
 
 -- START r: 21 unless the sender leads r; 22 if J > r, or J = r with V = r
 abbrev pub START-causes : MemberState → Round → Member → List Cause

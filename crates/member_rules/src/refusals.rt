@@ -1,4 +1,4 @@
-// The further refusals of the member table of 01, "Members": for each event, the number of the first whose cause holds, else 0.
+// The further refusals of the member table of 01, "Members": for each event, the number of the first whose cause holds, else 0. START's 22 is that of 02, Ticket 2.
 use ids::Member;
 use ids::Round;
 use ids::in_range;

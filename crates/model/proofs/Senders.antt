@@ -14,6 +14,7 @@ use Rattle.ids.specs.declared.Member.{Member}
 use Rattle.numbers.specs.Numbers.{OK}
 use Rattle.message.specs.declared.Message.{Message}
 use Rattle.message.specs.declared.Message.the-variants.{Start, Join, JoinVoted, Propose, Vote}
+use Rattle.member_record.specs.declared.Durable.{Durable}
 use Rattle.member_record.specs.declared.MemberState.{MemberState}
 use Rattle.member_rules.specs.Changes.{counting, adopting, adopted, join-of}
 use Rattle.member.specs.Table.{Outcome, refused, silent, complete, proposes, decides, MemberEvent, starts, delivers, step-causes, step-row, unfit, sound-step}
@@ -44,10 +45,10 @@ own-refused m k = record { number = refl; size = refl; from = λ g i. elim i [ ]
 pub only : (P : Message → Type 0) (x : Message) → P x → (g : Message) → g ∈ x ∷ [] → P g
 only P x h g i = rw (List·Memᴰ·eq-of-singleton i) h
 
-own-join-of : (m : MemberState) (r : Round) → sender (join-of (m .who .me) (m .durable) r) ≡ m .who .me .0
-own-join-of m r = pick (ltb 0 (m .durable .voted .0))
+own-join-of : (me : Member) (d : Durable) (r : Round) → sender (join-of me d r) ≡ me .0
+own-join-of me d r = pick (ltb 0 (d .voted .0))
   where
-    pick : (b : Bool) → sender (cond b (JoinVoted r (m .who .me) (m .durable .voted) (m .durable .vote)) (Join r (m .who .me))) ≡ m .who .me .0
+    pick : (b : Bool) → sender (cond b (JoinVoted r me (d .voted) (d .vote)) (Join r me)) ≡ me .0
     pick true = refl
     pick false = refl
 
@@ -71,7 +72,7 @@ pub own-row : (m : MemberState) (e : MemberEvent) → Own m (step-row m e)
 unfolding step-row
 own-row m (starts r offer) = record { number = refl; size = refl; from = only (λ g. sender g ≡ m .who .me .0) (Start r (m .who .me)) refl; one = omega arith }
 own-row m (delivers (Start r s)) = record
-    { number = refl; size = refl; from = only (λ g. sender g ≡ m .who .me .0) (join-of (m .who .me) (m .durable) r) (own-join-of m r); one = omega arith }
+    { number = refl; size = refl; from = only (λ g. sender g ≡ m .who .me .0) (join-of (m .who .me) (m .durable) r) (own-join-of (m .who .me) (m .durable) r); one = omega arith }
 own-row m (delivers (Join r s)) = own-JOIN m m r s refl refl
 own-row m (delivers (JoinVoted r s q w)) =
     let (p, c) = own-adopting m (ltb (m .lead .source .0) (q .0)) q w in own-JOIN m (adopting m q w) r s p c

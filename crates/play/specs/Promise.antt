@@ -1,4 +1,4 @@
--- What play promises, on every answer: the number, the four counts, the answers, the store and the table, and the third demand.
+-- What play promises, on every answer: the number, the four counts, the answers, the store, with equal JOINs in it, and the table, and the third demand.
 use mathlib.Core.Path.{_≡_}
 use mathlib.Core.Bool.{not, _||_}
 use mathlib.Core.List.{List, [], _∷_}

@@ -39,7 +39,7 @@ pub record PlayedEvents (z : Sizes) (es : List Event) (L : Lent) (r : PlayAnswer
   pub answers-are : L′ .answers ≡ event-answers z (first-office (z .n)) es ++ drop (length es) (L .answers)
   -- message k at the front of row k, zeros after
   pub store-is : L′ .memory .store ≡ stored (length (L .memory .store)) (ended z es .sent)
-  -- however often START was repeated, JOINs are
+  -- a member's JOINs for one round are equal, byte for byte, however often START was repeated
   pub joins-same : SameJoinRows (L′ .memory .store) (r .messages)
   -- the tree that the model's proposals and decisions make, in every row
   pub table-is : L′ .memory .table ≡ table (length (L .memory .table)) (made-tree z (ended z es))
