@@ -13,8 +13,9 @@
 //!
 //! A machine that runs one member keeps a [`MemberRecord`]: [`MemberRecord::start`] begins a round that it leads,
 //! [`MemberRecord::deliver`] takes the bytes that come in, and what each of them leaves in its reply goes out. A leader that
-//! misses answers sends its START or PROPOSE again, which is then answered again. What is proved of the values decided is
-//! proved of play, for members that never forget.
+//! misses answers sends its START or PROPOSE again, from the bytes that it has kept (a second [`MemberRecord::start`] of the
+//! round gets 20), and it is answered again. What is proved of the values decided is proved of play, for members that never
+//! forget.
 //!
 //! A [`ValueTree`] takes the calls that play makes of proposals and decisions. A [`CommandTree`] is for commands that each follow
 //! a named earlier one: the same tree, in which a node has any value. Each is a type of its own, so that neither is handed to

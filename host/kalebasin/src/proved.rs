@@ -150,8 +150,9 @@ impl Message {
 /// A step takes the record from one sound state to the next and tells what to send; a refused one leaves it. Keep one
 /// record for each member and no copies that act: a member that goes on from an older record has forgotten what it
 /// promised, and nothing is proved of an office with such a member. So the fields of [`MemberRecord::fields`] are on disk
-/// before what a step sends leaves the machine. A START or PROPOSE that comes again leaves them as they are: then nothing has
-/// to be written before the answer goes out.
+/// before what a step sends leaves the machine. A START or PROPOSE that comes again leaves them as they are: where they are
+/// on disk already, nothing more is written before the answer goes out. Where the first write failed or isn't done yet, it
+/// comes first here too: a step that changes nothing doesn't say that what came before it is on disk.
 ///
 /// ```
 /// use kalebasin::{Made, Member, MemberRecord, Message, Refusal, Round};
