@@ -1,15 +1,15 @@
 //! An office whose members run each on its own: a thread, a record and a UDP socket on 127.0.0.1 for each. A shim in front of
-//! each socket loses, repeats and holds back datagrams. A leader sends its START or PROPOSE to all again and again, and a
-//! member that gets it again answers it again. So a lost JOIN or VOTE is sent again, and who answers keeps nothing but its
-//! record. A member starts the next round that it leads where no message that it can use comes in for a while.
+//! each socket loses, repeats and holds back datagrams. A member sends its last message to all and its last
+//! answer to a leader again and again, and starts the next round that it leads where no message that it can use comes in for
+//! a while.
 //!
 //!     machines [MEMBERS [SEED [LOST]]]     3, 5 or 7 members; a seed; so many of a hundred datagrams are lost, at most 90
 //!
 //! Decisions are made by leaders. How the others learn of one is no part of the protocol: a member that knows one tells the
-//! sender of each message that comes in, and a leader that decides tells all again and again, by a datagram of this program's
-//! own (`KNOWN`, a round and a value), which is believed. The run ends when all know, or at a limit of time and of datagrams.
-//! It prints who decided what and how each member came to know, and fails with status 1 where not all know, or where two
-//! values differ; a mistake in the arguments, a socket that fails and output that can't be written have a line and status 2.
+//! sender of each message that comes in, and a leader that decides tells all, by a datagram of this program's own (`KNOWN`, a
+//! round and a value), which is believed. The run ends when all know, or at a limit of time and of datagrams. It prints who
+//! decided what and how each member came to know, and fails with status 1 where not all know, or where two values differ; a
+//! mistake in the arguments, a socket that fails and output that can't be written have a line and status 2.
 //!
 //! The seed fixes what becomes of the k-th datagram of each member, and not the order in which threads run.
 
@@ -119,15 +119,14 @@ struct Machine<'a> {
     record: MemberRecord,
     shim: Shim<'a>,
     waits: Random,
-    /// What it tells all as a leader, and when it does so again.
+    /// What it sent last, to all and to a leader, and when it sends that again.
     to_all: Vec<u8>,
+    to_leader: Option<(Member, Vec<u8>)>,
     again_at: Instant,
     /// When it starts a round of its own, if no message that it can use comes in before.
     start_at: Instant,
     decided: Vec<Decision>,
     known: Option<(Decision, Member)>,
-    /// Messages that came again and were answered again, and messages refused.
-    answered_again: usize,
     refused: usize,
 }
 
@@ -144,29 +143,31 @@ impl<'a> Machine<'a> {
             shim,
             waits,
             to_all: Vec::new(),
+            to_leader: None,
             again_at: now,
             start_at: now,
             decided: Vec::new(),
             known: None,
-            answered_again: 0,
             refused: 0,
         };
         machine.wait();
         Ok(machine)
     }
 
-    /// Puts the next start off, seldom for as long as another member does, and longer the more rounds there were.
+    /// Puts the next start off, seldom for as long as another member does.
     fn wait(&mut self) {
-        let rounds = self.record.fields().joined.0 / self.shim.office.members();
-        self.start_at = Instant::now() + Duration::from_millis(self.waits.between(30, 300) as u64) * (1 + rounds);
+        self.start_at = Instant::now() + Duration::from_millis(self.waits.between(30, 300) as u64);
     }
 
     fn say_again(&mut self) -> Result<(), Error> {
         self.again_at = Instant::now() + Duration::from_millis(10);
-        if self.to_all.is_empty() {
-            return Ok(());
+        if !self.to_all.is_empty() {
+            self.shim.send_to_all(&self.to_all)?;
         }
-        self.shim.send_to_all(&self.to_all)
+        match &self.to_leader {
+            Some((leader, bytes)) => self.shim.send(*leader, bytes),
+            None => Ok(()),
+        }
     }
 
     fn run(&mut self) -> Result<(), Error> {
@@ -182,7 +183,7 @@ impl<'a> Machine<'a> {
             let now = Instant::now();
             if self.known.is_none() && now >= self.start_at {
                 self.start()?;
-            } else if now >= self.again_at {
+            } else if self.known.is_none() && now >= self.again_at {
                 self.say_again()?;
             }
         }
@@ -212,19 +213,17 @@ impl<'a> Machine<'a> {
             self.learn(decision, sender);
             return Ok(());
         }
-        let (mut reply, before) = ([0; Message::LONGEST], self.record.clone());
+        let mut reply = [0; Message::LONGEST];
         match self.record.deliver(datagram, &mut reply) {
             Ok(report) => {
                 self.wait();
                 if report.sent > 0 {
-                    self.answered_again += usize::from(self.record == before);
                     self.pass_on(&reply[..report.sent])?;
                 }
                 if let Some(Made::Decision { round, value }) = report.made {
                     self.decided.push((round, value));
                     self.learn((round, value), self.number);
-                    self.to_all = telling((round, value));
-                    self.say_again()?;
+                    self.shim.send_to_all(&telling((round, value)))?;
                 }
             }
             Err(_) => self.refused += 1,
@@ -235,12 +234,12 @@ impl<'a> Machine<'a> {
         }
     }
 
-    /// JOIN and VOTE go to the leader of their round, the leader's messages to all. The last of these is kept.
+    /// JOIN and VOTE go to the leader of their round, the leader's messages to all. The last of each is kept.
     fn pass_on(&mut self, bytes: &[u8]) -> Result<(), Error> {
         match read_message(bytes) {
             Ok(Message::Join { round, .. } | Message::Vote { round, .. }) => {
-                let leader = round.leader(self.shim.office.members());
-                leader.map_or(Ok(()), |leader| self.shim.send(leader, bytes))
+                self.to_leader = round.leader(self.shim.office.members()).map(|leader| (leader, bytes.to_vec()));
+                self.to_leader.iter().try_for_each(|(leader, bytes)| self.shim.send(*leader, bytes))
             }
             Ok(_) => {
                 self.to_all = bytes.to_vec();
@@ -253,7 +252,6 @@ impl<'a> Machine<'a> {
     fn learn(&mut self, decision: Decision, from: Member) {
         if self.known.is_none() {
             self.known = Some((decision, from));
-            self.to_all.clear();
             self.shim.office.knowing.fetch_add(1, Ordering::SeqCst);
         }
     }
@@ -319,10 +317,8 @@ fn told_of(machines: &[Machine]) -> (String, bool) {
         weather.held_back += held_back;
     }
     let Weather { sent, lost, repeated, held_back } = weather;
-    let again: usize = machines.iter().map(|machine| machine.answered_again).sum();
     let refused: usize = machines.iter().map(|machine| machine.refused).sum();
-    text += &format!("{sent} datagrams: {lost} more were lost, {repeated} repeated, {held_back} held back; ");
-    text += &format!("{again} messages answered again, {refused} refused\n");
+    text += &format!("{sent} datagrams: {lost} more were lost, {repeated} repeated, {held_back} held back; {refused} messages refused\n");
     let offered = |value: &u64| (70..70 + machines.len() as u64).contains(value);
     let all_know = machines.iter().all(|machine| machine.known.is_some());
     let agreed = all_know && values.len() == 1 && values.iter().all(offered);
