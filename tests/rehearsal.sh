@@ -1,7 +1,8 @@
 #!/usr/bin/env bash
-# The rehearsal program on further lists: no events, each number that a list can get there, a lost JOIN that is sent again, 1,000 events, and the
-# longest list and one byte more. What it must write for the stored ones was made by the second implementation. (28 and 1 can't occur: the program lends
-# a whole store, a whole table and 1,000 answer bytes.) Then what isn't proved of it: an input that comes in parts, and a read or a write that fails.
+# The rehearsal program on further lists: no events, each number that a list can get there, a lost JOIN that is sent again, 1,000 events (among them 17
+# STARTs that get 22, put in by hand: 9 at V = r, 8 at J > r), and the longest list and one byte more. What it must write for the stored ones was made by
+# the second implementation. (28 and 1 can't occur: the program lends a whole store, a whole table and 1,000 answer bytes.) Then what isn't proved of it:
+# an input that comes in parts, and a read or a write that fails.
 cd "$(dirname "$0")/.." || exit 2
 . tests/check.bash
 dir=$(mktemp -d)

@@ -27,6 +27,7 @@ const FAULTS: &[Fault] = &[
             return Ok(sends(Message::join(round, self.number, None)));
         }",
     ),
+    Fault("START is accepted when J > r", "member.rs", "if self.j > round || (", "if ("),
     Fault(
         "a repeated START is refused",
         "member.rs",
