@@ -23,6 +23,8 @@ pub struct PlayResult {
     pub proposals: u32,
     /// COMMITTED nodes beside the root.
     pub decisions: u32,
+    /// Rounds that were made GHOST, each by a later proposal; a node that was GHOST from the first isn't among them.
+    pub ghosts: u32,
 }
 
 /// What [`kalebasin_read_message`] returns: a field that the kind doesn't have is 0, on a refusal all but `number`.
@@ -45,6 +47,16 @@ pub struct MessageResult {
     pub voted: u32,
     /// The value of a PROPOSE, or of that vote.
     pub value: u64,
+}
+
+/// What [`kalebasin_tree_add`] and [`kalebasin_command_add`] return: on a refusal `ghosts` is 0.
+#[repr(C)]
+#[derive(Clone, Copy, Debug, Default, PartialEq, Eq, Hash)]
+pub struct AddResult {
+    /// 0, or why the call is refused.
+    pub number: u32,
+    /// The rounds that were ADDED before the call and are GHOST after it; the new node isn't among them.
+    pub ghosts: u32,
 }
 
 /// What [`kalebasin_tree_path`] and [`kalebasin_command_path`] return: on a refusal `count` is 0.
@@ -116,7 +128,7 @@ pub struct WriteResult {
 
 /// The version of the C functions that this crate is written for. A call of the front of this crate panics
 /// where an archive's version ([`kalebasin_version`], [`kalebasin_member_version`]) is another.
-pub const API_VERSION: u32 = 3;
+pub const API_VERSION: u32 = 4;
 
 extern "C" {
     /// The version of these functions that `libexports.a` has.
@@ -162,7 +174,7 @@ extern "C" {
     ///
     /// # Safety
     /// What [the module](self) says of slices.
-    pub fn kalebasin_tree_add(table: *mut u64, len: usize, round: u32, value: u64, parent: u32) -> u32;
+    pub fn kalebasin_tree_add(table: *mut u64, len: usize, round: u32, value: u64, parent: u32) -> AddResult;
 
     /// [`Tree::commit`](crate::tree::Tree::commit) of a [`ValueTree`](crate::ValueTree).
     ///
@@ -180,7 +192,7 @@ extern "C" {
     ///
     /// # Safety
     /// What [the module](self) says of slices.
-    pub fn kalebasin_command_add(table: *mut u64, len: usize, round: u32, value: u64, parent: u32) -> u32;
+    pub fn kalebasin_command_add(table: *mut u64, len: usize, round: u32, value: u64, parent: u32) -> AddResult;
 
     /// [`Tree::commit`](crate::tree::Tree::commit) of a [`CommandTree`](crate::CommandTree).
     ///

@@ -14,6 +14,8 @@ pub struct Played {
     pub proposals: u32,
     /// COMMITTED nodes beside the root.
     pub decisions: u32,
+    /// Rounds that were made GHOST, each by a later proposal; a node that was GHOST from the first isn't among them.
+    pub ghosts: u32,
 }
 
 /// The bytes of a row of the store.

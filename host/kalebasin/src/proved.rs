@@ -69,6 +69,7 @@ pub fn play(list: &[u8], store: &mut [u8], table: &mut [u64], answers: &mut [u8]
         messages: result.messages,
         proposals: result.proposals,
         decisions: result.decisions,
+        ghosts: result.ghosts,
     })
 }
 

@@ -90,7 +90,7 @@ impl Kind for Command {}
 mod sealed {
     use super::{ffi, Command, Value};
 
-    type Add = unsafe extern "C" fn(table: *mut u64, len: usize, round: u32, value: u64, parent: u32) -> u32;
+    type Add = unsafe extern "C" fn(table: *mut u64, len: usize, round: u32, value: u64, parent: u32) -> ffi::AddResult;
     type Commit = unsafe extern "C" fn(table: *mut u64, len: usize, round: u32) -> u32;
     type Path = unsafe extern "C" fn(
         table: *const u64,
@@ -153,15 +153,18 @@ impl<K: Kind, T: AsMut<[u64]>> Tree<K, T> {
         Ok(Tree::from_table(table))
     }
 
-    /// Adds a round with its value below its parent.
+    /// Adds a round with its value below its parent, and returns how many rounds that makes GHOST: those that were ADDED before and are
+    /// GHOST after. The new round isn't among them, though it may be GHOST itself.
     ///
     /// # Errors
     /// 1 to 9, checked in that order; a command tree's has no 7.
-    pub fn add(&mut self, round: Round, value: u64, parent: Round) -> Result<(), Refusal> {
+    pub fn add(&mut self, round: Round, value: u64, parent: Round) -> Result<u32, Refusal> {
         compare_versions();
         let words = self.table.as_mut();
         // SAFETY: pointer and length come from one exclusive slice.
-        accepted(unsafe { K::ADD(words.as_mut_ptr(), words.len(), round.0, value, parent.0) })
+        let result = unsafe { K::ADD(words.as_mut_ptr(), words.len(), round.0, value, parent.0) };
+        accepted(result.number)?;
+        Ok(result.ghosts)
     }
 
     /// Commits an ADDED round.

@@ -23,7 +23,7 @@ pub struct Calls {
     /// `Tree::fresh`; a tree is its table here and below.
     pub tree_fresh: fn(&mut [u64]) -> Result<(), Refusal>,
     /// `ValueTree::add` or `CommandTree::add`.
-    pub tree_add: fn(TreeKind, &mut [u64], Round, u64, Round) -> Result<(), Refusal>,
+    pub tree_add: fn(TreeKind, &mut [u64], Round, u64, Round) -> Result<u32, Refusal>,
     /// `ValueTree::commit` or `CommandTree::commit`.
     pub tree_commit: fn(TreeKind, &mut [u64], Round) -> Result<(), Refusal>,
     /// `ValueTree::path` or `CommandTree::path`.
@@ -31,7 +31,7 @@ pub struct Calls {
 }
 
 impl Calls {
-    /// Makes a call of a tree: how many rounds it wrote to `out`, which only a path does.
+    /// Makes a call of a tree: how many rounds an add made GHOST, or a path wrote to `out`; else 0.
     pub fn tree_call(
         &self,
         kind: TreeKind,
@@ -41,7 +41,9 @@ impl Calls {
     ) -> Result<usize, Refusal> {
         match call {
             TreeCall::Fresh => (self.tree_fresh)(table).map(|()| 0),
-            TreeCall::Add { round, value, parent } => (self.tree_add)(kind, table, round, value, parent).map(|()| 0),
+            TreeCall::Add { round, value, parent } => {
+                (self.tree_add)(kind, table, round, value, parent).map(|ghosts| ghosts as usize)
+            }
             TreeCall::Commit(round) => (self.tree_commit)(kind, table, round).map(|()| 0),
             TreeCall::Path(round) => (self.tree_path)(kind, table, round, out),
         }

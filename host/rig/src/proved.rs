@@ -46,7 +46,7 @@ fn tree_fresh(table: &mut [u64]) -> Result<(), Refusal> {
     ValueTree::fresh(table).map(|_| ())
 }
 
-fn tree_add(kind: TreeKind, table: &mut [u64], round: Round, value: u64, parent: Round) -> Result<(), Refusal> {
+fn tree_add(kind: TreeKind, table: &mut [u64], round: Round, value: u64, parent: Round) -> Result<u32, Refusal> {
     match kind {
         TreeKind::Value => ValueTree::from_table(table).add(round, value, parent),
         TreeKind::Command => CommandTree::from_table(table).add(round, value, parent),

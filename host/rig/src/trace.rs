@@ -106,7 +106,9 @@ fn later_proposed(model: &Model, made: Made) -> Option<Round> {
 fn changed_nodes(calls: &Calls, table: &mut [u64], made: Made) -> Vec<Node> {
     let before: Vec<Node> = nodes(table).collect();
     let _ = match made {
-        Made::Proposal(made) => (calls.tree_add)(TreeKind::Value, table, made.round, made.value, made.parent),
+        Made::Proposal(made) => {
+            (calls.tree_add)(TreeKind::Value, table, made.round, made.value, made.parent).map(|_| ())
+        }
         Made::Decision(made) => (calls.tree_commit)(TreeKind::Value, table, made.round),
     };
     nodes(table).enumerate().filter(|(row, node)| before.get(*row) != Some(node)).map(|(_, node)| node).collect()
