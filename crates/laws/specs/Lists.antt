@@ -1,9 +1,12 @@
--- Lists: membership, "some element passes", an element put at the end, cuts, lists mapped.
+-- Lists: membership, "some element passes", how many pass, an element put at the end, cuts, lists mapped.
 use mathlib.Core.Path.{_≡_, refl, sym, ap}
-use mathlib.Core.Bool.{Bool, true, false, _||_, or-assoc, or-false}
+use mathlib.Core.Bool.{Bool, true, false, cond, _&&_, _||_, or-assoc, or-false}
 use mathlib.Core.List.{List, [], _∷_, _++_, map, List·Memᴰ, List·Memᴰ·head as here, List·Memᴰ·tail as there, List·Memᴰ·append-cases, List·Memᴰ·eq-of-singleton}
 use mathlib.Core.List.{Memᴰ·append-right}
 use mathlib.Core.Logic.{⊎-elim}
+use Prim.Native.Nat.{ℕ, suc, _+_, _≤_}
+use native.Mathlib.Omega.{arith}
+use lib.ListN.{length}
 use Rattle.laws.specs.Tests.{by-test, clash, impossible, or-cases, or-left, or-right}
 
 infix 20 _∈_
@@ -41,6 +44,38 @@ module _ {ℓ} {A : Type ℓ} where
   pub none-any : (p : A → Bool) (l : List A) → ((a : A) → a ∈ l → p a ≡ false) → any p l ≡ false
   none-any p [] f = refl
   none-any p (x ∷ l) f = rw (f x (here refl)) (none-any p l (λ a m. f a (there m)))
+
+  -- how many elements pass the test
+  abbrev pub how-many : (A → Bool) → List A → ℕ
+  how-many p [] = 0
+  how-many p (x ∷ l) = cond (p x) (suc (how-many p l)) (how-many p l)
+
+  pub how-many-append : (p : A → Bool) (l k : List A) → how-many p (l ++ k) ≡ how-many p l + how-many p k
+  how-many-append p [] k = omega arith
+  how-many-append p (x ∷ l) k =
+      by-test (p x) (λ t. rw t (omega (arith, how-many-append p l k))) (λ t. rw t (how-many-append p l k))
+
+  pub how-many-most : (p : A → Bool) (l : List A) → how-many p l ≤ length l
+  how-many-most p [] = omega arith
+  how-many-most p (x ∷ l) = let h = how-many-most p l in by-test (p x) (λ t. rw t (omega arith)) (λ t. rw t (omega arith))
+
+  pub how-many-same : (p q : A → Bool) (l : List A) → ((a : A) → a ∈ l → p a ≡ q a) → how-many p l ≡ how-many q l
+  how-many-same p q [] h = refl
+  how-many-same p q (x ∷ l) h = rw (h x (here refl), how-many-same p q l (λ a m. h a (there m))) refl
+
+  pub how-many-none : (p : A → Bool) (l : List A) → ((a : A) → a ∈ l → p a ≡ false) → how-many p l ≡ 0
+  how-many-none p [] f = refl
+  how-many-none p (x ∷ l) f = rw (f x (here refl)) (how-many-none p l (λ a m. f a (there m)))
+
+  -- of two tests that no element passes both, as many as pass either
+  pub how-many-either : (p q : A → Bool) (l : List A) → ((a : A) → a ∈ l → (p a && q a) ≡ false) →
+      how-many (λ a. p a || q a) l ≡ how-many p l + how-many q l
+  how-many-either p q [] h = omega arith
+  how-many-either p q (x ∷ l) h =
+      let rest = how-many-either p q l (λ a m. h a (there m)) in
+      by-test (p x)
+      (λ t. rw (t, rw t at (h x (here refl))) (omega (arith, rest)))
+      (λ t. by-test (q x) (λ s. rw (t, s) (omega (arith, rest))) (λ s. rw (t, s) rest))
 
   -- a member of a list with one element more at its end
   pub by-last {κ} : {C : Type κ} (l : List A) {x a : A} → a ∈ l ++ x ∷ [] → (a ∈ l → C) → (a ≡ x → C) → C
@@ -85,6 +120,10 @@ module _ {ℓ} {A : Type ℓ} where
 pub map-same {ℓ κ} : {A : Type ℓ} {B : Type κ} (f g : A → B) (l : List A) → ((a : A) → a ∈ l → f a ≡ g a) → map f l ≡ map g l
 map-same f g [] h = refl
 map-same f g (x ∷ l) h = rw (h x (here refl), map-same f g l (λ a m. h a (there m))) refl
+
+pub how-many-map {ℓ κ} : {A : Type ℓ} {B : Type κ} (p : B → Bool) (f : A → B) (l : List A) → how-many p (map f l) ≡ how-many (λ a. p (f a)) l
+how-many-map p f [] = refl
+how-many-map p f (x ∷ l) = rw (how-many-map p f l) refl
 
 pub map-append {ℓ κ} : {A : Type ℓ} {B : Type κ} (f : A → B) (l k : List A) → map f (l ++ k) ≡ map f l ++ map f k
 map-append f [] k = refl

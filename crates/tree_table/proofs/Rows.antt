@@ -11,7 +11,7 @@ use lib.Seq.{drop-cons, getD-append-add, append-snoc, getD-drop}
 use lib.Dec.{leb, ltb}
 use borrow.Author.Tests.{eq-eqb, ne-eqb, le-leb, lt-leb, lt-ltb, le-ltb, ltb-true, ltb-false}
 use Rattle.laws.specs.Tests.{by-test, clash, same-test}
-use Rattle.laws.specs.Lists.{any, any-append, any-snoc, map-append}
+use Rattle.laws.specs.Lists.{any, any-append, any-snoc, how-many, how-many-append, map-append}
 use Rattle.tree_theory.specs.Machine.{Node, root, FREE, has-round, present, find, with-status}
 use Rattle.tree_theory.specs.Table.{row, rows-of, used-from, words}
 use Rattle.tree_theory.proofs.Words.{length-words, words-append, length-rows, getD-rows}
@@ -40,6 +40,10 @@ rows-split ws i n h =
 pub any-more : (P : Node → Bool) (ws : List ℕ) (i : ℕ) → any P (rows-of ws (i + 1)) ≡ (any P (rows-of ws i) || P (row ws i))
 unfolding rows-of
 any-more P ws i = rw add-one (any-snoc P (rows-of ws i) (row ws i))
+
+pub how-many-more : (P : Node → Bool) (ws : List ℕ) (i : ℕ) → how-many P (rows-of ws (i + 1)) ≡ how-many P (rows-of ws i) + how-many P (row ws i ∷ [])
+unfolding rows-of
+how-many-more P ws i = rw add-one (how-many-append P (rows-of ws i) (row ws i ∷ []))
 
 -- A pass that looks for a row: it has come to row i of n and passed none.
 pub record Scanned (P : Node → Bool) (ws : List ℕ) (n i : ℕ) : Type 0 where

@@ -17,3 +17,4 @@ pub mod TreeKinds
 pub mod Checks
 pub mod Steps
 pub mod CallsOnWords
+pub mod Ghosts

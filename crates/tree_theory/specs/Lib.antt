@@ -1,6 +1,7 @@
--- The meanings of document 01, "The tree", and of 02, ticket 1, from their words; and the code's test of a table (Check).
+-- The meanings of document 01, "The tree", and of 02, tickets 1 and 3, from their words; and the code's test of a table (Check).
 pub mod Machine
 pub mod Properties
 pub mod Table
+pub mod Ghosts
 pub mod Rebuilt
 pub mod Check

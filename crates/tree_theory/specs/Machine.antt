@@ -55,6 +55,9 @@ crosses r p c = ltb p c && ltb c r
 abbrev pub has-round : ℕ → Node → Bool
 has-round r n = eqb (n .round) r
 
+abbrev pub has-status : ℕ → Node → Bool
+has-status s n = eqb (n .status) s
+
 abbrev pub present : ℕ → List Node → Bool
 present r ns = any (has-round r) ns
 
