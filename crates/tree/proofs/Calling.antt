@@ -4,6 +4,7 @@ use mathlib.Core.Bool.{Bool, true, false}
 use mathlib.Core.List.{List}
 use Prim.Native.Nat.{ℕ, _≤_}
 use lib.ListN.{length}
+use native.Mathlib.Omega.{arith}
 use lib.Dec.{eqb}
 use borrow.Author.Tests.{eq-eqb, ne-eqb, not-false}
 use Rattle.laws.specs.First.{first, first-front, passed}
@@ -13,25 +14,39 @@ use Rattle.tree_theory.specs.Table.{rows, nodes, sized, table, Tree, is-tree, t
 use Rattle.tree_theory.proofs.History.{step-ok, step-refused}
 use Rattle.tree_theory.proofs.Trees.{sized-bounds, tree-held, is-tree-exact}
 use Rattle.tree_theory.proofs.Steps.{step-tree, tree-number, tree-table, table-refused}
+use Rattle.tree_theory.proofs.Ghosts.{none-refused, table-none, tree-few, tree-ghosts}
 use Rattle.tree_steps.specs.Planned.{call-written, Planned}
-use Rattle.tree.specs.Promises.{stepped-table, CalledOnTable, CalledOnTree}
+use Rattle.tree.specs.declared.CallAnswer.{CallAnswer}
+use Rattle.tree.specs.Promises.{stepped-table, CountedOnTable, CountedOnTree, refused-call}
 
-module _ {valued : Bool} {ws : List ℕ} (h : sized ws ≡ true) (T : Tree valued ws) {c : Call} {number row status : ℕ} {strikes : Bool}
+module _ {valued : Bool} {ws : List ℕ} (h : sized ws ≡ true) (T : Tree valued ws) {c : Call} {number row status strikes : ℕ}
     (P : Planned valued ws c number row status strikes) where
-  -- a refused call leaves the table
-  pub call-refused : (number ≡ OK → ⊥) → CalledOnTree valued ws c number ws
-  call-refused z =
+  -- a refused call leaves the table, and makes none GHOST
+  pub call-refused : (a : CallAnswer) → a ≡ refused-call number → (number ≡ OK → ⊥) → CountedOnTree valued ws c (a .number) (a .ghosts) ws
+  call-refused a q z =
       let t : eqb (answer valued (rows ws) (nodes ws) c) OK ≡ false = ne-eqb _ _ (λ q. z (P .number-is ∙ q)) in
       let w : ws ≡ stepped-table valued ws c =
       tree-held valued ws h T .whole ∙ ap (table (length ws)) (sym (step-refused valued (rows ws) (nodes ws) c t)) in
-      record { number-is = P .number-is; table-is = w; tree = T }
+      rw q
+      (record {
+        called = record { number-is = P .number-is; table-is = w; tree = T };
+        ghosts-are = sym (none-refused valued (rows ws) (nodes ws) c t);
+      })
 
   -- an accepted one leaves what was planned
-  pub done : {ws′ : List ℕ} → number ≡ OK → ws′ ≡ call-written ws c row status → CalledOnTree valued ws c number ws′
+  pub done : {ws′ : List ℕ} → number ≡ OK → ws′ ≡ call-written ws c row status → CountedOnTree valued ws c OK strikes ws′
   done {ws′ = ws′} z w =
-      let t : eqb (answer valued (rows ws) (nodes ws) c) OK ≡ true = eq-eqb _ _ (sym (P .number-is) ∙ z) in
-      let w′ : ws′ ≡ stepped-table valued ws c = w ∙ P .makes z ∙ ap (table (length ws)) (sym (step-ok valued (rows ws) (nodes ws) c t)) in
-      record { number-is = P .number-is; table-is = w′; tree = subst (Tree valued) (sym w′) (step-tree valued ws h T c) }
+      let ok : answer valued (rows ws) (nodes ws) c ≡ OK = sym (P .number-is) ∙ z in
+      let w′ : ws′ ≡ stepped-table valued ws c =
+      w ∙ P .makes z ∙ ap (table (length ws)) (sym (step-ok valued (rows ws) (nodes ws) c (eq-eqb _ _ ok))) in
+      record {
+        called = record { number-is = sym ok; table-is = w′; tree = subst (Tree valued) (sym w′) (step-tree valued ws h T c) };
+        ghosts-are = P .ghosts-are z;
+      }
+
+  -- no more are struck than a table has rows
+  pub strikes-few : number ≡ OK → strikes ≤ 256
+  strikes-few z = omega (arith, P .ghosts-are z, tree-few valued ws h T c)
 
 -- what the number of the row "table" says, where 0 is OK
 module _ (valued : Bool) (ws : List ℕ) {number : ℕ} (e : number ≡ first (table-causes valued ws)) where
@@ -43,17 +58,26 @@ module _ (valued : Bool) (ws : List ℕ) {number : ℕ} (e : number ≡ first (t
   pub tree-there : number ≡ OK → (sized ws ≡ true) × Tree valued ws
   tree-there z = let (s, t) = table-passed z in (s, is-tree-exact valued ws s .0 t)
 
-  pub table-refuses : (c : Call) → (number ≡ OK → ⊥) → CalledOnTable valued ws c number ws
+  pub table-refuses : (c : Call) (a : CallAnswer) → a ≡ refused-call number → (number ≡ OK → ⊥) → CountedOnTable valued ws c (a .number) (a .ghosts) ws
   unfolding call-number
-  table-refuses c z =
+  table-refuses c a q z =
       let n : number ≡ call-number valued ws c =
       e ∙ sym (first-front (table-causes valued ws) (causes valued (rows ws) (nodes ws) c) (λ q. z (e ∙ q))) in
-      record { number-is = n; table-is = sym (table-refused valued ws c (ne-eqb _ _ (λ q. z (n ∙ q)))) }
+      let t : eqb (call-number valued ws c) OK ≡ false = ne-eqb _ _ (λ q. z (n ∙ q)) in
+      rw q
+      (record {
+        called = record { number-is = n; table-is = sym (table-refused valued ws c t) };
+        ghosts-are = sym (table-none valued ws c t);
+      })
 
-pub of-tree : {valued : Bool} {ws : List ℕ} {c : Call} {number : ℕ} {ws′ : List ℕ} → (sized ws ≡ true) × Tree valued ws →
-    CalledOnTree valued ws c number ws′ → CalledOnTable valued ws c number ws′
+pub of-tree : {valued : Bool} {ws : List ℕ} {c : Call} {number ghosts : ℕ} {ws′ : List ℕ} → (sized ws ≡ true) × Tree valued ws →
+    CountedOnTree valued ws c number ghosts ws′ → CountedOnTable valued ws c number ghosts ws′
 of-tree {valued = valued} {ws = ws} {c = c} (s, T) S =
-    record { number-is = S .number-is ∙ sym (tree-number valued ws s T c); table-is = S .table-is ∙ sym (tree-table valued ws s T c) }
+    let S′ = S .called in
+    record {
+      called = record { number-is = S′ .number-is ∙ sym (tree-number valued ws s T c); table-is = S′ .table-is ∙ sym (tree-table valued ws s T c) };
+      ghosts-are = S .ghosts-are ∙ sym (tree-ghosts valued ws s T c);
+    }
 
 pub four : (ws : List ℕ) → sized ws ≡ true → 4 ≤ length ws
 four ws s = sized-bounds ws s .least

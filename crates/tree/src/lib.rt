@@ -7,7 +7,14 @@ ghost use mathlib.Core.Bool.{true, false};
 ghost use Rattle.tree_theory.specs.Machine.{add, commit};
 ghost use Rattle.tree_theory.specs.Table.{sized, Tree, fresh-number, fresh-table};
 ghost use Rattle.tree_steps.specs.Planned.{call-of};
-ghost use Rattle.tree.specs.Promises.{CalledOnTable, CalledOnTree, PathGiven};
+ghost use Rattle.tree.specs.Promises.{CalledOnTable, CalledOnTree, CountedOnTable, CountedOnTree, PathGiven, refused-call};
+
+// An add's or a commit's number, and how many rounds it made GHOST (02, ticket 3): those that were ADDED before it. 0 with a refusal; a commit
+// makes none.
+pub struct CallAnswer {
+    pub number: u32,
+    pub ghosts: u32,
+}
 
 // How many rounds were written; 0 with a refusal.
 pub struct PathAnswer {
@@ -27,32 +34,44 @@ pub fn fresh(t: &mut [u64]) -> u32
     numbers::OK
 }
 
+// A refusal's number alone.
+fn refused_call(number: u32) -> CallAnswer
+    ensures { λ a. ⌜ a ≡ refused-call number ⌝ }
+{
+    CallAnswer { number, ghosts: 0 }
+}
+
 // add or commit on a tree.
-fn call_on_tree(valued: bool, t: &mut [u64], call: TreeCall) -> u32
+fn call_on_tree(valued: bool, t: &mut [u64], call: TreeCall) -> CallAnswer
     requires { ⌜ (sized (now t) ≡ true) × Tree valued (now t) ⌝ }
-    ensures { λ n. ⌜ CalledOnTree valued (now (t .entry)) (call-of call) n (now (t .exit)) ⌝ }
+    ensures { λ a. ⌜ CountedOnTree valued (now (t .entry)) (call-of call) (a .number) (a .ghosts) (now (t .exit)) ⌝ }
 {
     let plan = tree_steps::call::plan_call(valued, t, call);
-    if plan.number == numbers::OK {
-        tree_steps::call::write_call(t, call, plan.row, plan.status, plan.strikes);
+    if plan.number != numbers::OK {
+        return refused_call(plan.number);
     }
-    plan.number
+    tree_steps::call::write_call(t, call, plan.row, plan.status, plan.strikes);
+    let ghosts = plan.strikes as u32;
+    CallAnswer {
+        number: numbers::OK,
+        ghosts,
+    }
 }
 
 // add or commit on any table.
-fn call_on_table(valued: bool, t: &mut [u64], call: TreeCall) -> u32
-    ensures { λ n. ⌜ CalledOnTable valued (now (t .entry)) (call-of call) n (now (t .exit)) ⌝ }
+fn call_on_table(valued: bool, t: &mut [u64], call: TreeCall) -> CallAnswer
+    ensures { λ a. ⌜ CountedOnTable valued (now (t .entry)) (call-of call) (a .number) (a .ghosts) (now (t .exit)) ⌝ }
 {
     let number = tree_check::table_number(valued, t);
     if number != numbers::OK {
-        return number;
+        return refused_call(number);
     }
     call_on_tree(valued, t, call)
 }
 
 // add on any table.
-fn add_on_table(valued: bool, t: &mut [u64], r: Round, v: u64, p: Round) -> u32
-    ensures { λ n. ⌜ CalledOnTable valued (now (t .entry)) (add (r .0) v (p .0)) n (now (t .exit)) ⌝ }
+pub fn add_on_table(valued: bool, t: &mut [u64], r: Round, v: u64, p: Round) -> CallAnswer
+    ensures { λ a. ⌜ CountedOnTable valued (now (t .entry)) (add (r .0) v (p .0)) (a .number) (a .ghosts) (now (t .exit)) ⌝ }
 {
     call_on_table(
         valued,
@@ -65,23 +84,23 @@ fn add_on_table(valued: bool, t: &mut [u64], r: Round, v: u64, p: Round) -> u32
     )
 }
 
-pub fn add(t: &mut [u64], r: Round, v: u64, p: Round) -> u32
-    ensures { λ n. ⌜ CalledOnTable true (now (t .entry)) (add (r .0) v (p .0)) n (now (t .exit)) ⌝ }
+pub fn add(t: &mut [u64], r: Round, v: u64, p: Round) -> CallAnswer
+    ensures { λ a. ⌜ CountedOnTable true (now (t .entry)) (add (r .0) v (p .0)) (a .number) (a .ghosts) (now (t .exit)) ⌝ }
 {
     add_on_table(true, t, r, v, p)
 }
 
 // add of a command tree: 01's without check 7.
-pub fn command_add(t: &mut [u64], r: Round, v: u64, p: Round) -> u32
-    ensures { λ n. ⌜ CalledOnTable false (now (t .entry)) (add (r .0) v (p .0)) n (now (t .exit)) ⌝ }
+pub fn command_add(t: &mut [u64], r: Round, v: u64, p: Round) -> CallAnswer
+    ensures { λ a. ⌜ CountedOnTable false (now (t .entry)) (add (r .0) v (p .0)) (a .number) (a .ghosts) (now (t .exit)) ⌝ }
 {
     add_on_table(false, t, r, v, p)
 }
 
 // add on a table that is a tree already: the same step without the check of the table.
-pub fn add_in_tree(t: &mut [u64], r: Round, v: u64, p: Round) -> u32
+pub fn add_in_tree(t: &mut [u64], r: Round, v: u64, p: Round) -> CallAnswer
     requires { ⌜ (sized (now t) ≡ true) × Tree true (now t) ⌝ }
-    ensures { λ n. ⌜ CalledOnTree true (now (t .entry)) (add (r .0) v (p .0)) n (now (t .exit)) ⌝ }
+    ensures { λ a. ⌜ CountedOnTree true (now (t .entry)) (add (r .0) v (p .0)) (a .number) (a .ghosts) (now (t .exit)) ⌝ }
 {
     call_on_tree(
         true,
@@ -97,13 +116,15 @@ pub fn add_in_tree(t: &mut [u64], r: Round, v: u64, p: Round) -> u32
 pub fn commit(t: &mut [u64], r: Round) -> u32
     ensures { λ n. ⌜ CalledOnTable true (now (t .entry)) (commit (r .0)) n (now (t .exit)) ⌝ }
 {
-    call_on_table(true, t, TreeCall::Commit { round: r })
+    let a = call_on_table(true, t, TreeCall::Commit { round: r });
+    a.number
 }
 
 pub fn command_commit(t: &mut [u64], r: Round) -> u32
     ensures { λ n. ⌜ CalledOnTable false (now (t .entry)) (commit (r .0)) n (now (t .exit)) ⌝ }
 {
-    call_on_table(false, t, TreeCall::Commit { round: r })
+    let a = call_on_table(false, t, TreeCall::Commit { round: r });
+    a.number
 }
 
 // commit on a table that is a tree already: the same step without the check of the table.
@@ -111,7 +132,8 @@ pub fn commit_in_tree(t: &mut [u64], r: Round) -> u32
     requires { ⌜ (sized (now t) ≡ true) × Tree true (now t) ⌝ }
     ensures { λ n. ⌜ CalledOnTree true (now (t .entry)) (commit (r .0)) n (now (t .exit)) ⌝ }
 {
-    call_on_tree(true, t, TreeCall::Commit { round: r })
+    let a = call_on_tree(true, t, TreeCall::Commit { round: r });
+    a.number
 }
 
 // path on any table.

@@ -6,13 +6,13 @@ use Prim.Native.Nat.{ℕ, _+_, _-_, _*_, _≤_, _<_}
 use native.Mathlib.Omega.{arith}
 use lib.ListN.{length}
 use lib.Dec.{ltb, eqb}
-use borrow.Author.Tests.{le-ltb, lt-ltb, ne-eqb}
-use Rattle.laws.specs.Lists.{any}
+use borrow.Author.Tests.{le-ltb, lt-ltb, eq-eqb, ne-eqb}
+use Rattle.laws.specs.Lists.{any, how-many, how-many-most}
 use Rattle.tree_theory.specs.Machine.{Node, FREE, ADDED, COMMITTED, has-round, present, find, above, blocks, crosses, crossed-with}
 use Rattle.tree_theory.specs.Table.{row, rows, rows-of, used-from, used, nodes}
 use Rattle.tree_theory.proofs.Words.{length-rows, used-rows}
 use Rattle.tree_table.specs.Rows.{row-index}
-use Rattle.tree_table.proofs.Rows.{any-more, used-stop, used-go, used-end, found-there, found-none, found-at}
+use Rattle.tree_table.proofs.Rows.{any-more, how-many-more, used-stop, used-go, used-end, found-there, found-none, found-at}
 use Rattle.tree_crossing.specs.declared.look.Look.{Look}
 use Rattle.tree_crossing.specs.Looked.{look-of}
 
@@ -22,7 +22,7 @@ pub record Walked (ws : List ℕ) (r p : ℕ) (l : Look) : Type 0 where
   pub within : l .used ≤ rows ws
   pub rest : used ws ≡ used-from ws (rows ws - l .used) (l .used)
 
-pub walk-start : (ws : List ℕ) (r p : ℕ) → Walked ws r p (record { used = 0; present = false; parent = 0; above = false; blocked = false; strikes = false })
+pub walk-start : (ws : List ℕ) (r p : ℕ) → Walked ws r p (record { used = 0; present = false; parent = 0; above = false; blocked = false; strikes = 0 })
 unfolding rows-of row-index
 walk-start ws r p =
     let e : rows ws - 0 ≡ rows ws = omega arith in
@@ -76,8 +76,19 @@ module _ {ws : List ℕ} {r p : ℕ} {l : Look} (L : LookedTo ws r p l) where
   was-blocked : l .blocked ≡ any (blocks r p) (rows-of ws (l .used))
   was-blocked = ap (λ (k : Look). k .blocked) (L .is)
 
-  was-striking : l .strikes ≡ any (crossed-with ADDED r p) (rows-of ws (l .used))
+  was-striking : l .strikes ≡ how-many (crossed-with ADDED r p) (rows-of ws (l .used))
   was-striking = ap (λ (k : Look). k .strikes) (L .is)
+
+  -- no more than the rows
+  pub strikes-few : l .strikes ≤ l .used
+  strikes-few = omega (arith, was-striking, how-many-most (crossed-with ADDED r p) (rows-of ws (l .used)), length-rows ws (l .used))
+
+  -- a row that is struck, and one that isn't
+  struck-here : crossed-with ADDED r p (row ws (l .used)) ≡ true → l .strikes + 1 ≡ how-many (crossed-with ADDED r p) (rows-of ws (l .used + 1))
+  struck-here on = omega (arith, was-striking, rw on at (how-many-more (crossed-with ADDED r p) ws (l .used)))
+
+  not-struck : crossed-with ADDED r p (row ws (l .used)) ≡ false → l .strikes ≡ how-many (crossed-with ADDED r p) (rows-of ws (l .used + 1))
+  not-struck off = omega (arith, was-striking, rw off at (how-many-more (crossed-with ADDED r p) ws (l .used)))
 
   -- not crossed, whatever its status
   uncrossed : crosses r p (row ws (l .used) .round) ≡ false → (s : ℕ) → crossed-with s r p (row ws (l .used)) ≡ false
@@ -101,7 +112,7 @@ module _ {ws : List ℕ} {r p : ℕ} {l : Look} (L : LookedTo ws r p l) where
         let here = part (has-round r) was-present (ap (λ n. eqb n r) at) in
         let over = part (above r) was-above (ap (ltb r) at) in
         let block = kept (blocks r p) was-blocked (uncrossed off COMMITTED) in
-        let strike = kept (crossed-with ADDED r p) was-striking (uncrossed off ADDED) in
+        let strike = not-struck (uncrossed off ADDED) in
         λ j. record { used = count j; present = here j; parent = found j; above = over j; blocked = block j; strikes = strike j }
 
     -- a round below r
@@ -119,27 +130,40 @@ module _ {ws : List ℕ} {r p : ℕ} {l : Look} (L : LookedTo ws r p l) where
           let here = kept (has-round r) was-present not-here in
           let over = kept (above r) was-above not-over in
           let block = kept (blocks r p) was-blocked (uncrossed off COMMITTED) in
-          let strike = kept (crossed-with ADDED r p) was-striking (uncrossed off ADDED) in
+          let strike = not-struck (uncrossed off ADDED) in
           λ j. record { used = count j; present = here j; parent = found j; above = over j; blocked = block j; strikes = strike j }
 
-      pub look-crossed : p < round → {status : ℕ} → status ≡ row ws (l .used) .status →
-          record {
-            used = l .used + 1;
-            present = l .present;
-            parent = parent;
-            above = l .above;
-            blocked = l .blocked || eqb status COMMITTED;
-            strikes = l .strikes || eqb status ADDED;
-          } ≡ more
-      look-crossed h {status} es =
-          let on : crosses r p (row ws (l .used) .round) ≡ true = rw (← at) (rw (lt-ltb p round h, lt-ltb round r below) refl) in
-          let crossed : (s : ℕ) → eqb status s ≡ crossed-with s r p (row ws (l .used)) =
-          λ s. rw on (ap (λ n. eqb n s) es ∙ sym (and-true (eqb (row ws (l .used) .status) s))) in
-          let here = kept (has-round r) was-present not-here in
-          let over = kept (above r) was-above not-over in
-          let block = part (blocks r p) was-blocked (crossed COMMITTED) in
-          let strike = part (crossed-with ADDED r p) was-striking (crossed ADDED) in
-          λ j. record { used = count j; present = here j; parent = found j; above = over j; blocked = block j; strikes = strike j }
+      -- a crossed one: its status says what it is to the edge
+      module _ (h : p < round) {status : ℕ} (es : status ≡ row ws (l .used) .status) where
+        crossed : (s : ℕ) → eqb status s ≡ crossed-with s r p (row ws (l .used))
+        crossed s =
+            let on : crosses r p (row ws (l .used) .round) ≡ true = rw (← at) (rw (lt-ltb p round h, lt-ltb round r below) refl) in
+            rw on (ap (λ n. eqb n s) es ∙ sym (and-true (eqb (row ws (l .used) .status) s)))
+
+        pub look-struck : status ≡ ADDED →
+            record { used = l .used + 1; present = l .present; parent = parent; above = l .above; blocked = l .blocked; strikes = l .strikes + 1 } ≡ more
+        look-struck s =
+            let here = kept (has-round r) was-present not-here in
+            let over = kept (above r) was-above not-over in
+            let block = kept (blocks r p) was-blocked (sym (crossed COMMITTED) ∙ ap (λ n. eqb n COMMITTED) s) in
+            let strike = struck-here (sym (crossed ADDED) ∙ eq-eqb status ADDED s) in
+            λ j. record { used = count j; present = here j; parent = found j; above = over j; blocked = block j; strikes = strike j }
+
+        pub look-unstruck : (status ≡ ADDED → ⊥) →
+            record {
+              used = l .used + 1;
+              present = l .present;
+              parent = parent;
+              above = l .above;
+              blocked = l .blocked || eqb status COMMITTED;
+              strikes = l .strikes;
+            } ≡ more
+        look-unstruck s =
+            let here = kept (has-round r) was-present not-here in
+            let over = kept (above r) was-above not-over in
+            let block = part (blocks r p) was-blocked (crossed COMMITTED) in
+            let strike = not-struck (sym (crossed ADDED) ∙ ne-eqb status ADDED s) in
+            λ j. record { used = count j; present = here j; parent = found j; above = over j; blocked = block j; strikes = strike j }
 
 -- what it says of the nodes
 pub record LookedAt (ws : List ℕ) (r p : ℕ) (l : Look) : Type 0 where
@@ -162,8 +186,8 @@ module _ {ws : List ℕ} {r p : ℕ} {l : Look} (L : LookedAt ws r p l) where
   blocked-is = ap (λ (k : Look). k .blocked) (L .is)
 
   -- the rows before that of the new node are the used ones
-  pub strikes-is : {n : ℕ} → n ≡ used ws → l .strikes ≡ any (crossed-with ADDED r p) (rows-of ws n)
-  strikes-is e = ap (λ (k : Look). k .strikes) (L .is) ∙ ap (λ n. any (crossed-with ADDED r p) (rows-of ws n)) (sym e)
+  pub strikes-is : {n : ℕ} → n ≡ used ws → l .strikes ≡ how-many (crossed-with ADDED r p) (rows-of ws n)
+  strikes-is e = ap (λ (k : Look). k .strikes) (L .is) ∙ ap (λ n. how-many (crossed-with ADDED r p) (rows-of ws n)) (sym e)
 
   pub parent-present : l .parent < l .used → present p (nodes ws) ≡ true
   parent-present h = found-there ws (used ws) p parent-is (omega (arith, used-is))

@@ -1,11 +1,12 @@
 -- One turn of the pass that strikes, and where it has nothing to strike. Assumes nothing.
 use mathlib.Core.Path.{_≡_, refl, sym, ap, subst, _∙_}
-use mathlib.Core.Bool.{Bool, false, cond}
+use mathlib.Core.Bool.{cond}
 use mathlib.Core.List.{List, [], _∷_, _++_, map}
 use Prim.Native.Nat.{ℕ, _+_, _*_, _≤_}
+use native.Mathlib.Omega.{arith}
 use lib.ListN.{length, set, drop}
-use Rattle.laws.specs.Tests.{by-test, or-left, or-right}
-use Rattle.laws.specs.Lists.{any}
+use Rattle.laws.specs.Tests.{by-test}
+use Rattle.laws.specs.Lists.{how-many}
 use Rattle.tree_theory.specs.Machine.{Node, ADDED, GHOST, crossed-with, strike-crossed}
 use Rattle.tree_theory.specs.Table.{row, rows-of, words}
 use Rattle.tree_theory.proofs.Words.{words-rows}
@@ -22,14 +23,14 @@ struck-more r p t₀ i t t′ P h e =
     (λ y. rw (rw y at e′) (pass-keep (strike-crossed r p) t₀ i t P h (rw y refl)))
 
 -- where no node is crossed, none is struck
-strike-none : (r p : ℕ) (ns : List Node) → any (crossed-with ADDED r p) ns ≡ false → map (strike-crossed r p) ns ≡ ns
+strike-none : (r p : ℕ) (ns : List Node) → how-many (crossed-with ADDED r p) ns ≡ 0 → map (strike-crossed r p) ns ≡ ns
 strike-none r p [] h = refl
 strike-none r p (n ∷ ns) h =
-    let P = crossed-with ADDED r p in
-    let here : P n ≡ false = or-left (P n) (any P ns) h in
-    rw here (ap (λ l. n ∷ l) (strike-none r p ns (or-right (P n) (any P ns) h)))
+    by-test (crossed-with ADDED r p n)
+    (λ t. absurd (omega (arith, rw t at h)))
+    (λ t. rw t (ap (λ l. n ∷ l) (strike-none r p ns (rw t at h))))
 
 -- and the table stays
-pub struck-none : (r p : ℕ) (ws : List ℕ) (n : ℕ) → 4 * n ≤ length ws → {b : Bool} → b ≡ any (crossed-with ADDED r p) (rows-of ws n) → b ≡ false →
+pub struck-none : (r p : ℕ) (ws : List ℕ) (n : ℕ) → 4 * n ≤ length ws → {k : ℕ} → k ≡ how-many (crossed-with ADDED r p) (rows-of ws n) → k ≤ 0 →
     ws ≡ words (map (strike-crossed r p) (rows-of ws n)) ++ drop (4 * n) ws
-struck-none r p ws n h e off = rw (strike-none r p (rows-of ws n) (sym e ∙ off)) (sym (words-rows ws n h))
+struck-none r p ws n h e off = rw (strike-none r p (rows-of ws n) (omega (arith, e, off))) (sym (words-rows ws n h))

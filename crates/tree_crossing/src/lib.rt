@@ -6,7 +6,7 @@ ghost use mathlib.Core.Bool.{cond};
 ghost use mathlib.Core.List.{_++_, map};
 ghost use Prim.Native.Nat.{_+_, _*_, _≤_};
 ghost use lib.ListN.{length, set, drop};
-ghost use Rattle.laws.specs.Lists.{any};
+ghost use Rattle.laws.specs.Lists.{how-many};
 ghost use Rattle.tree_theory.specs.Machine.{ADDED, GHOST, crosses, crossed-with, strike-crossed};
 ghost use Rattle.tree_theory.specs.Table.{row, rows-of, words};
 ghost use Rattle.tree_theory.specs.Check.{crossed};
@@ -69,12 +69,12 @@ fn strike(t: &mut [u64], n: usize, r: u64, p: u64)
     }
 }
 
-// The same, told whether it crosses any ADDED one of them: where it crosses none, no row is walked.
-pub fn strike_if(t: &mut [u64], n: usize, r: u64, p: u64, some: bool)
-    requires { ⌜ (4 * n ≤ length (now t)) × (some ≡ any (crossed-with ADDED r p) (rows-of (now t) n)) ⌝ }
+// The same, told how many ADDED ones of them it crosses: where it crosses none, no row is walked.
+pub fn strike_if(t: &mut [u64], n: usize, r: u64, p: u64, strikes: usize)
+    requires { ⌜ (4 * n ≤ length (now t)) × (strikes ≡ how-many (crossed-with ADDED r p) (rows-of (now t) n)) ⌝ }
     ensures { λ _. ⌜ now (t .exit) ≡ words (map (strike-crossed r p) (rows-of (now (t .entry)) n)) ++ drop (4 * n) (now (t .entry)) ⌝ }
 {
-    if some {
+    if 0 < strikes {
         strike(t, n, r, p);
         return;
     }

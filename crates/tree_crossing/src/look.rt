@@ -6,14 +6,14 @@ ghost use Rattle.tree_theory.specs.Table.{rows-of, nodes};
 ghost use Rattle.tree_crossing.specs.Looked.{look-of};
 
 // What the rows say of an edge (r, p): how many they are, whether one has round r, the first that has round p (as many as they are where none
-// has), whether one has a round above r, whether the edge crosses a COMMITTED one, and whether it crosses an ADDED one.
+// has), whether one has a round above r, whether the edge crosses a COMMITTED one, and how many ADDED ones it crosses.
 pub struct Look {
     pub used: usize,
     pub present: bool,
     pub parent: usize,
     pub above: bool,
     pub blocked: bool,
-    pub strikes: bool,
+    pub strikes: usize,
 }
 
 // One row more. An edge crosses rounds between p and r alone, so the status of any other row doesn't count.
@@ -41,11 +41,18 @@ fn look_on(l: Look, t: &[u64], r: u64, p: u64) -> Look
         };
     }
     let status = tree_table::status_at(t, i);
+    if status == tree_table::ADDED {
+        return Look {
+            used: i + 1,
+            parent,
+            strikes: l.strikes + 1,
+            ..l
+        };
+    }
     Look {
         used: i + 1,
         parent,
         blocked: l.blocked | (status == tree_table::COMMITTED),
-        strikes: l.strikes | (status == tree_table::ADDED),
         ..l
     }
 }
@@ -61,7 +68,7 @@ pub fn look_over(t: &[u64], r: u64, p: u64) -> Look
         parent: 0,
         above: false,
         blocked: false,
-        strikes: false,
+        strikes: 0,
     };
     while l.used < rows {
         if tree_table::status_at(t, l.used) == tree_table::FREE {

@@ -10,18 +10,21 @@ use lib.Seq.{drop-append-add}
 use lib.Dec.{ltb, eqb}
 use borrow.Author.Tests.{eq-eqb, ne-eqb, eqb-false, ltb-true, leb-false, not-true, not-false}
 use Rattle.laws.specs.Tests.{by-test, clash, tests, or-left}
-use Rattle.laws.specs.Lists.{any, any-append, any-intro}
+use Rattle.laws.specs.Lists.{any, any-append, any-intro, how-many}
 use Rattle.laws.specs.First.{passed}
 use Rattle.ids.specs.Ranges.{out-of-range, above-range}
 use Rattle.numbers.specs.Numbers.{OK}
 use Rattle.tree_theory.specs.Machine.{Node, add, commit, ADDED, GHOST, COMMITTED, has-round, present, above, crossed-with, causes, answer}
 use Rattle.tree_theory.specs.Machine.{struck, strike-crossed, commit-node, new-node, change}
 use Rattle.tree_theory.specs.Table.{row, rows, rows-of, used, nodes, words, sized, table, Tree}
+use Rattle.tree_theory.specs.Ghosts.{ghosts-made}
 use Rattle.tree_theory.proofs.Words.{length-words, length-rows, used-rows, row-in, free-word}
 use Rattle.tree_theory.proofs.Nodes.{find-left, find-round}
 use Rattle.tree_theory.proofs.Grown.{placed-cut}
 use Rattle.tree_theory.proofs.Paths.{struck-crossed, accepted-parent}
 use Rattle.tree_theory.proofs.Trees.{tree-held}
+use Rattle.tree_theory.proofs.History.{step-ok}
+use Rattle.tree_theory.proofs.Ghosts.{ghosts-crossed}
 use Rattle.tree_table.specs.Rows.{row-index}
 use Rattle.tree_table.proofs.Rows.{rows-from, rows-more, rows-split, index-left, index-there, found-at, PassedRows, pass-none, pass-on, pass-set, pass-end}
 use Rattle.tree_steps.specs.Planned.{Planned}
@@ -74,7 +77,7 @@ module _ (valued : Bool) (ws : List ℕ) (h : sized ws ≡ true) (T : Tree value
       rw (same, free 4, m) refl
 
   pub add-planned : (r v p : ℕ) {number row status : ℕ} → number ≡ answer valued (rows ws) (nodes ws) (add r v p) → row ≡ used ws →
-      status ≡ cond (any (above r) (nodes ws)) GHOST ADDED → {strikes : Bool} → strikes ≡ any (crossed-with ADDED r p) (rows-of ws row) →
+      status ≡ cond (any (above r) (nodes ws)) GHOST ADDED → {strikes : ℕ} → strikes ≡ how-many (crossed-with ADDED r p) (rows-of ws row) →
       Planned valued ws (add r v p) number row status strikes
   unfolding answer new-node
   add-planned r v p e er es {strikes} ek =
@@ -85,6 +88,12 @@ module _ (valued : Bool) (ws : List ℕ) (h : sized ws ≡ true) (T : Tree value
             omega (arith, er, leb-false (rows ws) (length (nodes ws)) a9, length-rows ws (used ws));
         makes = λ z. rw (er, es) (inserted r v p (sym e ∙ z));
         strikes-is = ek;
+        ghosts-are = λ z.
+            let c = add r v p in
+            let ok : answer valued (rows ws) (nodes ws) c ≡ OK = sym e ∙ z in
+            ek ∙ ap (λ n. how-many (crossed-with ADDED r p) (rows-of ws n)) er ∙
+            sym (ghosts-crossed valued (rows ws) (nodes ws) r v p (tree-held valued ws h T .grown) ok) ∙
+            ap (ghosts-made (nodes ws)) (sym (step-ok valued (rows ws) (nodes ws) c (eq-eqb _ OK ok)));
       }
 
   -- ---- commit
@@ -168,11 +177,12 @@ module _ (valued : Bool) (ws : List ℕ) (h : sized ws ≡ true) (T : Tree value
         let a : k < used ws = ltb-true k (used ws) (index-there ws (used ws) r ek′ ∙ there) in
         (a, ap (λ (n : Node). n .round) (sym (found-at ws (used ws) r ek′ a)) ∙ find-round r (nodes ws) there)
 
-    pub commit-planned : {status : ℕ} → status ≡ COMMITTED → Planned valued ws (commit r) number k status false
+    pub commit-planned : {status : ℕ} → status ≡ COMMITTED → Planned valued ws (commit r) number k status 0
     commit-planned es =
         record {
           number-is = answered;
           fits = λ z. omega (arith, accepted-row z .0, used-rows ws);
           makes = λ z. rw es (committed-row r k (accepted-row z .0) (accepted-row z .1));
           strikes-is = refl;
+          ghosts-are = λ z. refl;
         }

@@ -1,13 +1,14 @@
 -- add and commit as the code has them, what one writes, and what a plan for one must come to.
 use mathlib.Core.Path.{_≡_}
-use mathlib.Core.Bool.{Bool, false}
+use mathlib.Core.Bool.{Bool}
 use mathlib.Core.List.{List, [], _∷_, _++_, map}
 use Prim.Native.Nat.{ℕ, _+_, _*_, _≤_}
 use lib.ListN.{length, set, drop}
-use Rattle.laws.specs.Lists.{any}
+use Rattle.laws.specs.Lists.{how-many}
 use Rattle.numbers.specs.Numbers.{OK}
 use Rattle.tree_theory.specs.Machine.{Call, ADDED, add, commit, node-of, crossed-with, strike-crossed, answer, change}
 use Rattle.tree_theory.specs.Table.{rows, rows-of, nodes, words, table}
+use Rattle.tree_theory.specs.Ghosts.{ghosts-made, at-add}
 use Rattle.tree_steps.specs.declared.call.TreeCall.{TreeCall}
 use Rattle.tree_steps.specs.declared.call.TreeCall.the-variants as tree-call
 
@@ -22,14 +23,16 @@ abbrev pub call-written : List ℕ → Call → ℕ → ℕ → List ℕ
 call-written ws (add r v p) n s = words (map (strike-crossed r p) (rows-of ws n) ++ node-of r p v s ∷ []) ++ drop (4 * n + 4) ws
 call-written ws (commit r) n s = set ws (4 * n + 3) s
 
--- whether a call that writes into row n strikes one of the rows before it
-abbrev pub call-strikes : List ℕ → Call → ℕ → Bool
-call-strikes ws (add r v p) n = any (crossed-with ADDED r p) (rows-of ws n)
-call-strikes ws (commit r) n = false
+-- how many of the rows before it a call that writes into row n strikes
+abbrev pub call-strikes : List ℕ → Call → ℕ → ℕ
+call-strikes ws (add r v p) n = how-many (crossed-with ADDED r p) (rows-of ws n)
+call-strikes ws (commit r) n = 0
 
--- the machine's number and, where that is OK, a row and a status which, written, make the machine's table, and whether others are struck
-pub record Planned (valued : Bool) (ws : List ℕ) (c : Call) (number row status : ℕ) (strikes : Bool) : Type 0 where
+-- the machine's number and, where that is OK, a row and a status which, written, make the machine's table; how many others are struck, which is how
+-- many rounds are made GHOST where that is OK
+pub record Planned (valued : Bool) (ws : List ℕ) (c : Call) (number row status strikes : ℕ) : Type 0 where
   pub number-is : number ≡ answer valued (rows ws) (nodes ws) c
   pub fits : number ≡ OK → 4 * row + 4 ≤ length ws
   pub makes : number ≡ OK → call-written ws c row status ≡ table (length ws) (change (nodes ws) c)
   pub strikes-is : strikes ≡ call-strikes ws c row
+  pub ghosts-are : number ≡ OK → strikes ≡ at-add ghosts-made valued (rows ws) (nodes ws) c

@@ -18,12 +18,12 @@ pub enum TreeCall {
     },
 }
 
-// What a call comes to: its number and, where that is OK, the row that it writes, the status that it writes there, and whether it strikes others.
+// What a call comes to: its number and, where that is OK, the row that it writes, the status that it writes there, and how many others it strikes.
 pub struct Plan {
     pub number: u32,
     pub row: usize,
     pub status: u64,
-    pub strikes: bool,
+    pub strikes: usize,
 }
 
 // Decides a call, and writes nothing. `valued` says whether the tree's values are compared.
@@ -42,7 +42,7 @@ pub fn plan_call(valued: bool, t: &[u64], call: TreeCall) -> Plan
 }
 
 // Writes an accepted call: an add strikes the ADDED rows that its edge crosses and puts its node into the row, a commit sets the row's status.
-pub fn write_call(t: &mut [u64], call: TreeCall, row: usize, status: u64, strikes: bool)
+pub fn write_call(t: &mut [u64], call: TreeCall, row: usize, status: u64, strikes: usize)
     requires { ⌜ (4 * row + 4 ≤ length (now t)) × (strikes ≡ call-strikes (now t) (call-of call) row) ⌝ }
     ensures { λ _. ⌜ now (t .exit) ≡ call-written (now (t .entry)) (call-of call) row status ⌝ }
 {

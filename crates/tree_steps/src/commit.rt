@@ -39,6 +39,6 @@ pub fn plan_commit(valued: bool, t: &[u64], r: Round) -> Plan
         number: commit_number(t, k, r),
         row: k,
         status: tree_table::COMMITTED,
-        strikes: false,
+        strikes: 0,
     }
 }

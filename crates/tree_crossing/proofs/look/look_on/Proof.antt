@@ -4,7 +4,7 @@ use native.Mathlib.Omega.{arith}
 use borrow.Author.Needs.{needs}
 use denote.Ref.{now}
 use Rattle.tree_crossing.specs.declared.look.Look.{Look}
-use Rattle.tree_crossing.proofs.Looking.{LookedTo, look-beyond, look-before, look-crossed}
+use Rattle.tree_crossing.proofs.Looking.{LookedTo, strikes-few, look-beyond, look-before, look-struck, look-unstruck}
 use Rattle.tree_crossing.proofs.look.look_on.Statement.{statement}
 use Rattle.tree_crossing.proofs.look.look_on.Tie as tie
 
@@ -42,16 +42,38 @@ returns-2 c =
 status-at-requires : tie.Need-status-at-requires
 status-at-requires c κs = search needs
 
+-- where a crossed row's status was tested
+abbrev crossed : tie.After-status-at → tie.Else2
+crossed c = c .before
+
 add-t22 : tie.Need-add-t22
 add-t22 c = omega arith
 
+add-t23 : tie.Need-add-t23
+add-t23 c =
+    let s = c .before .before in
+    omega (arith, strikes-few (looked (begun (crossed s .before .before))))
+
 returns-3 : tie.Need-returns-3
 returns-3 c =
-    let s = c .before .before in
-    let d = s .before in
-    let b = d .before in
-    let k = b .before in
-    look-crossed (looked (begun k)) (k .before .round-at .ensures) (k .find-row-more .ensures) (b .if1 .left) (d .if2 .left) (s .status-at .ensures)
+    let b = c .before in
+    let s = b .before in
+    let d = crossed s in
+    let k = d .before .before in
+    look-struck (looked (begun k)) (k .before .round-at .ensures) (k .find-row-more .ensures) (d .before .if1 .left) (d .if2 .left) (s .status-at .ensures)
+    (b .if3 .taken)
+
+add-t27 : tie.Need-add-t27
+add-t27 c = omega arith
+
+returns-4 : tie.Need-returns-4
+returns-4 c =
+    let b = c .before in
+    let s = b .before in
+    let d = crossed s in
+    let k = d .before .before in
+    look-unstruck (looked (begun k)) (k .before .round-at .ensures) (k .find-row-more .ensures) (d .before .if1 .left) (d .if2 .left) (s .status-at .ensures)
+    (b .if3 .left)
 
 pub look-on-spec : {M : Type 1} → statement M
 look-on-spec =
@@ -65,4 +87,7 @@ look-on-spec =
     returns-2
     status-at-requires
     add-t22
-    returns-3)
+    add-t23
+    returns-3
+    add-t27
+    returns-4)
