@@ -1,6 +1,6 @@
 -- How many nodes of a tree are COMMITTED: an accepted add leaves their number, an accepted commit makes one more. Rounds are distinct, so
 -- one node takes the new status. Assumes nothing.
-use mathlib.Core.Path.{_≡_, refl, ap}
+use mathlib.Core.Path.{_≡_, refl, ap, _∙_}
 use mathlib.Core.Bool.{Bool, true, false}
 use mathlib.Core.List.{List, [], _∷_, _++_, map, List·Memᴰ·head as here, List·Memᴰ·tail as there}
 use Prim.Native.Nat.{ℕ, suc, _+_, _<_}
@@ -8,27 +8,20 @@ use native.Mathlib.Omega.{arith}
 use lib.Dec.{eqb}
 use borrow.Author.Tests.{not-false, eq-eqb}
 use Rattle.laws.specs.Tests.{tests, by-test, clash, and-left, or-left, or-right}
-use Rattle.laws.specs.Lists.{_∈_, any, any-none, none-any, cut}
+use Rattle.laws.specs.Lists.{_∈_, any, any-none, none-any, how-many-append, how-many-map, how-many-same, cut}
 use Rattle.laws.specs.First.{passed}
 use Rattle.numbers.specs.Numbers.{OK}
-use Rattle.tree_theory.specs.Machine.{Call, add, commit, Node, ADDED, COMMITTED, has-round, present, find, above, strikes, struck, new-node}
+use Rattle.tree_theory.specs.Machine.{Call, add, commit, Node, ADDED, COMMITTED, has-round, has-status, present, find, above, strikes, struck, new-node}
 use Rattle.tree_theory.specs.Machine.{commit-node, causes, answer, change, step, after, answers}
 use Rattle.tree_theory.proofs.Grown.{Grown, placed-cut}
 use Rattle.tree_theory.proofs.History.{step-ok}
 use Rattle.tree_theory.proofs.Steps.{step-grown}
 use Rattle.model.specs.Counts.{committed-nodes}
 
-append-count : (l k : List Node) → committed-nodes (l ++ k) ≡ committed-nodes l + committed-nodes k
-unfolding committed-nodes
-append-count [] k = omega arith
-append-count (n ∷ l) k = by-test (eqb (n .status) COMMITTED) (λ t. rw t (omega (arith, append-count l k))) (λ t. rw t (append-count l k))
-
 -- a change that keeps which nodes are COMMITTED
 kept-count : (f : Node → Node) (ns : List Node) → ((n : Node) → n ∈ ns → eqb (f n .status) COMMITTED ≡ eqb (n .status) COMMITTED) →
     committed-nodes (map f ns) ≡ committed-nodes ns
-unfolding committed-nodes
-kept-count f [] h = refl
-kept-count f (n ∷ ns) h = rw (h n (here refl), kept-count f ns (λ k i. h k (there i))) refl
+kept-count f ns h = how-many-map (has-status COMMITTED) f ns ∙ how-many-same _ _ ns h
 
 struck-status : (ns : List Node) (r p : ℕ) (n : Node) → eqb (struck ns r p n .status) COMMITTED ≡ eqb (n .status) COMMITTED
 unfolding struck
@@ -59,7 +52,7 @@ committed-other r n t = rw t refl
 -- one node more is COMMITTED
 one-more : (r : ℕ) (ns : List Node) → Distinct ns → present r ns ≡ true → eqb (find r ns .status) COMMITTED ≡ false →
     committed-nodes (map (commit-node r) ns) ≡ suc (committed-nodes ns)
-unfolding committed-nodes commit-node find
+unfolding commit-node find
 one-more r [] d p s = clash p refl
 one-more r (n ∷ ns) d p s =
     by-test (has-round r n)
@@ -81,9 +74,9 @@ commits-in (commit r ∷ cs) = suc (commits-in cs)
 
 changed-count : (valued : Bool) (rows : ℕ) (ns : List Node) (c : Call) → Grown valued rows ns → answer valued rows ns c ≡ OK →
     committed-nodes (change ns c) ≡ committed-nodes ns + commits-in (c ∷ [])
-unfolding change answer commits-in committed-nodes
+unfolding change answer commits-in
 changed-count valued rows ns (add r v p) G h =
-    rw (append-count (map (struck ns r p) ns) (new-node ns r v p ∷ []), kept-count (struck ns r p) ns (λ n i. struck-status ns r p n), new-status ns r v p) refl
+    rw (how-many-append (has-status COMMITTED) (map (struck ns r p) ns) (new-node ns r v p ∷ []), kept-count (struck ns r p) ns (λ n i. struck-status ns r p n), new-status ns r v p) refl
 changed-count valued rows ns (commit r) G h =
     let (a, (b, (c, rest))) = passed (causes valued rows ns (commit r)) refl h in
     omega (arith, one-more r ns (grown-distinct valued rows ns G) (not-false (present r ns) b) c)

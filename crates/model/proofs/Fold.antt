@@ -55,11 +55,6 @@ module _ (z : Sizes) where
 
   -- accepted events are the zeros among the answers
   pub accepted-zeros : (o : Office) (es : List Event) → accepted-events z o es ≡ zeros (event-answers z o es)
-  unfolding accepted-events event-answers zeros
+  unfolding accepted-events event-answers
   accepted-zeros o [] = refl
   accepted-zeros o (e ∷ es) = ap (λ k. cond (eqb (event-answer z o e) OK) (suc k) k) (accepted-zeros (next z o e) es)
-
-pub zeros-append : (l k : List ℕ) → zeros (l ++ k) ≡ zeros l + zeros k
-unfolding zeros
-zeros-append [] k = omega arith
-zeros-append (a ∷ l) k = by-test (eqb a OK) (λ t. rw t (omega (arith, zeros-append l k))) (λ t. rw t (zeros-append l k))

@@ -1,16 +1,19 @@
--- 01's rehearsal list in the model, and short lists with each of the other numbers that an event can get. By computation.
+-- 01's rehearsal list in the model, short lists with each of the other numbers that an event can get, and what adds make GHOST. By computation.
 -- Assumes nothing.
 use mathlib.Core.Path.{_≡_, refl}
+use mathlib.Core.Bool.{Bool, true, false}
 use mathlib.Core.List.{List, [], _∷_}
 use Prim.Native.Nat.{ℕ}
 use Rattle.quorum.specs.Count.{some}
-use Rattle.tree_theory.specs.Machine.{ADDED, COMMITTED, node-of, add, commit, struck, new-node, find, path-in, commit-node}
-use Rattle.tree_theory.specs.Machine.{after as after-calls}
+use Rattle.tree_theory.specs.Machine.{Call, ADDED, GHOST, COMMITTED, Node, node-of, fresh, add, commit, struck, new-node, find, path-in, commit-node}
+use Rattle.tree_theory.specs.Machine.{causes, change, step}
+use Rattle.tree_theory.specs.Machine.{answer as answer-call, after as after-calls}
+use Rattle.tree_theory.specs.Ghosts.{ghosts-made, ghosts-born, at-add, over-adds}
 use Rattle.message.specs.declared.Message.the-variants.{Start, Join, JoinVoted, Propose, Vote}
 use Rattle.member_record.specs.Record.{round-number}
 use Rattle.model.specs.Model.{Sizes, Event, start, deliver, member-number, first-office, office-after, event-answers, offered}
 use Rattle.model.specs.Demand.{calls, ended}
-use Rattle.model.specs.Counts.{made-tree}
+use Rattle.model.specs.Counts.{made-tree, made-ghosts, born-ghosts}
 
 abbrev sizes : ℕ → ℕ → Sizes
 sizes store table = record { n = 3; store = store; table = table }
@@ -78,3 +81,52 @@ record NumberListsMet : Type 0 where
 number-lists : NumberListsMet
 unfolding event-answers offered first-office some
 number-lists = record { starts = refl; absent = refl; late = refl; full = refl; rowless = refl; last-row = refl; both = refl; offers = refl }
+
+-- how many rounds each call of a list makes GHOST
+unfoldable each-ghosts : Bool → List Node → List Call → List ℕ
+each-ghosts valued ns [] = []
+each-ghosts valued ns (c ∷ cs) = at-add ghosts-made valued 64 ns c ∷ each-ghosts valued (step valued 64 ns c) cs
+
+-- Rounds 1 and 2 stand below the root, one behind the other. Round 4 crosses both; round 3 is born GHOST; round 5 crosses four rounds, and 4 alone
+-- was ADDED. A second add of round 5 and one that crosses a COMMITTED round are refused, and a commit makes none GHOST.
+abbrev struck-calls : List Call
+struck-calls = add 1 5 0 ∷ add 2 5 1 ∷ add 4 6 0 ∷ add 3 5 2 ∷ add 5 7 0 ∷ add 5 7 0 ∷ commit 5 ∷ add 6 8 4 ∷ []
+
+-- Round 1 proposes; before anyone votes, members 0 and 2 join round 2, whose proposal crosses it.
+abbrev struck-list : List Event
+struck-list =
+    start 1 1 70 ∷ deliver 0 0 ∷ deliver 0 1 ∷ deliver 1 1 ∷ deliver 2 1 ∷ start 2 2 80 ∷ deliver 4 0 ∷ deliver 4 2 ∷ deliver 5 2 ∷ deliver 6 2 ∷ []
+
+-- The JOINs of round 1 come to its leader after round 2 has proposed: the proposal of round 1 is born GHOST.
+abbrev born-list : List Event
+born-list =
+    start 1 1 70 ∷ deliver 0 0 ∷ deliver 0 1 ∷ start 2 2 80 ∷ deliver 3 0 ∷ deliver 3 2 ∷ deliver 4 2 ∷ deliver 5 2 ∷ deliver 1 1 ∷ deliver 2 1 ∷ []
+
+record GhostsMet : Type 0 where
+  values : each-ghosts true fresh struck-calls ≡ 0 ∷ 0 ∷ 2 ∷ 0 ∷ 1 ∷ 0 ∷ 0 ∷ 0 ∷ []
+  commands : each-ghosts false fresh (add 1 5 0 ∷ add 2 6 1 ∷ add 4 7 0 ∷ add 3 8 2 ∷ add 5 9 0 ∷ []) ≡ 0 ∷ 0 ∷ 2 ∷ 0 ∷ 1 ∷ []
+  sum : over-adds ghosts-made true 64 fresh struck-calls ≡ 3
+  born : over-adds ghosts-born true 64 fresh struck-calls ≡ 1
+  rehearsal-sum : made-ghosts (sizes 1000 64) (ended (sizes 1000 64) rehearsal) ≡ 0
+  struck-tree : made-tree (sizes 9 9) (ended (sizes 9 9) struck-list) ≡ node-of 0 0 0 COMMITTED ∷ node-of 1 0 70 GHOST ∷ node-of 2 0 80 ADDED ∷ []
+  struck-sum : made-ghosts (sizes 9 9) (ended (sizes 9 9) struck-list) ≡ 1
+  struck-born : born-ghosts (sizes 9 9) (ended (sizes 9 9) struck-list) ≡ 0
+  born-tree : made-tree (sizes 9 9) (ended (sizes 9 9) born-list) ≡ node-of 0 0 0 COMMITTED ∷ node-of 2 0 80 ADDED ∷ node-of 1 0 70 GHOST ∷ []
+  born-sum : made-ghosts (sizes 9 9) (ended (sizes 9 9) born-list) ≡ 0
+  born-born : born-ghosts (sizes 9 9) (ended (sizes 9 9) born-list) ≡ 1
+
+ghosts-met : GhostsMet
+unfolding each-ghosts ghosts-made ghosts-born over-adds step answer-call causes change event-answers office-after first-office calls after-calls some struck new-node find path-in commit-node
+ghosts-met = record {
+  values = refl;
+  commands = refl;
+  sum = refl;
+  born = refl;
+  rehearsal-sum = refl;
+  struck-tree = refl;
+  struck-sum = refl;
+  struck-born = refl;
+  born-tree = refl;
+  born-sum = refl;
+  born-born = refl;
+}

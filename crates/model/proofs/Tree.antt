@@ -3,22 +3,24 @@
 use mathlib.Core.Path.{_≡_, refl, ap, subst}
 use mathlib.Core.Bool.{true}
 use mathlib.Core.List.{List, [], _∷_, _++_}
-use Prim.Native.Nat.{ℕ, suc, _<_}
+use Prim.Native.Nat.{ℕ, suc, _+_, _<_}
 use native.Mathlib.Omega.{arith}
 use lib.ListN.{length}
 use Rattle.numbers.specs.Numbers.{OK}
 use Rattle.tree_theory.specs.Machine.{Call, add, commit, fresh, step}
 use Rattle.tree_theory.specs.Machine.{answer as answer-call, after as after-calls}
 use Rattle.tree_theory.specs.Properties.{Properties, InRange, AllOk, adds-in}
+use Rattle.tree_theory.specs.Ghosts.{ghosts-made, at-add, over-adds}
 use Rattle.tree_theory.proofs.Rebuilt.{length-added}
 use Rattle.tree_theory.proofs.History.{told-fresh, told-grown}
 use Rattle.tree_theory.proofs.FourProperties.{next-ok, told-ok}
 use Rattle.tree_theory.proofs.Steps.{after-append}
+use Rattle.tree_theory.proofs.Ghosts.{over-adds-append}
 use Rattle.member_record.specs.Record.{allowed}
 use Rattle.member.specs.Table.{Named, nothing, proposal, decision}
 use Rattle.model.specs.Model.{Sizes, Event, Office, first-office, event-outcome, event-answer, made-by, taken, proposals}
 use Rattle.model.specs.Demand.{calls, ended}
-use Rattle.model.specs.Counts.{made-tree, decisions, committed-nodes}
+use Rattle.model.specs.Counts.{made-tree, made-ghosts, decisions, committed-nodes}
 use Rattle.model.proofs.Made.{calls-append, adds-in-calls}
 use Rattle.model.proofs.Demanded.{made-properties, rounds-in-range, adds-fit}
 use Rattle.model.proofs.Committed.{commits-in, committed-count}
@@ -51,6 +53,24 @@ module _ (z : Sizes) (o : Office) (e : Event) where
   pub tree-decision : (r x : ℕ) → event-outcome z o e .named ≡ decision r x → made-tree z (taken z o e) ≡ step true (z .table) (made-tree z o) (commit r)
   unfolding calls after-calls
   tree-decision r x h = tree-taken (decision r x) h
+
+  -- and what it makes GHOST is counted on
+  ghosts-taken : (n : Named) → event-outcome z o e .named ≡ n →
+      made-ghosts z (taken z o e) ≡ made-ghosts z o + over-adds ghosts-made true (z .table) (made-tree z o) (calls (made-by n))
+  ghosts-taken n h = rw (calls-taken n h) (over-adds-append ghosts-made true (z .table) fresh (calls (o .made)) (calls (made-by n)))
+
+  pub ghosts-nothing : event-outcome z o e .named ≡ nothing → made-ghosts z (taken z o e) ≡ made-ghosts z o + 0
+  unfolding calls over-adds
+  ghosts-nothing h = ghosts-taken nothing h
+
+  pub ghosts-proposal : (r x b : ℕ) → event-outcome z o e .named ≡ proposal r x b →
+      made-ghosts z (taken z o e) ≡ made-ghosts z o + at-add ghosts-made true (z .table) (made-tree z o) (add r x b)
+  unfolding calls over-adds
+  ghosts-proposal r x b h = omega (arith, ghosts-taken (proposal r x b) h)
+
+  pub ghosts-decision : (r x : ℕ) → event-outcome z o e .named ≡ decision r x → made-ghosts z (taken z o e) ≡ made-ghosts z o + 0
+  unfolding calls over-adds
+  ghosts-decision r x h = ghosts-taken (decision r x) h
 
 module _ (z : Sizes) (es : List Event) (ok : allowed (z .n) ≡ true) (rows : 0 < z .table) where
   -- the tree says OK to the call of an accepted event
@@ -87,7 +107,6 @@ module _ (z : Sizes) (o : Office) (ok : AllOk true (z .table) (calls (o .made)))
 
   -- decisions are the COMMITTED nodes less the root
   pub committed-counted : 0 < z .table → committed-nodes (made-tree z o) ≡ suc (decisions (o .made))
-  unfolding committed-nodes
   committed-counted rows =
       rw (
         committed-count true (z .table) fresh (calls (o .made)) rows (told-grown true (z .table) [] fresh (told-fresh true (z .table))) ok,
