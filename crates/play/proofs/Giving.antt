@@ -3,7 +3,7 @@
 use mathlib.Core.Path.{_≡_, refl, sym, ap, subst, _∙_}
 use mathlib.Core.Bool.{true, false, not}
 use mathlib.Core.List.{List, [], _++_}
-use Prim.Native.Nat.{ℕ, suc, _≤_, _<_}
+use Prim.Native.Nat.{ℕ, suc, _+_, _≤_, _<_}
 use native.Mathlib.Omega.{arith}
 use lib.ListN.{length, drop, replicate, length-replicate}
 use lib.Dec.{ltb}
@@ -18,10 +18,11 @@ use Rattle.tree_theory.proofs.Words.{length-table, nodes-table}
 use Rattle.tree_theory.proofs.History.{all-grown}
 use Rattle.tree_theory.proofs.Trees.{sized-rows, sized-words, grown-fit, grown-stated}
 use Rattle.tree_theory.proofs.Steps.{fresh-written}
+use Rattle.tree_theory.proofs.Ghosts.{ghosts-add-up}
 use Rattle.member_record.specs.Record.{allowed}
 use Rattle.model.specs.Model.{Sizes, first-office, event-answers, proposals}
 use Rattle.model.specs.Demand.{calls, ended}
-use Rattle.model.specs.Counts.{made-tree, zeros, decisions, committed-nodes}
+use Rattle.model.specs.Counts.{made-tree, made-ghosts, born-ghosts, zeros, decisions, committed-nodes, ghost-nodes}
 use Rattle.model.proofs.Demanded.{all-ok, demand-met}
 use Rattle.model.proofs.Tree.{nodes-counted, committed-counted}
 use Rattle.play_events.specs.List.{members-of, count-of, list-fits, events-of}
@@ -158,6 +159,7 @@ module _ {list : List ℕ} {L : Lent} (P : PassedList list L) where
           messages-are = subst (λ y. r .messages ≡ length (ended y es .sent)) e (W .messages-are);
           proposals-made = subst (λ y. r .proposals ≡ proposals (ended y es .made)) e (W .proposals-made);
           decisions-made = subst (λ y. r .decisions ≡ decisions (ended y es .made)) e (W .decisions-made);
+          ghosts-are = subst (λ y. r .ghosts ≡ made-ghosts y (ended y es)) e (W .ghosts-are);
         }
 
     -- play's promise
@@ -182,6 +184,8 @@ module _ {list : List ℕ} {L : Lent} (P : PassedList list L) where
                     (U .table-is ∙ ap (λ n. table n ns) (sym (sized-words ws (P .table-length))));
                 proposals-are = ap suc (U .proposals-made) ∙ sym (ap length held ∙ nodes-counted z (ended z es) ok);
                 decisions-are = ap suc (U .decisions-made) ∙ sym (ap committed-nodes held ∙ committed-counted z (ended z es) ok lent-rows);
+                ghosts-left = ap ghost-nodes held ∙ ghosts-add-up true (z .table) lent-rows (calls (ended z es .made)) .rows-are ∙
+                    ap (λ n. n + born-ghosts z (ended z es)) (sym (U .ghosts-are));
               };
           refused = λ q. absurd (q (U .number-ok));
         }

@@ -1,16 +1,16 @@
--- What play promises, on every answer: the number, the four counts, the answers, the store, with equal JOINs in it, and the table, and the third demand.
+-- What play promises, on every answer: the number, the five counts, the answers, the store, with equal JOINs in it, and the table, and the third demand.
 use mathlib.Core.Path.{_≡_}
 use mathlib.Core.Bool.{not, _||_}
 use mathlib.Core.List.{List, [], _∷_}
-use Prim.Native.Nat.{ℕ, suc}
+use Prim.Native.Nat.{ℕ, suc, _+_}
 use lib.ListN.{length}
 use lib.Dec.{ltb}
 use Rattle.laws.specs.First.{Cause, _gives_, first}
 use Rattle.numbers.specs.Numbers.{OK, TABLE-LENGTH, LIST-SHAPE, OFFICE-SIZE, STORE-OR-ANSWERS}
 use Rattle.tree_theory.specs.Table.{sized, nodes}
 use Rattle.member_record.specs.Record.{allowed}
-use Rattle.model.specs.Demand.{Demand}
-use Rattle.model.specs.Counts.{committed-nodes}
+use Rattle.model.specs.Demand.{Demand, ended}
+use Rattle.model.specs.Counts.{committed-nodes, ghost-nodes, born-ghosts}
 use Rattle.play_events.specs.List.{members-of, count-of, list-fits, events-of}
 use Rattle.play_store.specs.Rows.{store-sized}
 use Rattle.play_run.specs.declared.PlayAnswer.{PlayAnswer}
@@ -31,7 +31,7 @@ play-number list L = first (list-causes list L)
 
 -- with a refusal each count is 0
 abbrev pub refused-list : ℕ → PlayAnswer
-refused-list number = record { number = number; accepted = 0; messages = 0; proposals = 0; decisions = 0 }
+refused-list number = record { number = number; accepted = 0; messages = 0; proposals = 0; decisions = 0; ghosts = 0 }
 
 -- A list that play takes: what its events come to, the third demand, and what is counted off the table.
 pub record TakenList (list : List ℕ) (L : Lent) (r : PlayAnswer) (L′ : Lent) : Type 0 where
@@ -41,6 +41,8 @@ pub record TakenList (list : List ℕ) (L : Lent) (r : PlayAnswer) (L′ : Lent)
   -- proposals are the nodes less the root, decisions the COMMITTED less the root
   pub proposals-are : suc (r .proposals) ≡ length (nodes (L′ .memory .table))
   pub decisions-are : suc (r .decisions) ≡ committed-nodes (nodes (L′ .memory .table))
+  -- the GHOST are those that a proposal made so, and those born so
+  pub ghosts-left : ghost-nodes (nodes (L′ .memory .table)) ≡ r .ghosts + born-ghosts (sizes-of list (L .memory)) (ended (sizes-of list (L .memory)) (events-of list))
 
 -- a refused list leaves everything, and counts nothing
 pub record RefusedList (L : Lent) (r : PlayAnswer) (L′ : Lent) : Type 0 where

@@ -14,6 +14,7 @@ fn refused_list(number: u32) -> PlayAnswer
         messages: 0,
         proposals: 0,
         decisions: 0,
+        ghosts: 0,
     }
 }
 

@@ -7,7 +7,8 @@ use lib.Dec.{eqb}
 use Rattle.laws.specs.First.{Cause, first, _gives_}
 use Rattle.numbers.specs.Numbers.{OK, NO-FREE-ROW, STORE-FULL, no-row-left}
 use Rattle.tree_theory.specs.Machine.{Call}
-use Rattle.tree_theory.specs.Table.{rows}
+use Rattle.tree_theory.specs.Table.{rows, nodes}
+use Rattle.tree_theory.specs.Ghosts.{ghosts-made, at-add}
 use Rattle.message.specs.declared.Message.{Message}
 use Rattle.tree.specs.Promises.{stepped-table}
 use Rattle.play_store.specs.Rows.{store-rows, put-row}
@@ -20,10 +21,11 @@ pub record CountsFit (t : Tally) : Type 0 where
   pub sent : t .sent < 4000
   pub proposals : t .proposals < 4000
   pub decisions : t .decisions < 4000
+  pub ghosts : t .ghosts < 4000
 
--- so much more sent, proposed and decided
-abbrev pub counted : Tally → ℕ → ℕ → ℕ → Tally
-counted t a b c = record { n = t .n; sent = t .sent + a; proposals = t .proposals + b; decisions = t .decisions + c }
+-- so much more sent, proposed, decided and made GHOST
+abbrev pub counted : Tally → ℕ → ℕ → ℕ → ℕ → Tally
+counted t a b c d = record { n = t .n; sent = t .sent + a; proposals = t .proposals + b; decisions = t .decisions + c; ghosts = t .ghosts + d }
 
 -- a refused event leaves the tally
 abbrev pub refused-event : Tally → ℕ → EventEffect
@@ -43,7 +45,7 @@ no-room-to-propose t ws = no-row-left (rows ws) (t .proposals + 1)
 
 -- a step that sends g; the table isn't lent to it
 pub record SendEffect (t : Tally) (g : Message) (store : List ℕ) (w : EventEffect) (store′ : List ℕ) : Type 0 where
-  pub result-is : w ≡ cond (no-room-to-send t store) (refused-event t STORE-FULL) (accepted-event (counted t 1 0 0))
+  pub result-is : w ≡ cond (no-room-to-send t store) (refused-event t STORE-FULL) (accepted-event (counted t 1 0 0 0))
   pub store-is : store′ ≡ cond (no-room-to-send t store) store (put-row store (t .sent) g)
 
 -- the row "last" of the place table, where a message would be sent and a proposal made
@@ -55,13 +57,17 @@ proposal-causes t M =
 abbrev pub proposal-number : Tally → Memory → ℕ
 proposal-number t M = first (proposal-causes t M)
 
+-- how many rounds the call c makes GHOST in a table, from the tables before and after it
+abbrev pub counts-ghosts : List ℕ → Call → ℕ
+counts-ghosts ws c = at-add ghosts-made true (rows ws) (nodes ws) c
+
 -- a step that sends g and names c
 pub record ProposalEffect (t : Tally) (g : Message) (c : Call) (M : Memory) (w : EventEffect) (M′ : Memory) : Type 0 where
-  pub result-is : w ≡ cond (eqb (proposal-number t M) OK) (accepted-event (counted t 1 1 0)) (refused-event t (proposal-number t M))
+  pub result-is : w ≡ cond (eqb (proposal-number t M) OK) (accepted-event (counted t 1 1 0 (counts-ghosts (M .table) c))) (refused-event t (proposal-number t M))
   pub store-is : M′ .store ≡ cond (eqb (proposal-number t M) OK) (put-row (M .store) (t .sent) g) (M .store)
   pub table-is : M′ .table ≡ cond (eqb (proposal-number t M) OK) (stepped-table true (M .table) c) (M .table)
 
 -- a step that names c and sends nothing; the store isn't lent to it
 pub record DecisionEffect (t : Tally) (c : Call) (ws : List ℕ) (w : EventEffect) (ws′ : List ℕ) : Type 0 where
-  pub result-is : w ≡ accepted-event (counted t 0 0 1)
+  pub result-is : w ≡ accepted-event (counted t 0 0 1 0)
   pub table-is : ws′ ≡ stepped-table true ws c

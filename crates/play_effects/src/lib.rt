@@ -4,7 +4,7 @@ use ids::Round;
 use message::Message;
 ghost use mathlib.Core.Path.{_≡_};
 ghost use mathlib.Core.Bool.{true};
-ghost use Prim.Native.Nat.{_<_};
+ghost use Prim.Native.Nat.{_<_, _≤_};
 ghost use Rattle.tree_theory.specs.Machine.{add, commit};
 ghost use Rattle.tree_theory.specs.Table.{sized, Tree};
 ghost use Rattle.message.specs.Fields.{in-range};
@@ -12,12 +12,13 @@ ghost use Rattle.play_effects.specs.Memory.{in-memory};
 ghost use Rattle.play_effects.specs.Effects.{CountsFit, counted, refused-event, no-room-to-send, no-room-to-propose, proposal-number};
 ghost use Rattle.play_effects.specs.Effects.{SendEffect, ProposalEffect, DecisionEffect};
 
-// N, and how many messages were sent, proposals and decisions made.
+// N, how many messages were sent, proposals and decisions made, and how many rounds the proposals made GHOST.
 pub struct Tally {
     pub n: u32,
     pub sent: usize,
     pub proposals: usize,
     pub decisions: usize,
+    pub ghosts: u32,
 }
 
 // An event's number, and the tally after it. What becomes of the member's record goes by the number: whoever holds the records sees to it.
@@ -26,16 +27,17 @@ pub struct EventEffect {
     pub number: u32,
 }
 
-// So much more sent, proposed and decided.
-fn counted(tally: Tally, sent: usize, proposals: usize, decisions: usize) -> Tally
-    requires { ⌜ CountsFit tally × (sent < 2) × (proposals < 2) × (decisions < 2) ⌝ }
-    ensures { λ t. ⌜ t ≡ counted tally sent proposals decisions ⌝ }
+// So much more sent, proposed, decided and made GHOST.
+fn counted(tally: Tally, sent: usize, proposals: usize, decisions: usize, ghosts: u32) -> Tally
+    requires { ⌜ CountsFit tally × (sent < 2) × (proposals < 2) × (decisions < 2) × (ghosts ≤ 256) ⌝ }
+    ensures { λ t. ⌜ t ≡ counted tally sent proposals decisions ghosts ⌝ }
 {
     Tally {
         n: tally.n,
         sent: tally.sent + sent,
         proposals: tally.proposals + proposals,
         decisions: tally.decisions + decisions,
+        ghosts: tally.ghosts + ghosts,
     }
 }
 
@@ -87,7 +89,7 @@ pub fn send(messages: &mut [u8], tally: Tally, g: Message) -> EventEffect
     }
     play_store::store_message(messages, tally.sent, g);
     EventEffect {
-        tally: counted(tally, 1, 0, 0),
+        tally: counted(tally, 1, 0, 0, 0),
         number: numbers::OK,
     }
 }
@@ -111,9 +113,9 @@ pub fn propose(
         return refused_event(tally, number);
     }
     play_store::store_message(messages, tally.sent, sent);
-    tree::add_in_tree(nodes, round, value, parent);
+    let added = tree::add_in_tree(nodes, round, value, parent);
     EventEffect {
-        tally: counted(tally, 1, 1, 0),
+        tally: counted(tally, 1, 1, 0, added.ghosts),
         number: numbers::OK,
     }
 }
@@ -125,7 +127,7 @@ pub fn decide(nodes: &mut [u64], tally: Tally, round: Round) -> EventEffect
 {
     tree::commit_in_tree(nodes, round);
     EventEffect {
-        tally: counted(tally, 0, 0, 1),
+        tally: counted(tally, 0, 0, 1, 0),
         number: numbers::OK,
     }
 }

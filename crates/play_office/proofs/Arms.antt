@@ -12,6 +12,7 @@ use Rattle.numbers.specs.Numbers.{OK, NO-FREE-ROW, STORE-FULL}
 use Rattle.ids.specs.declared.Round.{Round}
 use Rattle.tree_theory.specs.Machine.{Call, add, commit, step}
 use Rattle.tree_theory.specs.Table.{rows, table}
+use Rattle.tree_theory.specs.Ghosts.{ghosts-made, at-add}
 use Rattle.message.specs.declared.Message.{Message}
 use Rattle.member_record.specs.declared.MemberState.{MemberState}
 use Rattle.member.specs.declared.StepAnswer.{StepAnswer}
@@ -22,16 +23,16 @@ use Rattle.member.specs.Table.{Outcome, sends, nothing, proposal}
 use Rattle.member.proofs.Checks.{refused-some}
 use Rattle.member.proofs.Keeping.{step-kept}
 use Rattle.model.specs.Model.{Sizes, Event, Office, at-member, event-of, member-at, sends-one, event-outcome, proposals, taken}
-use Rattle.model.specs.Counts.{made-tree, decisions}
+use Rattle.model.specs.Counts.{made-tree, made-ghosts, decisions}
 use Rattle.model.proofs.Kept.{step-is-sound, event-fits}
-use Rattle.model.proofs.Tree.{tree-nothing, tree-proposal, tree-decision}
+use Rattle.model.proofs.Tree.{tree-nothing, tree-proposal, tree-decision, ghosts-nothing, ghosts-proposal, ghosts-decision}
 use Rattle.play_store.specs.Rows.{store-rows, stored, put-row}
 use Rattle.play_store.proofs.Stored.{put-stored}
 use Rattle.tree.specs.Promises.{stepped-table}
 use Rattle.play_effects.specs.declared.EventEffect.{EventEffect}
 use Rattle.play_effects.specs.declared.Tally.{Tally}
 use Rattle.play_effects.specs.Memory.{Memory, in-memory}
-use Rattle.play_effects.specs.Effects.{counted, refused-event, accepted-event, no-room-to-send, no-room-to-propose, SendEffect, ProposalEffect, DecisionEffect}
+use Rattle.play_effects.specs.Effects.{counted, counts-ghosts, refused-event, accepted-event, no-room-to-send, no-room-to-propose, SendEffect, ProposalEffect, DecisionEffect}
 use Rattle.play_office.specs.Represents.{RecordAt, StepBefore, StepAfter, ModelStep, AnswerIs, AnswerBefore, after-event}
 use Rattle.play_office.proofs.Before.{nodes-held}
 use Rattle.play_office.proofs.Settling.{refused-step, store-full-answer, table-full-answer, sent-one, proposed-one, silent-one}
@@ -72,8 +73,8 @@ step-keeps B {e} T =
 named-by : {z : Sizes} {o : Office} {e : Event} {i : ℕ} {u : Outcome} → ModelStep z o e i u → event-outcome z o e .named ≡ u .named
 named-by T = ap (λ (u : Outcome). u .named) (sym (T .equals))
 
-nothing-more : (t : Tally) → counted t 0 0 0 ≡ t
-nothing-more t = rw (add-zero (t .sent), add-zero (t .proposals), add-zero (t .decisions)) refl
+nothing-more : (t : Tally) → counted t 0 0 0 0 ≡ t
+nothing-more t = rw (add-zero (t .sent), add-zero (t .proposals), add-zero (t .decisions), add-zero (t .ghosts)) refl
 
 module _ {t : Tally} {M : Memory} (B : StepBefore t M) where
   -- the store as it was holds what was sent, if nothing is
@@ -103,32 +104,40 @@ module _ {t : Tally} {M : Memory} (B : StepBefore t M) where
       q ∙ ap (λ ks. table (length (M .table)) (step true (rows (M .table)) ks c)) (nodes-held B) ∙
       ap (λ n. table (length (M .table)) (step true n ns c)) (sym (B .sizes .table-is)) ∙ ap (λ n. table n (step true (B .z .table) ns c)) (sym l)
 
+  -- and so is what it makes GHOST
+  counted-on : (c : Call) → counts-ghosts (M .table) c ≡ at-add ghosts-made true (B .z .table) (made-tree (B .z) (B .o)) c
+  counted-on c =
+      ap (λ ks. at-add ghosts-made true (rows (M .table)) ks c) (nodes-held B) ∙
+      ap (λ n. at-add ghosts-made true n (made-tree (B .z) (B .o)) c) (sym (B .sizes .table-is))
+
 module _ {t : Tally} {M : Memory} (B : StepBefore t M) {e : Event} {i : ℕ} (was : MemberState) where
   -- nothing is sent and nothing is named
   pub goes-silent : (m : MemberState) → AnswerIs (B .z) (B .o) e i m Done → StepAfter B e i (after-event was m (accepted-event t)) M
   unfolding AnswerIs proposals decisions
   goes-silent m T =
       subst (λ k. StepAfter B e i (after-event was m (accepted-event k)) M) (nothing-more t)
-      (accepted-after B was M 0 0 0 T (silent-one T refl refl refl) refl refl refl (same-messages B) (same-nodes B e (named-by T)))
+      (accepted-after B was M 0 0 0 0 T (silent-one T refl refl refl) refl refl refl (ghosts-nothing (B .z) (B .o) e (named-by T)) (same-messages B)
+      (same-nodes B e (named-by T)))
 
   -- a message is sent and nothing is named
   goes-sent : {m : MemberState} {g : Message} (store′ : List ℕ) → ModelStep (B .z) (B .o) e i (sends m g) → t .sent < store-rows (M .store) →
       length store′ ≡ length (M .store) → store′ ≡ put-row (M .store) (t .sent) g →
-      StepAfter B e i (after-event was m (accepted-event (counted t 1 0 0))) (in-memory store′ (M .table))
+      StepAfter B e i (after-event was m (accepted-event (counted t 1 0 0 0))) (in-memory store′ (M .table))
   unfolding proposals decisions
   goes-sent {m} {g} store′ T h l w =
-      accepted-after B was (in-memory store′ (M .table)) 1 0 0 T (sent-one T refl refl (free B h) refl) refl refl refl (put-behind B g store′ h l w)
-      (same-nodes B e (named-by T))
+      accepted-after B was (in-memory store′ (M .table)) 1 0 0 0 T (sent-one T refl refl (free B h) refl) refl refl refl
+      (ghosts-nothing (B .z) (B .o) e (named-by T)) (put-behind B g store′ h l w) (same-nodes B e (named-by T))
 
   -- the proposal is sent and added
   goes-proposed : {m : MemberState} {g : Message} {r x b : ℕ} (M′ : Memory) → ModelStep (B .z) (B .o) e i (proposing m g r x b) →
       t .sent < store-rows (M .store) → t .proposals + 1 < rows (M .table) → length (M′ .store) ≡ length (M .store) →
       M′ .store ≡ put-row (M .store) (t .sent) g → length (M′ .table) ≡ length (M .table) → M′ .table ≡ stepped-table true (M .table) (add r x b) →
-      StepAfter B e i (after-event was m (accepted-event (counted t 1 1 0))) M′
+      StepAfter B e i (after-event was m (accepted-event (counted t 1 1 0 (counts-ghosts (M .table) (add r x b))))) M′
   unfolding proposals decisions
   goes-proposed {m} {g} {r} {x} {b} M′ T h f l w l′ q =
-      accepted-after B was M′ 1 1 0 T
+      accepted-after B was M′ 1 1 0 (counts-ghosts (M .table) (add r x b)) T
       (proposed-one T refl refl (free B h) refl (omega (arith, B .sizes .table-is, B .represents .slot .proposed))) refl refl refl
+      (ghosts-proposal (B .z) (B .o) e r x b (named-by T) ∙ ap (λ n. made-ghosts (B .z) (B .o) + n) (sym (counted-on B (add r x b))))
       (put-behind B g (M′ .store) h l w)
       (stepped B (add r x b) (M′ .table) q l′ ∙ ap (table (length (M′ .table))) (sym (tree-proposal (B .z) (B .o) e r x b (named-by T))))
 
@@ -138,7 +147,8 @@ module _ {t : Tally} {M : Memory} (B : StepBefore t M) {e : Event} {i : ℕ} (wa
   unfolding AnswerIs proposals decisions
   decides-go m {r} x {w} {ws′} T P l =
       as-result B was m w (P .result-is)
-      (accepted-after B was (in-memory (M .store) ws′) 0 0 1 T (silent-one T refl refl refl) refl refl refl (same-messages B)
+      (accepted-after B was (in-memory (M .store) ws′) 0 0 1 0 T (silent-one T refl refl refl) refl refl refl
+      (ghosts-decision (B .z) (B .o) e (r .0) x (named-by T)) (same-messages B)
       (stepped B (commit (r .0)) ws′ (P .table-is) l ∙ ap (table (length ws′)) (sym (tree-decision (B .z) (B .o) e (r .0) x (named-by T)))))
 
   module _ (H : RecordAt (B .members) i was) where

@@ -9,32 +9,27 @@ use lib.Seq.{getD-take}
 use lib.Dec.{leb, ltb, eqb}
 use borrow.Author.Tests.{leb-true, ltb-true}
 use Rattle.laws.specs.Tests.{tests, by-test, and-right, or-cases}
-use Rattle.tree_theory.specs.Machine.{Node, COMMITTED, fresh, after}
+use Rattle.laws.specs.Lists.{how-many-most}
+use Rattle.tree_theory.specs.Machine.{GHOST, COMMITTED, has-status, fresh, after}
 use Rattle.tree_theory.specs.Table.{nodes, rows, sized, table, Tree}
 use Rattle.tree_theory.proofs.Words.{nodes-table}
 use Rattle.tree_theory.proofs.Grown.{Grown}
 use Rattle.tree_theory.proofs.History.{all-grown}
 use Rattle.tree_theory.proofs.Trees.{grown-fit, grown-stated, sized-bounds, sized-rows}
 use Rattle.tree_theory.proofs.Steps.{written-tree}
+use Rattle.tree_theory.proofs.Ghosts.{ghosts-add-up}
 use Rattle.member_record.specs.declared.MemberState.{MemberState}
 use Rattle.member_record.specs.Record.{allowed}
 use Rattle.member_record.specs.Record.{fresh-record as fresh-member}
 use Rattle.model.specs.Model.{member-at, member-number}
 use Rattle.model.specs.Demand.{calls}
-use Rattle.model.specs.Counts.{made-tree, committed-nodes}
+use Rattle.model.specs.Counts.{made-tree}
 use Rattle.model.proofs.Tree.{nodes-counted, committed-counted}
 use Rattle.play_store.specs.Rows.{row-length, most-rows, store-rows, store-sized}
 use Rattle.play_effects.specs.declared.Tally.{Tally}
 use Rattle.play_effects.specs.Memory.{Memory}
 use Rattle.play_effects.specs.Effects.{CountsFit}
 use Rattle.play_office.specs.Represents.{StepBefore, place-of}
-
-committed-few : (ns : List Node) → committed-nodes ns ≤ length ns
-unfolding committed-nodes
-committed-few [] = omega arith
-committed-few (n ∷ ns) =
-    let h : committed-nodes ns ≤ length ns = committed-few ns in
-    by-test (eqb (n .status) COMMITTED) (λ t. rw t (omega arith)) (λ t. rw t (omega arith))
 
 -- what stands for a record that isn't there doesn't matter
 pub default : (l : List MemberState) (i : ℕ) (d e : MemberState) → i < length l → getD l i d ≡ getD l i e
@@ -98,12 +93,29 @@ module _ {t : Tally} {M : Memory} (B : StepBefore t M) where
         arith,
         B .represents .slot .decided,
         committed-counted (B .z) (B .o) (B .sound .all-ok) rows-lent,
-        committed-few (made-tree (B .z) (B .o)),
+        how-many-most (has-status COMMITTED) (made-tree (B .z) (B .o)),
+        length-tree,
+      )
+
+  -- a round is made GHOST once
+  ghosts-few : t .ghosts ≤ 256
+  ghosts-few =
+      omega (
+        arith,
+        B .represents .slot .struck,
+        ghosts-add-up true (B .z .table) rows-lent (calls (B .o .made)) .rows-are,
+        how-many-most (has-status GHOST) (made-tree (B .z) (B .o)),
         length-tree,
       )
 
   pub counts-fit : CountsFit t
-  counts-fit = record { sent = omega (arith, sent-few); proposals = omega (arith, proposals-few); decisions = omega (arith, decisions-few) }
+  counts-fit =
+      record {
+        sent = omega (arith, sent-few);
+        proposals = omega (arith, proposals-few);
+        decisions = omega (arith, decisions-few);
+        ghosts = omega (arith, ghosts-few);
+      }
 
   -- a member of the array is the model's
   pub member-held : (i : ℕ) (d : MemberState) → i < B .z .n → getD (B .members) i d ≡ member-at (B .z) (B .o) i

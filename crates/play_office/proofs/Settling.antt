@@ -14,7 +14,7 @@ use Rattle.tree_theory.specs.Table.{table}
 use Rattle.member_record.specs.declared.MemberState.{MemberState}
 use Rattle.member.specs.Table.{Outcome}
 use Rattle.model.specs.Model.{Sizes, Event, Office, at-member, sends-one, proposes-one, proposals, event-causes, event-answer, made-by, taken, next}
-use Rattle.model.specs.Counts.{made-tree, decisions}
+use Rattle.model.specs.Counts.{made-tree, made-ghosts, decisions}
 use Rattle.model.proofs.Made.{proposals-append, decisions-append}
 use Rattle.play_store.specs.Rows.{stored}
 use Rattle.play_effects.specs.declared.EventEffect.{EventEffect}
@@ -75,18 +75,18 @@ module _ {t : Tally} {M : Memory} (B : StepBefore t M) {e : Event} {i : ℕ} whe
       record { number-is = sym (R .number-is); small = R .small; represents = rw (r, n, set-same (B .members) i was H) (B .represents) }
 
   -- an accepted one takes its step
-  pub accepted-after : (was : MemberState) {u : Outcome} (M′ : Memory) (a b c : ℕ) → ModelStep (B .z) (B .o) e i u → event-answer (B .z) (B .o) e ≡ OK →
-      length (u .sent) ≡ a → proposals (made-by (u .named)) ≡ b → decisions (made-by (u .named)) ≡ c →
+  pub accepted-after : (was : MemberState) {u : Outcome} (M′ : Memory) (a b c d : ℕ) → ModelStep (B .z) (B .o) e i u → event-answer (B .z) (B .o) e ≡ OK →
+      length (u .sent) ≡ a → proposals (made-by (u .named)) ≡ b → decisions (made-by (u .named)) ≡ c → made-ghosts (B .z) (taken (B .z) (B .o) e) ≡ made-ghosts (B .z) (B .o) + d →
       M′ .store ≡ stored (length (M′ .store)) (B .o .sent ++ u .sent) →
       M′ .table ≡ table (length (M′ .table)) (made-tree (B .z) (taken (B .z) (B .o) e)) →
-      StepAfter B e i (after-event was (u .state) (accepted-event (counted t a b c))) M′
+      StepAfter B e i (after-event was (u .state) (accepted-event (counted t a b c d))) M′
   unfolding next taken
-  accepted-after was {u} M′ a b c T zero-answer ea eb ec es en =
+  accepted-after was {u} M′ a b c d T zero-answer ea eb ec ed es en =
       let z = B .z in
       let o = B .o in
       let R = B .represents in
       let yes : eqb (event-answer z o e) OK ≡ true = eq-eqb (event-answer z o e) OK zero-answer in
-      let R′ : Represents z (taken z o e) (counted t a b c) (set (B .members) i (u .state)) M′ =
+      let R′ : Represents z (taken z o e) (counted t a b c d) (set (B .members) i (u .state)) M′ =
       record {
         shared = record {
           sent-count = rw (← (T .equals)) (ap (λ x. x + a) (R .shared .sent-count) ∙ rw (← ea) (sym (length-append (o .sent) (u .sent))));
@@ -100,6 +100,7 @@ module _ {t : Tally} {M : Memory} (B : StepBefore t M) {e : Event} {i : ℕ} whe
               (take-set-lt (z .n) (B .members) (at-member e) (u .state) (T .member) ∙ rw (R .slot .members, T .equals) refl);
           proposed = rw (← (T .equals)) (ap (λ x. x + b) (R .slot .proposed) ∙ rw (← eb) (sym (proposals-append (o .made) (made-by (u .named)))));
           decided = rw (← (T .equals)) (ap (λ x. x + c) (R .slot .decided) ∙ rw (← ec) (sym (decisions-append (o .made) (made-by (u .named)))));
+          struck = ap (λ x. x + d) (R .slot .struck) ∙ sym ed;
           nodes-are = en;
         };
       } in

@@ -16,7 +16,7 @@ use Rattle.member.specs.declared.MemberStep.{MemberStep}
 use Rattle.member.specs.Answers.{answer-outcome}
 use Rattle.member.specs.Table.{Outcome}
 use Rattle.model.specs.Model.{Sizes, Event, Office, fresh-members, event-answer, next, event-outcome, at-member, unsent, proposals}
-use Rattle.model.specs.Counts.{made-tree, decisions}
+use Rattle.model.specs.Counts.{made-tree, made-ghosts, decisions}
 use Rattle.model.specs.Sound.{SoundOffice}
 use Rattle.play_store.specs.Rows.{store-rows, store-sized, stored}
 use Rattle.play_effects.specs.declared.EventEffect.{EventEffect}
@@ -27,7 +27,7 @@ use Rattle.play_office.specs.declared.PlayedOffice.{PlayedOffice}
 -- the office at first; its array has seven records
 unfoldable pub fresh-office : ℕ → PlayedOffice
 unfolding fresh-members
-fresh-office n = record { tally = record { n = n; sent = 0; proposals = 0; decisions = 0 }; members = fresh-members n 0 7 }
+fresh-office n = record { tally = record { n = n; sent = 0; proposals = 0; decisions = 0; ghosts = 0 }; members = fresh-members n 0 7 }
 
 -- the place of a member's record; a number above 6 has none, and takes the first
 abbrev pub place-of : ℕ → ℕ
@@ -58,6 +58,7 @@ pub record RepresentsSlot (z : Sizes) (o : Office) (t : Tally) (ms : List Member
   pub members : take (z .n) ms ≡ o .members
   pub proposed : t .proposals ≡ proposals (o .made)
   pub decided : t .decisions ≡ decisions (o .made)
+  pub struck : t .ghosts ≡ made-ghosts z o
   pub nodes-are : ws ≡ table (length ws) (made-tree z o)
 
 -- the memory represents the state o

@@ -49,6 +49,7 @@ pub fn fresh_office(n: u32) -> PlayedOffice
             sent: 0,
             proposals: 0,
             decisions: 0,
+            ghosts: 0,
         },
         members,
     }

@@ -12,11 +12,13 @@ use lib.Seq.{drop-cons, set-at, drop-drop}
 use lib.Dec.{leb, eqb}
 use borrow.Author.Tests.{leb-true, eq-eqb, ne-eqb}
 use Rattle.laws.specs.Tests.{by-test, and-left, and-right}
+use Rattle.laws.specs.Lists.{how-many-append}
 use Rattle.laws.specs.Elements.{getD-in}
 use Rattle.numbers.specs.Numbers.{OK}
 use Rattle.xdr.specs.Words.{AllBytes}
 use Rattle.tree_theory.specs.Machine.{after}
 use Rattle.tree_theory.specs.Table.{rows, sized, table}
+use Rattle.tree_theory.specs.Ghosts.{over-adds}
 use Rattle.tree_theory.proofs.Trees.{sized-rows}
 use Rattle.message.specs.declared.Message.{Message}
 use Rattle.member_record.specs.declared.MemberState.{MemberState}
@@ -26,7 +28,7 @@ use Rattle.model.specs.Model.{message-at, office-after}
 use Rattle.model.specs.Demand.{calls, ended}
 use Rattle.model.specs.Joins.{JoinOf}
 use Rattle.model.specs.Counts.{made-tree, zeros, decisions}
-use Rattle.model.proofs.Fold.{after-last, answers-last, length-answers, zeros-append}
+use Rattle.model.proofs.Fold.{after-last, answers-last, length-answers}
 use Rattle.model.proofs.Joins.{same-joins}
 use Rattle.model.proofs.Sound.{ended-sound}
 use Rattle.play_events.specs.declared.EventRead.{EventRead}
@@ -60,10 +62,6 @@ unfolding fresh-members
 fresh-front n k zero d h = refl
 fresh-front n k (suc m) zero h = absurd (omega arith)
 fresh-front n k (suc m) (suc d) h = ap (λ l. fresh-member (member-number k) n ∷ l) (fresh-front n (suc k) m d (omega arith))
-
-zeros-one : (n : ℕ) → zeros (n ∷ []) ≡ one n
-unfolding zeros
-zeros-one n = by-test (eqb n OK) (λ t. rw t refl) (λ t. rw t refl)
 
 one-most : (n : ℕ) → one n ≤ 1
 one-most n = by-test (eqb n OK) (λ t. rw t (omega arith)) (λ t. rw t (omega arith))
@@ -127,7 +125,7 @@ list-parts {list} h =
 module _ {list : List ℕ} {L₀ : Lent} (D : Ready list L₀) where
   represents-first : Represents (sizes-of list (L₀ .memory)) (played-to list (L₀ .memory) 0)
       (fresh-office (members-of list) .tally) (fresh-office (members-of list) .members) (L₀ .memory)
-  unfolding events-in first-office office-after fresh-office proposals decisions calls after
+  unfolding events-in first-office office-after fresh-office proposals decisions calls after over-adds
   represents-first =
       record {
         shared = record { sent-count = refl; messages = D .cleared };
@@ -137,13 +135,14 @@ module _ {list : List ℕ} {L₀ : Lent} (D : Ready list L₀) where
           members = fresh-front (members-of list) 0 (members-of list) 7 (allowed-seven (members-of list) (D .members));
           proposed = refl;
           decided = refl;
+          struck = refl;
           nodes-are = D .is-fresh;
         };
       }
 
   pub running-first : AllBytes list → {h : ListHead} {k : PlayedOffice} → h ≡ head-of list → k ≡ fresh-office (h .members) →
       Running list L₀ (h .count) L₀ (k .members) (k .tally) 0 (h .begin) 0
-  unfolding events-in behind event-answers zeros
+  unfolding events-in behind event-answers
   running-first b {h} {k} eh ek =
       subst (λ (h : ListHead). Running list L₀ (h .count) L₀ (k .members) (k .tally) 0 (h .begin) 0) (sym eh)
       (subst (λ (k : PlayedOffice). Running list L₀ (count-of list) L₀ (k .members) (k .tally) 0 HEAD-BYTES 0)
@@ -269,7 +268,7 @@ module _ {list : List ℕ} {L₀ : Lent} {count : ℕ} {L : Lent} {members : Lis
               sym (ap (λ l. l ++ drop (k + 1) answered₀) along ∙ append-assoc A (n ∷ []) (drop (k + 1) answered₀) ∙
               ap (λ m. A ++ n ∷ drop m answered₀) (add-one k));
           counted =
-              ap (λ m. m + one n) (G .counted) ∙ sym (ap zeros along ∙ zeros-append A (n ∷ []) ∙ ap (λ m. zeros A + m) (zeros-one n));
+              ap (λ m. m + one n) (G .counted) ∙ sym (ap zeros along ∙ how-many-append (λ a. eqb a OK) A (n ∷ []));
           few = omega (arith, G .few, one-most n);
         }
 
@@ -318,7 +317,7 @@ module _ {list : List ℕ} {L₀ : Lent} {count : ℕ} {L : Lent} {members : Lis
 
   -- after the last event
   pub running-ended : count ≤ k →
-      Ran list L₀ (record { number = OK; accepted = accepted; messages = t .sent; proposals = t .proposals; decisions = t .decisions }) L
+      Ran list L₀ (record { number = OK; accepted = accepted; messages = t .sent; proposals = t .proposals; decisions = t .decisions; ghosts = t .ghosts }) L
   unfolding events-of
   running-ended h =
       let z = sizes-of list (L₀ .memory) in
@@ -339,4 +338,5 @@ module _ {list : List ℕ} {L₀ : Lent} {count : ℕ} {L : Lent} {members : Lis
         messages-are = R .shared .sent-count;
         proposals-made = R .slot .proposed;
         decisions-made = R .slot .decided;
+        ghosts-are = R .slot .struck;
       }

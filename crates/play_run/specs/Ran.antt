@@ -1,4 +1,4 @@
--- What the events of a list come to: the four counts, the answers, the store and the table.
+-- What the events of a list come to: the five counts, the answers, the store and the table.
 use mathlib.Core.Path.{_≡_}
 use mathlib.Core.Bool.{true, cond}
 use mathlib.Core.List.{List, [], _++_}
@@ -12,7 +12,7 @@ use Rattle.member_record.specs.Record.{allowed}
 use Rattle.model.specs.Model.{Sizes, Event, first-office, event-answers, proposals}
 use Rattle.model.specs.Demand.{ended}
 use Rattle.model.specs.Joins.{JoinOf}
-use Rattle.model.specs.Counts.{made-tree, zeros, decisions}
+use Rattle.model.specs.Counts.{made-tree, made-ghosts, zeros, decisions}
 use Rattle.play_events.specs.List.{members-of, count-of, list-fits, events-of}
 use Rattle.play_store.specs.Rows.{store-rows, store-sized, stored, row-at, fetched}
 use Rattle.play_effects.specs.Memory.{Memory}
@@ -48,6 +48,8 @@ pub record PlayedEvents (z : Sizes) (es : List Event) (L : Lent) (r : PlayAnswer
   pub messages-are : r .messages ≡ length (ended z es .sent)
   pub proposals-made : r .proposals ≡ proposals (ended z es .made)
   pub decisions-made : r .decisions ≡ decisions (ended z es .made)
+  -- the rounds that the proposals made GHOST, from the tables before and after each
+  pub ghosts-are : r .ghosts ≡ made-ghosts z (ended z es)
 
 -- a list that play takes, a cleared store and a fresh table
 pub record Ready (list : List ℕ) (L : Lent) : Type 0 where

@@ -9,6 +9,7 @@ pub struct PlayAnswer {
     pub messages: u32,
     pub proposals: u32,
     pub decisions: u32,
+    pub ghosts: u32,
 }
 
 // Works the events one after another, on a cleared store and a fresh table; the rest of the list is handed on from where each event ends.
@@ -49,5 +50,6 @@ pub fn run(list: &[u8], messages: &mut [u8], nodes: &mut [u64], answered: &mut [
         messages: tally.sent as u32,
         proposals: tally.proposals as u32,
         decisions: tally.decisions as u32,
+        ghosts: tally.ghosts,
     }
 }

@@ -10,7 +10,7 @@ commit-in-tree-requires : tie.Need-commit-in-tree-requires
 commit-in-tree-requires c κs = (c .before .before .pre .1, c .before .before .pre .2)
 
 counted-requires : tie.Need-counted-requires
-counted-requires c κs = (c .before .before .before .before .before .pre .0, omega arith, omega arith, omega arith)
+counted-requires c κs = (c .before .before .before .before .before .pre .0, omega arith, omega arith, omega arith, omega arith)
 
 same-length : tie.Need-same-length
 same-length c = search needs

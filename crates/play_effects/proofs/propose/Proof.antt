@@ -8,8 +8,10 @@ use denote.Ref.{now}
 use borrow.Author.Tests.{eq-eqb, ne-eqb}
 use Rattle.laws.specs.First.{passed}
 use Rattle.numbers.specs.Numbers.{OK}
+use Rattle.tree_theory.specs.Machine.{Call, add}
+use Rattle.tree_theory.proofs.Ghosts.{tree-few}
 use Rattle.play_effects.specs.Memory.{Memory, in-memory}
-use Rattle.play_effects.specs.Effects.{refused-event, accepted-event, proposal-number, proposal-causes}
+use Rattle.play_effects.specs.Effects.{counted, refused-event, accepted-event, proposal-number, proposal-causes}
 use Rattle.play_effects.proofs.Room.{row-free}
 use borrow.Author.Needs.{needs}
 use Rattle.play_effects.proofs.propose.Statement.{statement}
@@ -27,6 +29,10 @@ to-add c = c .before .before .before
 
 abbrev lent : tie.Start → Memory
 lent s = in-memory (now (s .args .messages)) (now (s .args .nodes))
+
+-- the call named
+abbrev named : tie.Start → Call
+named s = add (s .args .round .0) (s .args .value) (s .args .parent .0)
 
 -- the number by the place table
 abbrev number-at : tie.Start → ℕ
@@ -74,7 +80,14 @@ add-in-tree-requires c κs = let s = entry (to-put (to-add c) .before) in (s .pr
 
 counted-requires : tie.Need-counted-requires
 counted-requires c κs =
-    let s = entry (to-put (to-add (c .before .before .before)) .before) in (s .pre .0, omega arith, omega arith, omega arith)
+    let added = c .before .before in
+    let s = entry (to-put (to-add (added .before)) .before) in (
+      s .pre .0,
+      omega arith,
+      omega arith,
+      omega arith,
+      omega (arith, added .add-in-tree .ensures .ghosts-are, tree-few true (now (s .args .nodes)) (s .pre .2) (s .pre .3) (named s)),
+    )
 
 same-length-3 : tie.Need-same-length-3
 same-length-3 c = search needs
@@ -88,10 +101,11 @@ returns-2 c =
     let put = to-add (added .before) in
     let test = to-put put in
     let n : eqb (number-at (entry (test .before))) OK ≡ true = eq-eqb _ _ (free test) in
+    let a = entry (test .before) .args .tally in
     record {
-      result-is = rw n (ap accepted-event (c .counted .ensures));
+      result-is = rw n (ap accepted-event (c .counted .ensures ∙ ap (counted a 1 1 0) (added .add-in-tree .ensures .ghosts-are)));
       store-is = rw n (put .store-message .ensures);
-      table-is = rw n (added .add-in-tree .ensures .table-is);
+      table-is = rw n (added .add-in-tree .ensures .called .table-is);
     }
 
 pub propose-spec : {M : Type 1} → statement M

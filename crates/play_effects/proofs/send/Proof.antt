@@ -39,7 +39,7 @@ store-message-requires c κs =
     (row-free (s .args .tally) (now (s .args .messages)) (free (c .before)), s .pre .1)
 
 counted-requires : tie.Need-counted-requires
-counted-requires c κs = let s = entry (tested (c .before .before) .before) in (s .pre .0, omega arith, omega arith, omega arith)
+counted-requires c κs = let s = entry (tested (c .before .before) .before) in (s .pre .0, omega arith, omega arith, omega arith, omega arith)
 
 same-length-2 : tie.Need-same-length-2
 same-length-2 c = search needs
