@@ -14,7 +14,7 @@ use Rattle.exports.specs.declared.MessageResult.{MessageResult}
 
 -- a result of play as play answers it
 abbrev pub as-play-answer : PlayResult → PlayAnswer
-as-play-answer r = record { number = r .number; accepted = r .accepted; messages = r .messages; proposals = r .proposals; decisions = r .decisions }
+as-play-answer r = record { number = r .number; accepted = r .accepted; messages = r .messages; proposals = r .proposals; decisions = r .decisions; ghosts = r .ghosts }
 
 -- a message that tells no vote; a value that its kind doesn't have is 0
 abbrev pub voteless : ℕ → Round → Member → ℕ → MessageResult

@@ -12,18 +12,18 @@ ghost use mathlib.Core.Path.{_≡_};
 ghost use mathlib.Core.Bool.{true, false};
 ghost use Rattle.tree_theory.specs.Machine.{add, commit};
 ghost use Rattle.tree_theory.specs.Table.{fresh-number, fresh-table};
-ghost use Rattle.tree.specs.Promises.{CalledOnTable, PathGiven};
+ghost use Rattle.tree.specs.Promises.{CalledOnTable, CountedOnTable, PathGiven};
 ghost use Rattle.message.specs.Reading.{reading};
 ghost use Rattle.play_run.specs.Lent.{as-lent};
 ghost use Rattle.play.specs.Promise.{Given};
 ghost use Rattle.exports.specs.Results.{as-play-answer, voteless, message-result, refused-result, read-result};
 
 // The version of the C functions, one number for both archives. It goes up with each change that a caller of either sees.
-const VERSION: u32 = 3;
+const VERSION: u32 = 4;
 
 #[no_mangle]
 pub extern "C" fn kalebasin_version() -> u32
-    ensures { λ v. ⌜ v ≡ 3 ⌝ }
+    ensures { λ v. ⌜ v ≡ 4 ⌝ }
 {
     VERSION
 }
@@ -36,6 +36,7 @@ pub struct PlayResult {
     pub messages: u32,
     pub proposals: u32,
     pub decisions: u32,
+    pub ghosts: u32,
 }
 
 // Plays a list of events over an office: list, store, table and answers are lent.
@@ -56,6 +57,7 @@ pub extern "C" fn kalebasin_play(
         messages: p.messages,
         proposals: p.proposals,
         decisions: p.decisions,
+        ghosts: p.ghosts,
     }
 }
 
@@ -154,11 +156,34 @@ pub extern "C" fn kalebasin_tree_fresh(nodes: &mut [u64]) -> u32
     tree::fresh(nodes)
 }
 
-#[no_mangle]
-pub extern "C" fn kalebasin_tree_add(nodes: &mut [u64], round: u32, value: u64, parent: u32) -> u32
-    ensures { λ n. ⌜ CalledOnTable true (now (nodes .entry)) (add round value parent) n (now (nodes .exit)) ⌝ }
+// How many rounds were ADDED before an add and are GHOST after it; 0 with a refusal.
+#[repr(C)]
+pub struct AddResult {
+    pub number: u32,
+    pub ghosts: u32,
+}
+
+// add(round, value, parent) of either kind of tree.
+fn add_result(valued: bool, nodes: &mut [u64], round: u32, value: u64, parent: u32) -> AddResult
+    ensures { λ r. ⌜ CountedOnTable valued (now (nodes .entry)) (add round value parent) (r .number) (r .ghosts) (now (nodes .exit)) ⌝ }
 {
-    tree::add(nodes, Round(round), value, Round(parent))
+    let added = tree::add_on_table(valued, nodes, Round(round), value, Round(parent));
+    AddResult {
+        number: added.number,
+        ghosts: added.ghosts,
+    }
+}
+
+#[no_mangle]
+pub extern "C" fn kalebasin_tree_add(
+    nodes: &mut [u64],
+    round: u32,
+    value: u64,
+    parent: u32,
+) -> AddResult
+    ensures { λ r. ⌜ CountedOnTable true (now (nodes .entry)) (add round value parent) (r .number) (r .ghosts) (now (nodes .exit)) ⌝ }
+{
+    add_result(true, nodes, round, value, parent)
 }
 
 #[no_mangle]
@@ -174,10 +199,10 @@ pub extern "C" fn kalebasin_command_add(
     round: u32,
     value: u64,
     parent: u32,
-) -> u32
-    ensures { λ n. ⌜ CalledOnTable false (now (nodes .entry)) (add round value parent) n (now (nodes .exit)) ⌝ }
+) -> AddResult
+    ensures { λ r. ⌜ CountedOnTable false (now (nodes .entry)) (add round value parent) (r .number) (r .ghosts) (now (nodes .exit)) ⌝ }
 {
-    tree::command_add(nodes, Round(round), value, Round(parent))
+    add_result(false, nodes, round, value, parent)
 }
 
 #[no_mangle]
