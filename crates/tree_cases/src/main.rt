@@ -1,11 +1,13 @@
 // Runs the tree's calls as standard input has them: 01's cases P1 to P11, paths, tables that are none, a list that fills 256 rows, and
 // calls of command trees. f(words) is fresh on the first so many words, which then are the table; a(round,value,parent) is add, c(round) is
 // commit, p(round,words) is path into so many words; A, C and P are those of a command tree; w(word,value) writes a word of the table. All
-// that is read is written again: behind each call its number (of a path also how many rounds, and the slice), behind each line each node's
+// that is read is written again: behind each call its number (of an add also how many rounds it made GHOST, of a path how many rounds, and the
+// slice), behind each line each node's
 // round, parent, value and status.
 use ids::Round;
 use libc::STDIN_FILENO;
 use libc::STDOUT_FILENO;
+use tree::CallAnswer;
 use tree::PathAnswer;
 ghost use Prim.Native.Nat.{_+_, _*_, _≤_};
 ghost use lib.ListN.{length};
@@ -47,8 +49,14 @@ fn fresh(t: &mut [u64]) {
     number(tree::fresh(t) as u64);
 }
 
+// Writes the number of an add's answer, and how many rounds it made GHOST.
+fn add_answer(a: CallAnswer) {
+    number(a.number as u64);
+    number(a.ghosts as u64);
+}
+
 fn add(t: &mut [u64], r: u32, v: u32, p: u32) {
-    number(tree::add(t, Round(r), v as u64, Round(p)) as u64);
+    add_answer(tree::add(t, Round(r), v as u64, Round(p)));
 }
 
 fn commit(t: &mut [u64], r: u32) {
@@ -56,7 +64,7 @@ fn commit(t: &mut [u64], r: u32) {
 }
 
 fn command_add(t: &mut [u64], r: u32, v: u32, p: u32) {
-    number(tree::command_add(t, Round(r), v as u64, Round(p)) as u64);
+    add_answer(tree::command_add(t, Round(r), v as u64, Round(p)));
 }
 
 fn command_commit(t: &mut [u64], r: u32) {
