@@ -158,7 +158,9 @@ impl Model {
         tree::fresh(&mut table).map_err(Breach::Table)?;
         for at in &self.made {
             let result = match at.made {
-                Made::Proposal(made) => tree::add(TreeKind::Value, &mut table, made.round, made.value, made.parent),
+                Made::Proposal(made) => {
+                    tree::add(TreeKind::Value, &mut table, made.round, made.value, made.parent).map(|_| ())
+                }
                 Made::Decision(made) => tree::commit(TreeKind::Value, &mut table, made.round),
             };
             result.map_err(|refusal| Breach::Refused(*at, refusal))?;

@@ -11,8 +11,8 @@ const DELIVER: u32 = 2;
 
 /// How play enters proposals and decisions into a table.
 pub struct TreeSteps {
-    /// The add that a proposal names, given how many nodes there are.
-    pub add: fn(&mut [u64], usize, Proposal) -> Result<(), Refusal>,
+    /// The add that a proposal names, given how many nodes there are: the number of rounds made GHOST.
+    pub add: fn(&mut [u64], usize, Proposal) -> Result<u32, Refusal>,
     /// commit, given the round.
     pub commit: fn(&mut [u64], u64) -> Result<(), Refusal>,
 }
@@ -167,7 +167,7 @@ impl<'a> Office<'a> {
         }
         if let Some(proposal) = step.proposal {
             let nodes = self.played.proposals as usize + 1;
-            (self.steps.add)(self.table, nodes, proposal)?;
+            self.played.ghosts += (self.steps.add)(self.table, nodes, proposal)?;
             self.played.proposals += 1;
         }
         if let Some(decision) = step.decision {

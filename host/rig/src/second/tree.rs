@@ -27,8 +27,9 @@ pub fn fresh(table: &mut [u64]) -> Result<(), Refusal> {
     Ok(())
 }
 
-/// add(r, v, p). The kind says which tables are trees, and whether v is compared with p's value.
-pub fn add(kind: TreeKind, table: &mut [u64], round: Round, value: u64, parent: Round) -> Result<(), Refusal> {
+/// add(r, v, p): the number of rounds made GHOST. The kind says which tables are trees, and whether v is compared with
+/// p's value.
+pub fn add(kind: TreeKind, table: &mut [u64], round: Round, value: u64, parent: Round) -> Result<u32, Refusal> {
     check_table(kind, table)?;
     check_round(round)?;
     machine_add(kind, table, round.0.into(), value, parent.0.into())
@@ -84,7 +85,7 @@ pub fn is_tree(kind: TreeKind, table: &[u64]) -> bool {
             break;
         }
         let in_range = u32::try_from(row[ROUND]).is_ok_and(|round| Round(round).in_range());
-        if !in_range || machine_add(kind, replay, row[ROUND], row[VALUE], row[PARENT]).is_err() {
+        if !in_range || enter(kind, replay, row[ROUND], row[VALUE], row[PARENT]).is_err() {
             return false;
         }
         if row[STATUS] == COMMITTED && machine_commit(replay, row[ROUND]).is_err() {
@@ -111,11 +112,26 @@ fn check_round(round: Round) -> Result<(), Refusal> {
     }
 }
 
-/// The machine's add on a table that is a tree of the kind, with the round in range. For commands v is any value.
+/// The machine's add on a table that is a tree of the kind, with the round in range: the number of rounds made GHOST. For
+/// commands v is any value.
 ///
 /// # Panics
 /// May, where the table's length isn't one of a tree.
-pub fn machine_add(kind: TreeKind, table: &mut [u64], r: u64, v: u64, p: u64) -> Result<(), Refusal> {
+pub fn machine_add(kind: TreeKind, table: &mut [u64], r: u64, v: u64, p: u64) -> Result<u32, Refusal> {
+    let before = table.to_vec();
+    enter(kind, table, r, v, p)?;
+    Ok(made_ghost(&before, table))
+}
+
+/// The number of rounds that are ADDED before an add and GHOST after it. A node keeps its row, and that of the new one is
+/// free before.
+pub fn made_ghost(before: &[u64], after: &[u64]) -> u32 {
+    let rows = before.chunks_exact(TABLE_ROW).zip(after.chunks_exact(TABLE_ROW));
+    rows.filter(|(before, after)| before[STATUS] == ADDED && after[STATUS] == GHOST).count() as u32
+}
+
+/// What the machine's add does to the table, or why it refuses.
+fn enter(kind: TreeKind, table: &mut [u64], r: u64, v: u64, p: u64) -> Result<(), Refusal> {
     let nodes = count(table);
     if find(table, r).is_some() {
         return Err(Refusal::RoundPresent);
