@@ -48,8 +48,14 @@ pub fn play(list: &[u8], store: &mut [u8], table: &mut [u64], answers: &mut [u8]
         *answer = made.as_ref().map_or_else(|refusal| refusal.number() as u8, |_| 0);
         if let Ok(made) = made {
             played.accepted += 1;
-            played.proposals += u32::from(made == Made::Proposal);
-            played.decisions += u32::from(made == Made::Decision);
+            match made {
+                Made::Nothing => {}
+                Made::Proposal { ghosts } => {
+                    played.proposals += 1;
+                    played.ghosts += ghosts;
+                }
+                Made::Decision => played.decisions += 1,
+            }
         }
     }
     played.messages = office.store.sent;
@@ -86,10 +92,12 @@ fn first_event(list: &[u8]) -> Option<(Event<'_>, &[u8])> {
 }
 
 /// What an accepted event makes in the tree.
-#[derive(PartialEq)]
 enum Made {
     Nothing,
-    Proposal,
+    /// With the number of rounds made GHOST.
+    Proposal {
+        ghosts: u32,
+    },
     Decision,
 }
 
@@ -204,11 +212,11 @@ impl Office<'_> {
                 if self.store.is_full() {
                     return Err(Refusal::StoreFull);
                 }
-                self.tree.add(round.0.into(), x, b.0.into())?;
+                let ghosts = self.tree.add(round.0.into(), x, b.0.into())?;
                 let propose = self.store.send(PROPOSE, round, member)?;
                 put_double(propose, 12, x);
                 *record = Record { phase: Phase::Proposed, x, b, flags: 0, ..*record };
-                Ok(Made::Proposal)
+                Ok(Made::Proposal { ghosts })
             }
             PROPOSE => {
                 let value = double(words, 12);
@@ -307,12 +315,12 @@ struct Tree<'a> {
 }
 
 impl Tree<'_> {
-    /// add(r, v, p) with p < r. One walk looks for the causes of a refusal and strikes: play never meets a cause but
-    /// the missing row, so nothing struck has to be undone.
-    fn add(&mut self, r: u64, v: u64, p: u64) -> Result<(), Refusal> {
+    /// add(r, v, p) with p < r: the number of rounds made GHOST. One walk looks for the causes of a refusal, strikes and
+    /// counts: play never meets a cause but the missing row, so nothing struck has to be undone.
+    fn add(&mut self, r: u64, v: u64, p: u64) -> Result<u32, Refusal> {
         let (nodes, free) = self.words.split_at_mut_checked(self.used).ok_or(Refusal::NoFreeRow)?;
         let free: &mut [u64; TABLE_ROW] = free.first_chunk_mut().ok_or(Refusal::NoFreeRow)?;
-        let (mut present, mut parent, mut blocked, mut above) = (false, None, false, false);
+        let (mut present, mut parent, mut blocked, mut above, mut ghosts) = (false, None, false, false, 0);
         for node in nodes.chunks_exact_mut(TABLE_ROW) {
             let [round, _, value, status] = node else { break };
             if *round <= p {
@@ -323,6 +331,7 @@ impl Tree<'_> {
                 blocked |= *status == COMMITTED;
                 if *status == ADDED {
                     *status = GHOST;
+                    ghosts += 1;
                 }
             } else {
                 present |= *round == r;
@@ -341,7 +350,7 @@ impl Tree<'_> {
         }
         *free = [r, p, v, if above { GHOST } else { ADDED }];
         self.used += TABLE_ROW;
-        Ok(())
+        Ok(ghosts)
     }
 
     /// commit(r).
