@@ -352,7 +352,7 @@ fn struck_rounds_in_words() {
 /// What the second implementation does otherwise is told call by call.
 #[test]
 fn tree_calls_answered_otherwise() {
-    fn add(_: TreeKind, table: &mut [u64], round: Round, value: u64, parent: Round) -> Result<(), Refusal> {
+    fn add(_: TreeKind, table: &mut [u64], round: Round, value: u64, parent: Round) -> Result<u32, Refusal> {
         second::tree::add(TreeKind::Command, table, round, value, parent)
     }
     fn commit(kind: TreeKind, table: &mut [u64], round: Round) -> Result<(), Refusal> {
