@@ -1,9 +1,10 @@
 //! The second implementation's tree against documents 01 and 02, for both kinds of trees: cases P1 to P11, the four
-//! properties and history statuses on every short list of calls, trees as the tables that calls leave, and what the kinds
-//! have to do with one another.
+//! properties and history statuses on every short list of calls, trees as the tables that calls leave, how many rounds an
+//! add made GHOST, and what the kinds have to do with one another.
 
 use kalebasin::{nodes, number_of, Node, Round, Status, TreeKind};
-use kalebasin_rig::second::tree::{add, commit, fresh, is_tree, path};
+use kalebasin_rig::random::Random;
+use kalebasin_rig::second::tree::{add, commit, fresh, is_tree, made_ghost, path};
 use std::collections::{BTreeMap, HashSet};
 
 #[derive(Clone, Copy, Debug)]
@@ -222,6 +223,186 @@ fn accepted_lists_are_those_with_the_four_properties() {
                 assert_eq!(table, whole, "{calls:?}, {kind}");
             }
         });
+    }
+}
+
+/// How many rounds each add made GHOST, or its refusal. Each commit is to get OK.
+fn made_by_adds(kind: TreeKind, rows: usize, calls: &[Call]) -> Vec<Result<u32, u32>> {
+    let mut table = fresh_table(rows);
+    let mut answers = Vec::new();
+    for one in calls {
+        match *one {
+            Add(round, value, parent) => {
+                let answer = add(kind, &mut table, Round(round), value, Round(parent));
+                answers.push(answer.map_err(|refusal| refusal.number()));
+            }
+            Commit(round) => commit(kind, &mut table, Round(round)).unwrap(),
+        }
+    }
+    answers
+}
+
+/// Each case is the same for both kinds.
+#[test]
+fn rounds_made_ghost_by_hand() {
+    let chain = [Add(1, 5, 0), Add(2, 5, 1), Add(3, 5, 2)];
+    let after_chain = |last: Call| [&chain[..], &[last]].concat();
+    let cases: &[(&str, &[Call], &[u32])] = &[
+        ("the first", &[Add(1, 5, 0)], &[0]),
+        ("ancestors", &chain, &[0, 0, 0]),
+        ("one", &after_chain(Add(4, 5, 2)), &[0, 0, 0, 1]),
+        ("all but an ancestor", &after_chain(Add(4, 5, 1)), &[0, 0, 0, 2]),
+        ("several", &after_chain(Add(4, 6, 0)), &[0, 0, 0, 3]),
+        // Round 3 crosses rounds 1 and 2, of which 1 is GHOST.
+        ("GHOST already", &[Add(1, 5, 0), Add(2, 6, 0), Add(3, 7, 0)], &[0, 1, 1]),
+        ("all GHOST already", &[Add(1, 5, 0), Add(3, 6, 0), Add(4, 6, 3), Add(2, 5, 0)], &[0, 1, 0, 0]),
+        ("born GHOST, P6", &[Add(1, 5, 0), Add(3, 6, 0), Add(2, 5, 1)], &[0, 1, 0]),
+        ("born GHOST, one struck", &[Add(1, 5, 0), Add(3, 5, 1), Add(2, 6, 0)], &[0, 0, 1]),
+        ("born GHOST, two struck", &[Add(1, 5, 0), Add(2, 5, 1), Add(5, 5, 2), Add(4, 6, 0)], &[0, 0, 0, 2]),
+        (
+            "COMMITTED ancestors",
+            &[Add(1, 5, 0), Add(2, 5, 1), Commit(2), Commit(1), Add(3, 5, 2), Add(4, 5, 2)],
+            &[0, 0, 0, 1],
+        ),
+    ];
+    for kind in TreeKind::ALL {
+        for (name, calls, made) in cases {
+            let answers: Vec<_> = made.iter().map(|made| Ok(*made)).collect();
+            assert_eq!(made_by_adds(kind, 8, calls), answers, "{name}, {kind}");
+        }
+        // Refused adds make nothing GHOST: round 2 is left for the last one that is accepted.
+        let refused = [
+            Add(1, 5, 0),
+            Commit(1),
+            Add(2, 5, 1),
+            Add(2, 5, 1),
+            Add(1_000_001, 5, 1),
+            Add(3, 5, 9),
+            Add(3, 6, 0),
+            Add(3, 5, 1),
+            Add(4, 5, 1),
+        ];
+        let answers = [Ok(0), Ok(0), Err(4), Err(3), Err(5), Err(8), Ok(1), Err(9)];
+        assert_eq!(made_by_adds(kind, 4, &refused), answers, "{kind}");
+    }
+}
+
+/// No node has its parent's value.
+#[test]
+fn rounds_of_other_values_made_ghost() {
+    let calls = [Add(1, 5, 0), Add(2, 6, 1), Add(3, 7, 2), Add(4, 8, 3), Add(5, 9, 1), Add(7, 5, 5), Add(6, 4, 1)];
+    let answers = [Ok(0), Ok(0), Ok(0), Ok(0), Ok(3), Ok(0), Ok(1)];
+    assert_eq!(made_by_adds(TreeKind::Command, 8, &calls), answers);
+    let for_values = [Ok(0), Err(7), Err(5), Err(5), Err(7), Err(5), Err(7)];
+    assert_eq!(made_by_adds(TreeKind::Value, 8, &calls), for_values);
+}
+
+/// One round with every two statuses: from ADDED to GHOST alone is counted.
+#[test]
+fn made_ghost_by_statuses() {
+    for before in 0..=3 {
+        for after in 0..=3 {
+            let table = |status: u64| [0, 0, 0, 3, 1, 0, 5, status, 2, 0, 6, 1];
+            let expected = u32::from((before, after) == (1, 2));
+            assert_eq!(made_ghost(&table(before), &table(after)), expected, "{before} before and {after} after");
+        }
+    }
+}
+
+/// Every short list that gets OK throughout and ends in an add: which rounds that made GHOST, by the calls alone.
+#[test]
+fn rounds_made_ghost_by_history_statuses() {
+    for kind in TreeKind::ALL {
+        let mut numbers = HashSet::new();
+        each_short_run(kind, |calls, answers, _| {
+            let Some((Add(r, v, p), before)) = calls.split_last() else { return };
+            if answers.iter().any(|number| *number != 0) {
+                return;
+            }
+            let rounds = before.iter().filter_map(|one| if let Add(r, ..) = *one { Some(r) } else { None });
+            let is_made = |round: &u32| {
+                (history_status(before, *round), history_status(calls, *round)) == (Status::Added, Status::Ghost)
+            };
+            let expected = rounds.filter(is_made).count() as u32;
+            let mut table = run(kind, 6, before).1;
+            assert_eq!(add(kind, &mut table, Round(*r), *v, Round(*p)), Ok(expected), "{calls:?}, {kind}");
+            numbers.insert(expected);
+        });
+        assert_eq!(numbers, HashSet::from([0, 1, 2]), "{kind}");
+    }
+}
+
+/// A call about a node that is there, most often one of the last: an add above it or its commit.
+fn random_call(random: &mut Random, table: &[u64]) -> Call {
+    let there: Vec<Node> = nodes(table).collect();
+    let first = if random.chance(60) { there.len().saturating_sub(3) } else { 0 };
+    let node = *random.pick(&there[first..]);
+    if random.chance(5) {
+        return Commit(node.round.0);
+    }
+    let value = if random.chance(80) { node.value } else { random.below(3) as u64 };
+    Add(node.round.0 + random.between(1, 6) as u32, value, node.round.0)
+}
+
+/// What the accepted adds of random trees came to.
+#[derive(Default, Debug)]
+struct Reached {
+    struck_none: usize,
+    struck_one: usize,
+    struck_several: usize,
+    born_ghost: usize,
+    born_ghost_and_struck: usize,
+    refused: usize,
+}
+
+impl Reached {
+    fn count(&mut self, made: u32, born: bool) {
+        self.struck_none += usize::from(made == 0);
+        self.struck_one += usize::from(made == 1);
+        self.struck_several += usize::from(made > 1);
+        self.born_ghost += usize::from(born);
+        self.born_ghost_and_struck += usize::from(born && made > 0);
+    }
+}
+
+/// Random trees, refused calls too: each number by the rounds' statuses before and after, and at any time each round that
+/// is GHOST was counted once or was born GHOST.
+#[test]
+fn each_ghost_was_counted_once_or_born_so() {
+    let mut random = Random::new(1);
+    let mut reached = Reached::default();
+    for _ in 0..10_000 {
+        let kind = *random.pick(&TreeKind::ALL);
+        let rows = random.between(1, 40);
+        let mut table = fresh_table(rows);
+        let (mut counted, mut born) = (0, 0);
+        for _ in 0..2 * rows {
+            let before = table.clone();
+            match random_call(&mut random, &table) {
+                Add(r, v, p) => match add(kind, &mut table, Round(r), v, Round(p)) {
+                    Ok(made) => {
+                        let added = nodes(&before).filter(|node| node.status == Status::Added);
+                        let turned = added.filter(|node| status(&table, node.round.0) == Status::Ghost);
+                        assert_eq!(made, turned.count() as u32, "add({r},{v},{p}) on {before:?}, {kind}");
+                        let is_born = status(&table, r) == Status::Ghost;
+                        (counted, born) = (counted + made, born + u32::from(is_born));
+                        reached.count(made, is_born);
+                    }
+                    Err(_) => {
+                        assert_eq!(table, before, "add({r},{v},{p}), {kind}");
+                        reached.refused += 1;
+                    }
+                },
+                Commit(r) => _ = commit(kind, &mut table, Round(r)),
+            }
+            let ghosts = nodes(&table).filter(|node| node.status == Status::Ghost).count() as u32;
+            assert_eq!(counted + born, ghosts, "{table:?}, {kind}");
+        }
+    }
+    println!("{reached:#?}");
+    let Reached { struck_none, struck_one, struck_several, born_ghost, born_ghost_and_struck, refused } = reached;
+    for count in [struck_none, struck_one, struck_several, born_ghost, born_ghost_and_struck, refused] {
+        assert!(count > 1_000, "{count}");
     }
 }
 
