@@ -1,14 +1,15 @@
-//! The second implementation's play against document 01 and Ticket 2 of document 02: the rehearsal to the letter, the
-//! list refusals in order, a lost JOIN that is sent again, the faults seen on earlier builds, and the third demand on
-//! random lists.
+//! The second implementation's play against document 01 and Tickets 2 and 3 of document 02: the rehearsal to the letter,
+//! the list refusals in order, a lost JOIN that is sent again, how many rounds the proposals made GHOST, the faults seen
+//! on earlier builds, and the third demand on random lists.
 
 use kalebasin::notation::parse;
-use kalebasin::{nodes, number_of, sent, EventList, Message, Played, Refusal, Status};
+use kalebasin::{nodes, number_of, sent, EventList, Message, Played, Refusal, Status, TreeKind};
 use kalebasin_rig::compare::{play, Left, Lent};
 use kalebasin_rig::random::Random;
 use kalebasin_rig::search::{Run, ALWAYS};
 use kalebasin_rig::second;
 use kalebasin_rig::second::model::Made;
+use kalebasin_rig::second::tree;
 use kalebasin_rig::suite::REHEARSAL;
 use kalebasin_rig::{generate, rehearsal};
 use std::collections::HashMap;
@@ -26,9 +27,9 @@ fn answers(notation: &str) -> Vec<u8> {
     run(notation, 100, 64).answers().to_vec()
 }
 
-/// Accepted events, messages, proposals, decisions.
-fn counts(played: Played) -> [u32; 4] {
-    [played.accepted, played.messages, played.proposals, played.decisions]
+/// Accepted events, messages, proposals, decisions, rounds made GHOST.
+fn counts(played: Played) -> [u32; 5] {
+    [played.accepted, played.messages, played.proposals, played.decisions, played.ghosts]
 }
 
 #[test]
@@ -40,7 +41,7 @@ fn rehearsal_to_the_letter() {
     assert_eq!(output(&list("n=4").to_bytes()), ("27\n".into(), Err(Refusal::OfficeSize)));
     assert_eq!(output(&[0; 7]), ("26\n".into(), Err(Refusal::ListShape)));
     let left = run(REHEARSAL, 1000, 64);
-    assert_eq!(left.result.map(counts), Ok([14, 10, 2, 1]));
+    assert_eq!(left.result.map(counts), Ok([14, 10, 2, 1, 0]));
     let kinds = sent(left.store(), 10).map(|bytes| second::message::read(bytes).unwrap().kind());
     let order = ["START", "JOIN", "JOIN", "PROPOSE", "VOTE", "START", "JOIN", "JOIN", "PROPOSE", "VOTE"];
     assert_eq!(kinds.collect::<Vec<_>>(), order);
@@ -105,7 +106,7 @@ fn full_store_and_full_table() {
     let to_proposal = "n=3 s(1,1,70) d(0,0) d(0,1) d(1,1) d(2,1) d(2,1)";
     let full_store = run(to_proposal, 3, 1);
     assert_eq!(full_store.answers(), [0, 0, 0, 0, 30, 30]);
-    assert_eq!(full_store.result.map(counts), Ok([4, 3, 0, 0]));
+    assert_eq!(full_store.result.map(counts), Ok([4, 3, 0, 0, 0]));
     let full_table = run(to_proposal, 4, 1);
     assert_eq!(full_table.answers(), [0, 0, 0, 0, 9, 9]);
     assert_eq!(run(to_proposal, 4, 2).answers(), [0, 0, 0, 0, 0, 24]);
@@ -130,7 +131,7 @@ fn a_lost_join_is_sent_again() {
     let lost = "n=3 s(1,1,70) d(0,0) d(0,1) d(2,1) d(0,0) d(3,1) d(4,0) d(4,1) d(5,1) d(6,1)";
     let left = run(lost, 100, 64);
     assert_eq!(left.answers(), [0; 10]);
-    assert_eq!(left.result.map(counts), Ok([10, 7, 1, 1]));
+    assert_eq!(left.result.map(counts), Ok([10, 7, 1, 1, 0]));
     assert_eq!(words(&left, 1), [2, 1, 0, 0, 0, 0, 0]);
     assert_eq!(words(&left, 3), [2, 1, 0, 0, 0, 0, 0]);
     assert_eq!(rows(&left), [[0, 0, 0, 3], [1, 0, 70, 3]]);
@@ -147,7 +148,7 @@ fn a_lost_join_with_a_vote_is_sent_again() {
                 d(9,2) d(10,2) d(11,2)";
     let left = run(lost, 100, 64);
     assert_eq!(left.answers(), [0; 16]);
-    assert_eq!(left.result.map(counts), Ok([16, 12, 2, 1]));
+    assert_eq!(left.result.map(counts), Ok([16, 12, 2, 1, 0]));
     assert_eq!(words(&left, 6), [2, 2, 0, 1, 1, 0, 70]);
     assert_eq!(words(&left, 8), [2, 2, 0, 1, 1, 0, 70]);
     assert_eq!(rows(&left), [[0, 0, 0, 3], [1, 0, 70, 1], [2, 1, 70, 3]]);
@@ -159,10 +160,74 @@ fn repeated_starts_on_a_full_store() {
     assert_eq!(run("n=3 s(1,1,70) d(0,0) d(0,0)", 3, 1).answers(), [0, 0, 0]);
     let full = run("n=3 s(1,1,70) d(0,0) d(0,0) d(0,0)", 2, 1);
     assert_eq!(full.answers(), [0, 0, 30, 30]);
-    assert_eq!(full.result.map(counts), Ok([2, 2, 0, 0]));
+    assert_eq!(full.result.map(counts), Ok([2, 2, 0, 0, 0]));
     let voted = run("n=3 s(1,1,70) d(0,0) d(0,1) d(1,1) d(2,1) d(3,0) d(0,0) d(0,1)", 5, 2);
     assert_eq!(voted.answers(), [0, 0, 0, 0, 0, 0, 22, 30]);
     assert_eq!(run("n=3 s(1,1,70) s(2,2,80) d(1,0) d(0,0) d(1,0)", 3, 1).answers(), [0, 0, 0, 22, 30]);
+}
+
+/// Rounds 1, 2 and 3 are proposed in this order. No one votes, so each edge is from the root and crosses those before.
+const SIDE_BY_SIDE: &str = "n=3 s(1,1,70) d(0,0) d(0,1) d(1,1) d(2,1) s(2,2,80) d(4,0) d(4,2) d(5,2) d(6,2) s(0,3,90) \
+                            d(8,0) d(8,1) d(9,0) d(10,0)";
+
+/// Round 2 makes round 1 GHOST, round 3 makes round 2 so.
+#[test]
+fn rounds_made_ghost_one_after_another() {
+    let left = run(SIDE_BY_SIDE, 100, 64);
+    assert_eq!(left.answers(), [0; 15]);
+    assert_eq!(left.result.map(counts), Ok([15, 12, 3, 0, 2]));
+    assert_eq!(rows(&left), [[0, 0, 0, 3], [1, 0, 70, 2], [2, 0, 80, 2], [3, 0, 90, 1]]);
+    // Round 3's proposal finds the table or the store full, twice.
+    for (store, table, number) in [(100, 3, 9), (11, 64, 30)] {
+        let left = run(&format!("{SIDE_BY_SIDE} d(10,0)"), store, table);
+        assert_eq!(left.answers()[14..], [number; 2]);
+        assert_eq!(left.result.map(counts), Ok([14, 11, 2, 0, 1]));
+        assert_eq!(rows(&left), [[0, 0, 0, 3], [1, 0, 70, 2], [2, 0, 80, 1]]);
+    }
+}
+
+/// Member 0 votes in round 1, and round 2 hears of it. Round 3 hears of no vote and makes both GHOST.
+#[test]
+fn two_rounds_made_ghost_at_once() {
+    let left = run(
+        "n=3 s(1,1,70) d(0,0) d(0,1) d(1,1) d(2,1) d(3,0) s(2,2,80) d(5,0) d(5,2) d(6,2) d(7,2) s(0,3,90) d(9,1) \
+         d(9,2) d(10,0) d(11,0)",
+        100,
+        64,
+    );
+    assert_eq!(left.result.map(counts), Ok([16, 13, 3, 0, 2]));
+    assert_eq!(rows(&left), [[0, 0, 0, 3], [1, 0, 70, 2], [2, 1, 70, 2], [3, 0, 90, 1]]);
+}
+
+/// Round 2 is proposed after round 3 and so is GHOST from the first. It isn't counted, whether it makes another GHOST or not.
+#[test]
+fn rounds_born_ghost() {
+    let alone = run("n=3 s(2,2,80) d(0,1) d(0,2) s(0,3,90) d(3,0) d(3,1) d(4,0) d(5,0) d(1,2) d(2,2)", 100, 64);
+    assert_eq!(alone.result.map(counts), Ok([10, 8, 2, 0, 0]));
+    assert_eq!(rows(&alone), [[0, 0, 0, 3], [3, 0, 90, 1], [2, 0, 80, 2]]);
+    // Round 3 hears of member 0's vote in round 1, round 2 doesn't.
+    let with_another = run(
+        "n=3 s(1,1,70) d(0,0) d(0,1) d(1,1) d(2,1) d(3,0) s(2,2,80) d(5,1) d(5,2) s(0,3,90) d(8,0) d(8,1) d(9,0) \
+         d(10,0) d(6,2) d(7,2)",
+        100,
+        64,
+    );
+    assert_eq!(with_another.result.map(counts), Ok([16, 13, 3, 0, 1]));
+    assert_eq!(rows(&with_another), [[0, 0, 0, 3], [1, 0, 70, 2], [3, 1, 70, 1], [2, 0, 80, 2]]);
+}
+
+/// A list that is refused as a whole has no counts.
+#[test]
+fn refused_lists_have_no_counts() {
+    let bytes = list(SIDE_BY_SIDE).to_bytes();
+    let with_four = list(&SIDE_BY_SIDE.replace("n=3", "n=4")).to_bytes();
+    let result = |list: &[u8], lent: Lent| play(&second::CALLS, list, &lent).result;
+    let lent = Lent::rows(12, 4, 15);
+    assert_eq!(result(&bytes, lent).map(counts), Ok([15, 12, 3, 0, 2]));
+    assert_eq!(result(&bytes[..bytes.len() - 1], lent), Err(Refusal::ListShape));
+    assert_eq!(result(&with_four, lent), Err(Refusal::OfficeSize));
+    assert_eq!(result(&bytes, Lent { answers: 14, ..lent }), Err(Refusal::StoreOrAnswers));
+    assert_eq!(result(&bytes, Lent { table: 15, ..lent }), Err(Refusal::TableLength));
 }
 
 /// Faults seen on earlier builds, each with a list that shows it.
@@ -179,9 +244,10 @@ fn faults_seen_on_earlier_builds() {
     let committed =
         "n=3 s(1,1,70) d(0,0) d(0,1) d(1,1) d(2,1) d(3,0) d(3,1) d(4,1) d(5,1) s(2,2,80) d(6,0) d(6,2) d(7,2) \
                      d(8,2) s(0,3,90) d(10,0) d(10,1) d(11,0) d(12,0)";
-    let table = run(committed, 1000, 64).table().to_vec();
-    let statuses: Vec<Status> = nodes(&table).map(|node| node.status).collect();
+    let left = run(committed, 1000, 64);
+    let statuses: Vec<Status> = nodes(left.table()).map(|node| node.status).collect();
     assert_eq!(statuses, [Status::Committed, Status::Committed, Status::Ghost, Status::Added]);
+    assert_eq!(left.result.map(|played| played.ghosts), Ok(1));
     // The first JOIN's value taken in place of the highest voted round's: member 1 voted for 70 in round 1, member 2
     // for 80 in round 2, and round 3 hears of round 1 first.
     let highest = "n=3 s(1,1,70) d(0,0) d(0,1) d(1,1) d(2,1) d(3,1) s(2,2,80) d(5,0) d(5,2) d(6,2) d(7,2) d(8,2) \
@@ -205,6 +271,9 @@ struct Reached {
     two_decisions: usize,
     full_store: usize,
     full_table: usize,
+    made_ghost: usize,
+    made_several: usize,
+    born_ghost: usize,
 }
 
 impl Reached {
@@ -228,7 +297,36 @@ impl Reached {
         self.two_decisions += usize::from(run.model.decisions().count() > 1);
         self.full_store += usize::from(run.answers.contains(&30));
         self.full_table += usize::from(run.answers.contains(&9));
+        let [made, born] = ghosts(run);
+        self.made_ghost += usize::from(made > 0);
+        self.made_several += usize::from(made > 1);
+        self.born_ghost += usize::from(born > 0);
     }
+}
+
+/// The rounds that the model's proposals made GHOST, by the tables before and after each, and those that were GHOST from
+/// the first. Play says the first, and the two are all that are GHOST at the end.
+fn ghosts(run: &Run) -> [u32; 2] {
+    let mut table = vec![0; run.left.table().len()];
+    tree::fresh(&mut table).unwrap();
+    let (mut made, mut born) = (0, 0);
+    for at in &run.model.made {
+        match at.made {
+            Made::Proposal(proposal) => {
+                let [r, p] = [proposal.round, proposal.parent].map(|round| u64::from(round.0));
+                let before: Vec<Status> = nodes(&table).map(|node| node.status).collect();
+                tree::machine_add(TreeKind::Value, &mut table, r, proposal.value, p).unwrap();
+                let is_ghost: Vec<bool> = nodes(&table).map(|node| node.status == Status::Ghost).collect();
+                let turned = before.iter().zip(&is_ghost).filter(|(was, is)| **was == Status::Added && **is);
+                made += turned.count() as u32;
+                born += u32::from(is_ghost[before.len()]);
+            }
+            Made::Decision(decision) => tree::machine_commit(&mut table, decision.round.0.into()).unwrap(),
+        }
+    }
+    let left = nodes(run.left.table()).filter(|node| node.status == Status::Ghost).count() as u32;
+    assert_eq!((run.left.result.unwrap().ghosts, left), (made, made + born), "{}", run.case.list);
+    [made, born]
 }
 
 /// Whether a JOIN is sent again. The JOINs of one member and round are the same.
@@ -270,6 +368,9 @@ fn third_demand_on_random_lists() {
         (reached.two_decisions, 10),
         (reached.full_store, 10),
         (reached.full_table, 5),
+        (reached.made_ghost, 10),
+        (reached.made_several, 5),
+        (reached.born_ghost, 3),
     ];
     for (count, percent) in shares {
         assert!(count * 100 >= reached.lists * percent, "{percent}: {reached:#?}");
