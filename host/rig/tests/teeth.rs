@@ -157,6 +157,29 @@ const FAULTS: &[Fault] = &[
         "if is_tree(kind, table) {",
         "if is_tree(TreeKind::Value, table) {",
     ),
+    Fault(
+        "a new node that is GHOST from the first is counted",
+        "tree.rs",
+        "before[STATUS] == ADDED && after",
+        "matches!(before[STATUS], FREE | ADDED) && after",
+    ),
+    Fault(
+        "a round that is GHOST already is counted",
+        "tree.rs",
+        "before[STATUS] == ADDED && after",
+        "matches!(before[STATUS], ADDED | GHOST) && after",
+    ),
+    Fault("all GHOST rounds are counted", "tree.rs", "before[STATUS] == ADDED && after", "after"),
+    // The first add of a play has one node before it.
+    Fault(
+        "play's sum lacks its last add",
+        "play.rs",
+        "self.played.ghosts += (self.steps.add)(self.table, nodes, proposal)?;",
+        "static LAST: std::sync::atomic::AtomicU32 = std::sync::atomic::AtomicU32::new(0);
+            let made = (self.steps.add)(self.table, nodes, proposal)?;
+            let last = LAST.swap(made, std::sync::atomic::Ordering::Relaxed);
+            self.played.ghosts += if nodes > 1 { last } else { 0 };",
+    ),
 ];
 
 /// Compares the faulty copy with the number given to the program with the reference, and prints the first report.
