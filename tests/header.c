@@ -1,5 +1,5 @@
 /* Calls each function of kalebasin.h and expects what documents 01 and 02 say: its rehearsal, a message, a member, a START that comes again, a tree of
-   each kind of two rounds, and refusals; slices of no elements, also null ones, and bytes at odd addresses. */
+   each kind of two rounds, rounds made GHOST, and refusals; slices of no elements, also null ones, and bytes at odd addresses. */
 #include "kalebasin.h"
 #include <stdio.h>
 #include <string.h>
@@ -12,8 +12,9 @@
         } \
     } while (0)
 
-_Static_assert(sizeof(KalebasinPlayResult) == 20, "five words");
+_Static_assert(sizeof(KalebasinPlayResult) == 24, "six words");
 _Static_assert(sizeof(KalebasinMessageResult) == 32, "six words and a value");
+_Static_assert(sizeof(KalebasinAddResult) == 8, "two words");
 _Static_assert(sizeof(KalebasinPathResult) == 8, "two words");
 _Static_assert(sizeof(KalebasinWriteResult) == 8, "two words");
 _Static_assert(sizeof(KalebasinMemberRecord) == 48, "eight words and two values, and nothing between them");
@@ -44,10 +45,10 @@ static int play(void) {
     start(1, 1, 70), deliver(0, 0), deliver(0, 1), deliver(1, 1), deliver(1, 1), deliver(2, 1), deliver(3, 0), start(2, 2, 80);
     deliver(5, 0), deliver(5, 2), deliver(7, 2), deliver(6, 2), deliver(3, 1), deliver(4, 1), deliver(9, 1);
     KalebasinPlayResult r = kalebasin_play(list, length, store, sizeof store, table, 16, answers, sizeof answers);
-    EXPECT(r.number == 0 && r.accepted == 14 && r.messages == 10 && r.proposals == 2 && r.decisions == 1);
+    EXPECT(r.number == 0 && r.accepted == 14 && r.messages == 10 && r.proposals == 2 && r.decisions == 1 && r.ghosts == 0);
     EXPECT(!memcmp(answers, want_answers, sizeof answers) && !memcmp(table, want_table, sizeof table));
     r = kalebasin_play(list, length - 1, store, sizeof store, table, 16, answers, sizeof answers);
-    EXPECT(r.number == KALEBASIN_LIST_SHAPE && !r.accepted && !r.messages && !r.proposals && !r.decisions);
+    EXPECT(r.number == KALEBASIN_LIST_SHAPE && !r.accepted && !r.messages && !r.proposals && !r.decisions && !r.ghosts);
     return 0;
 }
 
@@ -130,11 +131,16 @@ static int start_again(void) {
     return 0;
 }
 
+/* Whether an add got this number and made so many rounds GHOST. */
+static int got(KalebasinAddResult r, uint32_t number, uint32_t ghosts) {
+    return r.number == number && r.ghosts == ghosts;
+}
+
 static int tree(void) {
     uint64_t table[16], out[4] = {99, 99, 99, 99};
     EXPECT(kalebasin_tree_fresh(table, 15) == 1 && kalebasin_tree_fresh(table, 16) == 0);
-    EXPECT(kalebasin_tree_add(table, 16, 3, 5, 0) == 0 && kalebasin_tree_add(table, 16, 7, 5, 3) == 0);
-    EXPECT(kalebasin_tree_add(table, 16, 8, 6, 7) == 7 && kalebasin_tree_add(table, 16, 8, 5, 6) == 5);
+    EXPECT(got(kalebasin_tree_add(table, 16, 3, 5, 0), 0, 0) && got(kalebasin_tree_add(table, 16, 7, 5, 3), 0, 0));
+    EXPECT(got(kalebasin_tree_add(table, 16, 8, 6, 7), 7, 0) && got(kalebasin_tree_add(table, 16, 8, 5, 6), 5, 0));
     EXPECT(kalebasin_tree_commit(table, 16, 7) == 0 && kalebasin_tree_commit(table, 16, 7) == 11);
     KalebasinPathResult r = kalebasin_tree_path(table, 16, 7, out, 4);
     EXPECT(r.number == 0 && r.count == 3 && out[0] == 0 && out[1] == 3 && out[2] == 7 && out[3] == 99);
@@ -146,11 +152,11 @@ static int tree(void) {
 /* A tree of commands takes values that a tree of values refuses, and a tree of values as it is. */
 static int commands(void) {
     uint64_t table[16], out[4] = {99, 99, 99, 99};
-    EXPECT(kalebasin_tree_fresh(table, 16) == 0 && kalebasin_tree_add(table, 16, 3, 5, 0) == 0);
-    EXPECT(kalebasin_command_add(table, 15, 7, 6, 3) == 1 && kalebasin_command_add(table, 16, 0, 6, 3) == 3);
-    EXPECT(kalebasin_command_add(table, 16, 7, 6, 4) == 5 && kalebasin_command_add(table, 16, 7, 6, 3) == 0);
+    EXPECT(kalebasin_tree_fresh(table, 16) == 0 && got(kalebasin_tree_add(table, 16, 3, 5, 0), 0, 0));
+    EXPECT(got(kalebasin_command_add(table, 15, 7, 6, 3), 1, 0) && got(kalebasin_command_add(table, 16, 0, 6, 3), 3, 0));
+    EXPECT(got(kalebasin_command_add(table, 16, 7, 6, 4), 5, 0) && got(kalebasin_command_add(table, 16, 7, 6, 3), 0, 0));
     EXPECT(kalebasin_command_commit(table, 16, 7) == 0 && kalebasin_command_commit(table, 16, 7) == 11);
-    EXPECT(kalebasin_command_add(table, 16, 8, 6, 3) == 8 && kalebasin_tree_add(table, 16, 8, 6, 7) == 2);
+    EXPECT(got(kalebasin_command_add(table, 16, 8, 6, 3), 8, 0) && got(kalebasin_tree_add(table, 16, 8, 6, 7), 2, 0));
     EXPECT(kalebasin_tree_commit(table, 16, 7) == 2 && kalebasin_tree_path(table, 16, 7, out, 4).number == 2);
     KalebasinPathResult r = kalebasin_command_path(table, 16, 7, out, 4);
     EXPECT(r.number == 0 && r.count == 3 && out[0] == 0 && out[1] == 3 && out[2] == 7 && out[3] == 99);
@@ -158,6 +164,41 @@ static int commands(void) {
     EXPECT(r.number == 13 && r.count == 0);
     table[15] = 1;
     EXPECT(kalebasin_command_path(table, 16, 7, out, 4).number == 2);
+    return 0;
+}
+
+/* Rounds 1 and 2 are made GHOST by round 5. Rounds 4 and 6 are GHOST from the first and aren't counted; round 6 makes one round GHOST, 5. A copy of the
+   table tells which. */
+static int ghosts(KalebasinAddResult (*add)(uint64_t *, size_t, uint32_t, uint64_t, uint32_t)) {
+    uint64_t table[28], before[28];
+    EXPECT(kalebasin_tree_fresh(table, 28) == 0);
+    EXPECT(got(add(table, 28, 1, 5, 0), 0, 0) && got(add(table, 28, 2, 5, 1), 0, 0));
+    memcpy(before, table, sizeof table);
+    EXPECT(got(add(table, 28, 5, 6, 0), 0, 2));
+    for (size_t at = 3; at < 28; at += 4) {
+        EXPECT((before[at] == KALEBASIN_ADDED && table[at] == KALEBASIN_GHOST) == (table[at - 3] == 1 || table[at - 3] == 2));
+    }
+    EXPECT(got(add(table, 28, 4, 5, 2), 0, 0) && table[16] == 4 && table[19] == KALEBASIN_GHOST);
+    EXPECT(got(add(table, 28, 7, 6, 5), 0, 0) && table[12] == 5 && table[15] == KALEBASIN_ADDED);
+    EXPECT(got(add(table, 28, 6, 8, 0), 0, 1) && table[15] == KALEBASIN_GHOST && table[27] == KALEBASIN_GHOST);
+    EXPECT(got(add(table, 28, 8, 6, 7), KALEBASIN_NO_FREE_ROW, 0));
+    return 0;
+}
+
+/* Of three GHOST nodes round 4 made two so; round 3, proposed behind it, was GHOST from the first. */
+static int play_ghosts(void) {
+    static const uint64_t want_table[20] = {0, 0, 0, 3, 1, 0, 70, 2, 2, 1, 70, 2, 4, 0, 60, 1, 3, 0, 90, 2};
+    uint8_t store[28 * 17], answers[21];
+    uint64_t table[20];
+    length = 0;
+    word(3), word(21);
+    start(1, 1, 70), deliver(0, 0), deliver(0, 1), deliver(1, 1), deliver(2, 1), deliver(3, 0);
+    start(2, 2, 80), deliver(5, 0), deliver(5, 2), deliver(6, 2), deliver(7, 2);
+    start(0, 3, 90), deliver(9, 1), deliver(9, 2), deliver(10, 0);
+    start(1, 4, 60), deliver(12, 1), deliver(12, 2), deliver(13, 1), deliver(14, 1), deliver(11, 0);
+    KalebasinPlayResult r = kalebasin_play(list, length, store, sizeof store, table, 20, answers, sizeof answers);
+    EXPECT(r.number == 0 && r.accepted == 21 && r.messages == 17 && r.proposals == 4 && r.decisions == 0 && r.ghosts == 2);
+    EXPECT(!memcmp(table, want_table, sizeof table));
     return 0;
 }
 
@@ -182,11 +223,11 @@ static int nothing(uint64_t *nowhere) {
     EXPECT(kalebasin_member_deliver(record, one_event, 20, none, 0).number == KALEBASIN_REPLY_TOO_SHORT);
     EXPECT(kalebasin_member_deliver(record, none, 0, reply, 28).number == KALEBASIN_MESSAGE_LENGTH);
     EXPECT(kalebasin_tree_fresh(nowhere, 0) == KALEBASIN_TABLE_LENGTH);
-    EXPECT(kalebasin_tree_add(nowhere, 0, 1, 5, 0) == KALEBASIN_TABLE_LENGTH);
+    EXPECT(got(kalebasin_tree_add(nowhere, 0, 1, 5, 0), KALEBASIN_TABLE_LENGTH, 0));
     EXPECT(kalebasin_tree_commit(nowhere, 0, 1) == KALEBASIN_TABLE_LENGTH);
     EXPECT(kalebasin_tree_path(nowhere, 0, 0, out, 1).number == KALEBASIN_TABLE_LENGTH);
     EXPECT(kalebasin_tree_path(table, 4, 0, nowhere, 0).number == KALEBASIN_PATH_TOO_LONG);
-    EXPECT(kalebasin_command_add(nowhere, 0, 1, 5, 0) == KALEBASIN_TABLE_LENGTH);
+    EXPECT(got(kalebasin_command_add(nowhere, 0, 1, 5, 0), KALEBASIN_TABLE_LENGTH, 0));
     EXPECT(kalebasin_command_commit(nowhere, 0, 1) == KALEBASIN_TABLE_LENGTH);
     EXPECT(kalebasin_command_path(nowhere, 0, 0, out, 1).number == KALEBASIN_TABLE_LENGTH);
     EXPECT(kalebasin_command_path(table, 4, 0, nowhere, 0).number == KALEBASIN_PATH_TOO_LONG);
@@ -200,7 +241,7 @@ static int odd_addresses(void) {
     static const uint8_t vote[12] = {0, 0, 0, 4, 0, 0, 0, 9, 0, 0, 0, 2};
     memcpy(odd_list + 1, list, length), memcpy(odd_message + 1, vote, 12);
     KalebasinPlayResult r = kalebasin_play(odd_list + 1, length, odd_store + 1, 28 * 20, table, 16, odd_answers + 1, 15);
-    EXPECT(r.number == 0 && r.accepted == 14 && r.messages == 10 && r.proposals == 2 && r.decisions == 1);
+    EXPECT(r.number == 0 && r.accepted == 14 && r.messages == 10 && r.proposals == 2 && r.decisions == 1 && r.ghosts == 0);
     KalebasinMessageResult m = kalebasin_read_message(odd_message + 1, 12);
     EXPECT(m.number == 0 && m.kind == KALEBASIN_VOTE && m.round == 9 && m.sender == 2);
     return 0;
@@ -220,6 +261,6 @@ static int causes(void) {
 int main(void) {
     EXPECT(kalebasin_version() == KALEBASIN_VERSION);
     EXPECT(kalebasin_member_version() == KALEBASIN_VERSION);
-    return play() || read_message() || write_message() || member() || start_again() || tree() || commands() || nothing(NULL) ||
-           nothing((uint64_t *)8) || odd_addresses() || causes();
+    return play() || read_message() || write_message() || member() || start_again() || tree() || commands() || ghosts(kalebasin_tree_add) ||
+           ghosts(kalebasin_command_add) || nothing(NULL) || nothing((uint64_t *)8) || odd_addresses() || play_ghosts() || causes();
 }

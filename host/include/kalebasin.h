@@ -101,7 +101,7 @@ static inline const char *kalebasin_cause(uint32_t number) {
 
 /* The version of the functions that this header declares, and that which each archive has. A program that starts asks that they
  * be equal: the version goes up with each change that a caller sees. */
-enum { KALEBASIN_VERSION = 3 };
+enum { KALEBASIN_VERSION = 4 };
 uint32_t kalebasin_version(void);
 uint32_t kalebasin_member_version(void);
 
@@ -120,6 +120,7 @@ typedef struct {
     uint32_t messages;  /* rows of the store that hold a message */
     uint32_t proposals; /* nodes beside the root */
     uint32_t decisions; /* COMMITTED nodes beside the root */
+    uint32_t ghosts;    /* rounds made GHOST: the sum over the adds of its proposals */
 } KalebasinPlayResult;
 
 /* Runs a list of events over a whole office. 26, 27, 28, 1.
@@ -205,8 +206,14 @@ uint32_t kalebasin_tree_fresh(uint64_t *table, size_t len);
 /* The next three are the calls of a tree of values, as play leaves one: a node has its parent's value, unless that is the root. A
  * table is such a tree if they can leave it, from a fresh one; else it gets 2. */
 
-/* Adds a round. 1 to 9 in that order. */
-uint32_t kalebasin_tree_add(uint64_t *table, size_t len, uint32_t round, uint64_t value, uint32_t parent);
+typedef struct {
+    uint32_t number;
+    uint32_t ghosts; /* rounds made GHOST: ADDED before the call and GHOST after it; the new one isn't counted */
+} KalebasinAddResult;
+
+/* Adds a round. 1 to 9 in that order. Which rounds it made GHOST, a copy of the table from before the call tells: rows keep their
+ * places, and those rounds are in the rows whose status is KALEBASIN_ADDED there and KALEBASIN_GHOST here. */
+KalebasinAddResult kalebasin_tree_add(uint64_t *table, size_t len, uint32_t round, uint64_t value, uint32_t parent);
 
 /* Commits a round. 1, 2, 3, 10, 11, 12. */
 uint32_t kalebasin_tree_commit(uint64_t *table, size_t len, uint32_t round);
@@ -225,7 +232,7 @@ KalebasinPathResult kalebasin_tree_path(const uint64_t *table, size_t len, uint3
  * table is such a tree if they can leave it, from a fresh one; else it gets 2. Every tree of values is a tree of commands. */
 
 /* Adds a round. 1 to 6, 8, 9 in that order. */
-uint32_t kalebasin_command_add(uint64_t *table, size_t len, uint32_t round, uint64_t value, uint32_t parent);
+KalebasinAddResult kalebasin_command_add(uint64_t *table, size_t len, uint32_t round, uint64_t value, uint32_t parent);
 
 /* Commits a round. 1, 2, 3, 10, 11, 12. */
 uint32_t kalebasin_command_commit(uint64_t *table, size_t len, uint32_t round);
