@@ -19,7 +19,8 @@
 //!
 //! A [`ValueTree`] takes the calls that play makes of proposals and decisions. A [`CommandTree`] is for commands that each follow
 //! a named earlier one: the same tree, in which a node has any value. Each is a type of its own, so that neither is handed to
-//! the other's calls.
+//! the other's calls. An add returns how many rounds it made GHOST; with a copy of the table from before it, [`made_ghost`] tells
+//! which.
 //!
 //! The functions of the core need the feature `core` (on by default) and its two archives; without the
 //! feature the rest of this crate is still there.
@@ -55,7 +56,7 @@ pub use event::{Event, EventList};
 pub use ids::{Member, MessageNumber, Round};
 pub use member::{Made, MemberFields, Report};
 pub use message::{Message, Vote};
-pub use node::{nodes, Node, Status};
+pub use node::{made_ghost, nodes, Node, Status};
 pub use played::{Played, STORE_ROW, STORE_ROWS, TABLE_ROW, TABLE_ROWS};
 #[cfg(feature = "core")]
 pub use proved::{play, read_message, MemberRecord};

@@ -61,3 +61,20 @@ pub fn nodes(table: &[u64]) -> impl Iterator<Item = Node> + '_ {
         })
     })
 }
+
+/// The rounds that are ADDED in a table and GHOST in what calls made of it, in order of adding. Of a copy from before an add, and the
+/// table after it, these are the rounds that the add made GHOST, as many as it answers.
+///
+/// Adds and commits leave each node in its row, so rows are compared with rows.
+///
+/// ```
+/// use kalebasin::{made_ghost, Round};
+///
+/// let before = [0, 0, 0, 3, 1, 0, 70, 1, 0, 0, 0, 0];
+/// let after = [0, 0, 0, 3, 1, 0, 70, 2, 2, 0, 80, 1];
+/// assert_eq!(made_ghost(&before, &after).collect::<Vec<_>>(), [Round(1)]);
+/// ```
+pub fn made_ghost<'a>(before: &'a [u64], after: &'a [u64]) -> impl Iterator<Item = Round> + 'a {
+    let rows = nodes(before).zip(nodes(after));
+    rows.filter(|(was, is)| was.status == Status::Added && is.status == Status::Ghost).map(|(was, _)| was.round)
+}

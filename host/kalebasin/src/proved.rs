@@ -41,7 +41,7 @@ pub(crate) fn compare_versions() {
 /// list.start(Member(1), Round(1), 70).start(Member(0), Round(1), 80);
 /// let (mut store, mut table, mut answers) = ([0; 28 * 10], [0; 4 * 8], [0; 2]);
 /// let played = play(&list.to_bytes(), &mut store, &mut table, &mut answers)?;
-/// assert_eq!((played.accepted, played.messages), (1, 1));
+/// assert_eq!((played.accepted, played.messages, played.ghosts), (1, 1, 0));
 /// assert_eq!(answers, [0, 19]);
 /// # Ok::<(), Refusal>(())
 /// ```

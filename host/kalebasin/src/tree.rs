@@ -13,7 +13,7 @@
 //! let mut words = [0; 16];
 //! let mut edits = CommandTree::fresh(&mut words)?;
 //! edits.add(Round(1), 70, Round::ROOT)?;
-//! edits.add(Round(2), 80, Round(1))?;
+//! assert_eq!(edits.add(Round(2), 80, Round(1)), Ok(0)); // it makes no round GHOST
 //! let mut path = [0; 4];
 //! assert_eq!(edits.path(Round(2), &mut path), Ok(3));
 //! assert_eq!(path[..3], [0, 1, 2]);
@@ -154,7 +154,24 @@ impl<K: Kind, T: AsMut<[u64]>> Tree<K, T> {
     }
 
     /// Adds a round with its value below its parent, and returns how many rounds that makes GHOST: those that were ADDED before and are
-    /// GHOST after. The new round isn't among them, though it may be GHOST itself.
+    /// GHOST after. The new round isn't among them, though it may be GHOST itself. Which rounds they are, [`made_ghost`](crate::made_ghost)
+    /// tells of a copy of the table from before.
+    ///
+    /// ```
+    /// use kalebasin::{made_ghost, Refusal, Round, Status, ValueTree};
+    ///
+    /// let mut tree = ValueTree::fresh(vec![0; 20])?;
+    /// assert_eq!(tree.add(Round(1), 70, Round::ROOT), Ok(0));
+    /// assert_eq!(tree.add(Round(2), 70, Round(1)), Ok(0));
+    /// let before = tree.clone();
+    /// assert_eq!(tree.add(Round(4), 80, Round::ROOT), Ok(2)); // its edge crosses rounds 1 and 2
+    /// let rounds: Vec<Round> = made_ghost(before.table(), tree.table()).collect();
+    /// assert_eq!(rounds, [Round(1), Round(2)]);
+    ///
+    /// assert_eq!(tree.add(Round(3), 70, Round(2)), Ok(0));
+    /// assert_eq!(tree.nodes().last().map(|node| node.status), Some(Status::Ghost)); // from the first: round 4 was there
+    /// # Ok::<(), Refusal>(())
+    /// ```
     ///
     /// # Errors
     /// 1 to 9, checked in that order; a command tree's has no 7.

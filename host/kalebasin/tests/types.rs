@@ -1,6 +1,7 @@
 //! The types that a host sees: lists from notation and from events, refusals from numbers, and numbers of every size.
 
-use kalebasin::{nodes, notation, sent, Event, EventList, Member, Message, MessageNumber, NoRefusal, Refusal, Round};
+use kalebasin::{made_ghost, nodes, notation, sent};
+use kalebasin::{Event, EventList, Member, Message, MessageNumber, NoRefusal, Refusal, Round};
 use kalebasin::{Status, TreeCall, TreeCallList, TreeKind, Vote};
 use std::collections::HashSet;
 
@@ -111,6 +112,8 @@ fn numbers_of_every_size() {
         assert_eq!(Status::from_word(word).is_some(), (1..=3).contains(&word));
         for length in 0..=13 {
             assert!(nodes(&vec![word; length]).count() <= length / 4);
+            let ghosts = made_ghost(&vec![1; length], &[word; 13]).count();
+            assert_eq!(ghosts, if word == 2 { length / 4 } else { 0 });
         }
     }
 }
@@ -179,6 +182,52 @@ fn trees_in_words_lent_and_owned() {
     assert_eq!(ValueTree::fresh(&mut words[..7]).err(), Some(Refusal::TableLength));
     assert_eq!(words, GROWN);
     assert_eq!(CommandTree::from(ValueTree::from_table(words)), CommandTree::from_table(words));
+}
+
+/// An add answers how many rounds were ADDED before it and are GHOST after it; a copy of the table tells which. Those that were GHOST
+/// before aren't counted, nor is the new one, which rounds 4 and 6 here are from the first.
+#[cfg(feature = "core")]
+#[test]
+fn rounds_made_ghost() {
+    use kalebasin::tree::{Command, Kind, Tree, Value};
+    fn grow<K: Kind + Clone>() {
+        let mut tree = Tree::<K, _>::fresh(vec![9; 32]).unwrap();
+        for (round, value, parent, ghosts) in [
+            (1, 5, 0, &[][..]),
+            (2, 5, 1, &[]),
+            (5, 6, 0, &[1, 2]),
+            (4, 5, 2, &[]),
+            (7, 6, 5, &[]),
+            (6, 8, 0, &[5]),
+            (8, 9, 0, &[7]),
+        ] {
+            let before = tree.clone();
+            assert_eq!(tree.add(Round(round), value, Round(parent)), Ok(ghosts.len() as u32));
+            assert!(made_ghost(before.table(), tree.table()).eq(ghosts.iter().copied().map(Round)), "{round}");
+        }
+        let ghosts: Vec<Round> =
+            tree.nodes().filter(|node| node.status == Status::Ghost).map(|node| node.round).collect();
+        assert_eq!(ghosts, [1, 2, 5, 4, 7, 6].map(Round));
+        let before = tree.clone();
+        assert_eq!(tree.add(Round(9), 9, Round(8)), Err(Refusal::NoFreeRow));
+        assert_eq!(made_ghost(before.table(), tree.table()).next(), None);
+    }
+    grow::<Value>();
+    grow::<Command>();
+}
+
+/// Play adds up what its adds answer: rounds 1 and 2 are made GHOST by round 4; round 3, proposed behind it, is GHOST from the first.
+#[cfg(feature = "core")]
+#[test]
+fn rounds_made_ghost_in_play() {
+    let text = "s(1,1,70) d(0,0) d(0,1) d(1,1) d(2,1) d(3,0) s(2,2,80) d(5,0) d(5,2) d(6,2) d(7,2) s(0,3,90) d(9,1) \
+                d(9,2) d(10,0) s(1,4,60) d(12,1) d(12,2) d(13,1) d(14,1) d(11,0)";
+    let list: EventList = text.parse().unwrap();
+    let (mut store, mut table, mut answers) = ([0; 28 * 17], [0; 20], [0; 21]);
+    let played = kalebasin::play(&list.to_bytes(), &mut store, &mut table, &mut answers).unwrap();
+    assert_eq!([played.accepted, played.proposals, played.decisions, played.ghosts], [21, 4, 0, 2]);
+    let nodes: Vec<(u32, Status)> = nodes(&table).skip(1).map(|node| (node.round.0, node.status)).collect();
+    assert_eq!(nodes, [(1, Status::Ghost), (2, Status::Ghost), (4, Status::Added), (3, Status::Ghost)]);
 }
 
 /// Each kind's calls take the tables that calls of that kind can leave: a value tree's those that a command tree's take, and not
