@@ -10,7 +10,7 @@ cd "$(dirname "$0")/.." || exit 2
 vault() {
     mkdir -p "$work/vault/src" && cp host/kalebasin/examples/office.rs "$work/vault/src/main.rs" &&
         printf '%s\n' '[package]' 'name = "vault"' 'edition = "2021"' '[dependencies]' "kalebasin.path = \"$PWD/host/kalebasin\"" >"$work/vault/Cargo.toml" &&
-        (cd "$work/vault" && cargo run --offline --quiet | tee "$work/told") && [ "$(tail -n 1 "$work/told")" = "2 proposals, 0 decisions" ]
+        (cd "$work/vault" && cargo run --offline --quiet | tee "$work/told") && [ "$(tail -n 1 "$work/told")" = "3 proposals, 0 decisions, 2 rounds made GHOST" ]
 }
 
 # An archive of another version, which the function of this name tells, ends a program at its first call.

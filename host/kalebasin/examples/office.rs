@@ -1,9 +1,9 @@
-//! A program to start a host from: an office of three, in which member 2 takes over from member 1.
+//! A program to start a host from: an office of three, in which member 2 takes over from member 1, and member 0 from both.
 //!
 //! Run it with `cargo run --release --example office`.
 
-use kalebasin::{nodes, play, read_message, sent};
-use kalebasin::{EventList, Member, MessageNumber, Refusal, Round, STORE_ROW, TABLE_ROW};
+use kalebasin::{made_ghost, nodes, play, read_message, sent};
+use kalebasin::{EventList, Member, MessageNumber, Refusal, Round, ValueTree, STORE_ROW, TABLE_ROW};
 use std::error::Error;
 use std::io::{self, Write};
 use std::process::ExitCode;
@@ -32,7 +32,12 @@ fn office(out: &mut dyn Write) -> Result<(), Box<dyn Error>> {
         .deliver(MessageNumber(5), Member(0)) // START of round 2 to 0, whose JOIN tells its vote
         .deliver(MessageNumber(5), Member(2))
         .deliver(MessageNumber(6), Member(2))
-        .deliver(MessageNumber(7), Member(2)); // round 2 proposes 70, not 80
+        .deliver(MessageNumber(7), Member(2)) // round 2 proposes 70, not 80
+        .start(Member(0), Round(3), 90)
+        .deliver(MessageNumber(9), Member(1)) // START of round 3 to 1 and 2, which never voted
+        .deliver(MessageNumber(9), Member(2))
+        .deliver(MessageNumber(10), Member(0))
+        .deliver(MessageNumber(11), Member(0)); // round 3 proposes 90: rounds 1 and 2 can't be decided any more
 
     // The memory that play works in. What it holds before doesn't matter.
     let mut store = [0; 100 * STORE_ROW];
@@ -57,6 +62,20 @@ fn office(out: &mut dyn Write) -> Result<(), Box<dyn Error>> {
     for node in nodes(&table) {
         writeln!(out, "  round {}, parent {}, value {}, {}", node.round, node.parent, node.value, node.status)?;
     }
-    writeln!(out, "{} proposals, {} decisions", played.proposals, played.decisions)?;
+
+    // The proposals once more, on a tree of our own: each add says how many rounds it makes GHOST, a copy from before it which.
+    writeln!(out, "Made GHOST")?;
+    let mut tree = ValueTree::fresh(vec![0; table.len()])?;
+    for node in nodes(&table).skip(1) {
+        let before = tree.clone();
+        let ghosts = tree.add(node.round, node.value, node.parent)?;
+        if ghosts > 0 {
+            let rounds: Vec<String> = made_ghost(before.table(), tree.table()).map(|round| round.to_string()).collect();
+            writeln!(out, "  {ghosts} by round {}: {}", node.round, rounds.join(", "))?;
+        }
+    }
+
+    let [proposals, decisions, ghosts] = [played.proposals, played.decisions, played.ghosts];
+    writeln!(out, "{proposals} proposals, {decisions} decisions, {ghosts} rounds made GHOST")?;
     Ok(())
 }
