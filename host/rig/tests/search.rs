@@ -1,7 +1,7 @@
 //! The lists that a search goes through, and what it finds on how many threads; shrinking, and where bytes go wrong.
 
 use kalebasin::notation::parse;
-use kalebasin::{Event, EventList, Played, Refusal, Round, STORE_ROW};
+use kalebasin::{nodes, Event, EventList, Played, Refusal, Round, Status, STORE_ROW};
 use kalebasin_rig::generate::Case;
 use kalebasin_rig::search::{clean_case, few_events, Property, Run, Search, Source, ALWAYS, SOMETIMES};
 use kalebasin_rig::shape::misshape;
@@ -94,6 +94,23 @@ fn joins_that_differ() {
     let told = "messages 1 and 2 are JOINs of one member for one round, and differ";
     assert_eq!(how(&faulty, LOST_JOIN).as_deref(), Some(told));
     assert_eq!([how(&faulty, REHEARSAL), how(&second::CALLS, LOST_JOIN)], [None, None]);
+}
+
+/// A sum of rounds made GHOST that isn't that of the tables before and after each add is told.
+#[test]
+fn ghosts_that_are_miscounted() {
+    fn all_ghosts(list: &[u8], store: &mut [u8], table: &mut [u64], answers: &mut [u8]) -> Result<Played, Refusal> {
+        let mut played = (second::CALLS.play)(list, store, table, answers)?;
+        played.ghosts = nodes(table).filter(|node| node.status == Status::Ghost).count() as u32;
+        Ok(played)
+    }
+    let faulty = Calls { play: all_ghosts, ..second::CALLS };
+    let how = |calls, list| (property("counts").fails)(calls, &Run::new(calls, &case(list)).unwrap());
+    // Round 2 is proposed, then round 1, which is GHOST from the first.
+    let from_the_first = "s(1,1,70) d(0,0) d(0,1) d(1,1) s(2,2,80) d(3,0) d(3,2) d(4,2) d(5,2) d(2,1)";
+    let told = "[10, 8, 2, 0, 0] are held and [10, 8, 2, 0, 1] are said";
+    assert_eq!(how(&faulty, from_the_first).as_deref(), Some(told));
+    assert_eq!([how(&faulty, REHEARSAL), how(&second::CALLS, from_the_first)], [None, None]);
 }
 
 /// The shortest list in which a JOIN is sent again: a start, and its START twice to one member.
