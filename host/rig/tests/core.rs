@@ -192,13 +192,13 @@ fn refused_members_field_by_field() {
     assert_eq!(reply, [0xaa; 28]);
 }
 
-/// A refused play or path has 0 in every other field.
+/// A refused play, add or path has 0 in every other field.
 #[test]
 fn refused_results_field_by_field() {
     let (mut store, mut table, mut answers, mut out) = ([0u8; 28], [0u64; 8], [0u8; 4], [0u64; 4]);
     let list = notation::parse("n=4 s(1,1,70)", None).unwrap().to_bytes();
     // SAFETY: each pointer and length come from one slice.
-    let (played, paths) = unsafe {
+    let (played, adds, paths) = unsafe {
         let played = ffi::kalebasin_play(
             list.as_ptr(),
             list.len(),
@@ -209,15 +209,18 @@ fn refused_results_field_by_field() {
             answers.as_mut_ptr(),
             answers.len(),
         );
-        let (words, length, rounds, room) = (table.as_ptr(), table.len(), out.as_mut_ptr(), out.len());
+        let (words, length, rounds, room) = (table.as_mut_ptr(), table.len(), out.as_mut_ptr(), out.len());
+        let adds =
+            [ffi::kalebasin_tree_add(words, length, 1, 70, 0), ffi::kalebasin_command_add(words, length, 1, 70, 0)];
         let paths = [
             ffi::kalebasin_tree_path(words, length, 0, rounds, room),
             ffi::kalebasin_command_path(words, length, 0, rounds, room),
         ];
-        (played, paths)
+        (played, adds, paths)
     };
-    let counts = [played.accepted, played.messages, played.proposals, played.decisions];
-    assert_eq!((played.number, counts), (27, [0; 4]));
+    let counts = [played.accepted, played.messages, played.proposals, played.decisions, played.ghosts];
+    assert_eq!((played.number, counts), (27, [0; 5]));
+    assert_eq!(adds, [ffi::AddResult { number: 2, ghosts: 0 }; 2]);
     assert_eq!(paths, [ffi::PathResult { number: 2, count: 0 }; 2]);
 }
 
