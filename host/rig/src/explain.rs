@@ -1,8 +1,9 @@
 //! A run in words, event by event: who, which message, which answer and why.
 
-use crate::second::member::{quorum, Record, Step, COLLECTING, DECIDED, IDLE, PROPOSED};
+use crate::explain_tree::ghosts_in_words;
+use crate::second::member::{quorum, Proposal, Record, Step, COLLECTING, DECIDED, IDLE, PROPOSED};
 use crate::second::model::Model;
-use kalebasin::{Event, EventList, Member, Message, MessageNumber, Refusal};
+use kalebasin::{Event, EventList, Member, Message, MessageNumber, Refusal, Round};
 
 /// An event, or a call of a tree, in words.
 #[derive(Clone, Debug, PartialEq, Eq, Hash)]
@@ -75,7 +76,10 @@ fn accepted(before: &Model, after: &Model, event: &Event, step: &Step) -> String
                     let again = if was.v == *round { " again" } else { "" };
                     format!("member {member} votes{again} for {value} in round {round} and sends {sent}")
                 }
-                Message::Join { sender, .. } => counted_join(*sender, was, is, step, &sent),
+                Message::Join { sender, .. } => {
+                    let ghosts = step.proposal.map(|proposal| made_ghost(before, proposal)).unwrap_or_default();
+                    counted_join(*sender, was, is, step, &sent) + &ghosts_in_words(ghosts)
+                }
                 Message::Vote { sender, .. } => counted_vote(*sender, is, step),
             }
         }
@@ -107,6 +111,14 @@ fn counted_join(sender: Member, was: &Record, is: &Record, step: &Step, sent: &s
         );
     }
     words
+}
+
+/// The rounds that a proposal makes GHOST: those that its edge crosses, and none before it. No edge crosses a decided one, by the
+/// third demand.
+fn made_ghost(before: &Model, proposal: Proposal) -> Vec<Round> {
+    let crosses = |edge: Proposal, round: Round| edge.parent < round && round < edge.round;
+    let crossed = before.proposals().map(|made| made.round).filter(|round| crosses(proposal, *round));
+    crossed.filter(|round| !before.proposals().any(|edge| crosses(edge, *round))).collect()
 }
 
 fn counted_vote(sender: Member, is: &Record, step: &Step) -> String {

@@ -2,7 +2,7 @@
 
 use crate::explain::Explained;
 use crate::{second, Calls};
-use kalebasin::{nodes, number_of, Node, Refusal, Round, Status, TreeCall, TreeCallList, TreeKind};
+use kalebasin::{made_ghost, nodes, number_of, Node, Refusal, Round, Status, TreeCall, TreeCallList, TreeKind};
 use kalebasin::{TABLE_ROW, TABLE_ROWS};
 
 /// A call that an implementation made, beside the second implementation's.
@@ -10,6 +10,8 @@ use kalebasin::{TABLE_ROW, TABLE_ROWS};
 pub struct Called {
     /// The answer given: 0 or the number of a refusal.
     pub answer: u32,
+    /// How many rounds the call made GHOST, as an add answers; of other calls 0.
+    pub ghosts: usize,
     /// The call in words, with the second implementation's answer.
     pub explained: Explained,
     /// What the second implementation does otherwise.
@@ -38,16 +40,17 @@ pub fn explain(calls: &Calls, list: &TreeCallList, table_rows: usize) -> Result<
     let [mut own, mut reference] = [Run::fresh(calls, table_rows)?, Run::fresh(&second::CALLS, table_rows)?];
     let mut called = Vec::new();
     for call in &list.calls {
-        let before = reference.nodes();
+        let before = reference.table.clone();
         let answers = [&mut own, &mut reference].map(|run| run.call(list.kind, *call));
         let words = match answers[1] {
-            Ok(count) => accepted(&before, &reference.nodes(), *call, &reference.path[..count]),
-            Err(refusal) => refused(&before, *call, refusal),
+            Ok(count) => accepted(&before, &reference, *call, count),
+            Err(refusal) => refused(&nodes(&before).collect::<Vec<_>>(), *call, refusal),
         };
         called.push(Called {
             answer: number_of(&answers[0]),
+            ghosts: ghosts_answered(*call, answers[0]),
             explained: Explained { notation: call.to_string(), answer: number_of(&answers[1]), words },
-            difference: difference([&own, &reference], answers),
+            difference: difference([&own, &reference], *call, answers),
         });
     }
     Ok((called, own.table))
@@ -73,17 +76,24 @@ impl Run<'_> {
         self.path.fill(0);
         self.calls.tree_call(kind, &mut self.table, call, &mut self.path)
     }
+}
 
-    fn nodes(&self) -> Vec<Node> {
-        nodes(&self.table).collect()
+/// How many rounds a call made GHOST that was answered so.
+fn ghosts_answered(call: TreeCall, answer: Result<usize, Refusal>) -> usize {
+    match (call, answer) {
+        (TreeCall::Add { .. }, Ok(ghosts)) => ghosts,
+        _ => 0,
     }
 }
 
 /// What the second of two does otherwise than the first, after a call that they answered so.
-fn difference([one, other]: [&Run; 2], answers: [Result<usize, Refusal>; 2]) -> Option<String> {
+fn difference([one, other]: [&Run; 2], call: TreeCall, answers: [Result<usize, Refusal>; 2]) -> Option<String> {
     let numbers = answers.map(|answer| number_of(&answer));
+    let ghosts = answers.map(|answer| ghosts_answered(call, answer));
     if numbers[0] != numbers[1] {
         Some(format!("ANSWERS {}", numbers[1]))
+    } else if ghosts[0] != ghosts[1] {
+        Some(format!("COUNTS {} GHOST, NOT {}", ghosts[1], ghosts[0]))
     } else if answers[0] != answers[1] || one.path != other.path {
         Some("WRITES ANOTHER PATH".into())
     } else if one.table != other.table {
@@ -93,28 +103,31 @@ fn difference([one, other]: [&Run; 2], answers: [Result<usize, Refusal>; 2]) -> 
     }
 }
 
-fn accepted(before: &[Node], after: &[Node], call: TreeCall, path: &[u64]) -> String {
+fn accepted(before: &[u64], after: &Run, call: TreeCall, count: usize) -> String {
     match call {
         TreeCall::Fresh => "the table has the root alone".into(),
         TreeCall::Add { round, value, parent } => {
             let place = format!("below {}, with the value {value}", named(parent));
-            let mut words = match before.iter().map(|node| node.round).find(|other| *other > round) {
+            let words = match nodes(before).map(|node| node.round).find(|other| *other > round) {
                 Some(higher) => format!("round {round} is GHOST {place}: round {higher} is there already"),
                 None => format!("round {round} is ADDED {place}"),
             };
-            let changed = before.iter().zip(after).filter(|(was, is)| was != is);
-            let struck: Vec<Round> = changed.map(|(was, _)| was.round).collect();
-            if !struck.is_empty() {
-                let verb = if struck.len() == 1 { "becomes" } else { "become" };
-                words += &format!("; its edge crosses {}, which {verb} GHOST", all_named(struck));
-            }
-            words
+            words + &ghosts_in_words(made_ghost(before, &after.table).collect())
         }
         TreeCall::Commit(round) => format!("round {round} becomes COMMITTED"),
         TreeCall::Path(round) => {
-            let rounds: Vec<String> = path.iter().map(u64::to_string).collect();
+            let rounds: Vec<String> = after.path[..count].iter().map(u64::to_string).collect();
             format!("the path of {} is {}", named(round), rounds.join(", "))
         }
+    }
+}
+
+/// What stands behind an add that made these rounds GHOST: `; its edge makes 2 rounds GHOST: rounds 1 and 3`.
+pub(crate) fn ghosts_in_words(rounds: Vec<Round>) -> String {
+    match rounds.len() {
+        0 => String::new(),
+        1 => format!("; its edge makes 1 round GHOST: {}", all_named(rounds)),
+        count => format!("; its edge makes {count} rounds GHOST: {}", all_named(rounds)),
     }
 }
 

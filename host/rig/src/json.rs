@@ -107,6 +107,7 @@ pub fn event(at: usize, happened: &Happened) -> Json {
         ("delivered", or_null(happened.delivered, |message| Json::Object(message_fields(&message)))),
         ("sent", or_null(happened.sent, |(number, message)| sent(number.0, &message))),
         ("made", or_null(happened.made, made)),
+        ("ghosts", or_null(happened.ghosts, number)),
         ("late", or_null(happened.late, |round| number(round.0))),
         ("before", or_null(happened.before, |before| record(&before))),
         ("after", or_null(happened.after, |after| record(&after))),

@@ -27,6 +27,10 @@ pub const REHEARSAL: &str = "n=3 s(1,1,70) d(0,0) d(0,1) d(1,1) d(1,1) d(2,1) d(
 /// is decided. After its vote the member refuses the START.
 pub const LOST_JOIN: &str = "n=3 s(1,1,70) d(0,0) d(0,0) d(0,1) d(2,1) d(3,1) d(4,0) d(4,1) d(5,1) d(6,1) d(0,0)";
 
+/// Rounds 1 and 2 are made GHOST by round 4; round 3, proposed behind it, is GHOST from the first.
+pub const MADE_GHOST: &str = "n=3 s(1,1,70) d(0,0) d(0,1) d(1,1) d(2,1) d(3,0) s(2,2,80) d(5,0) d(5,2) d(6,2) d(7,2) \
+                              s(0,3,90) d(9,1) d(9,2) d(10,0) s(1,4,60) d(12,1) d(12,2) d(13,1) d(14,1) d(11,0)";
+
 fn rehearsal() -> EventList {
     parse(REHEARSAL, None).expect("the rehearsal is written correctly")
 }

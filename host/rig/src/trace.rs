@@ -23,6 +23,8 @@ pub struct Happened {
     pub sent: Option<(MessageNumber, Message)>,
     /// The proposal or decision made.
     pub made: Option<Made>,
+    /// How many rounds the add of a proposal made GHOST, as the implementation answers.
+    pub ghosts: Option<u32>,
     /// The highest round proposed, if the event decides a lower one.
     pub late: Option<Round>,
     /// The member's record before the event; none where there is no such member.
@@ -82,6 +84,7 @@ fn happened(calls: &Calls, model: &mut Model, table: &mut [u64], event: &Event, 
     };
     let explained = explain_event(model, event);
     let made = model.made.get(made).map(|at| at.made);
+    let (nodes, ghosts) = made.map(|made| enter(calls, table, made)).unwrap_or_default();
     Happened {
         event: *event,
         answer: u32::from(answer),
@@ -89,10 +92,11 @@ fn happened(calls: &Calls, model: &mut Model, table: &mut [u64], event: &Event, 
         delivered,
         sent: model.sent.get(sent).map(|message| (MessageNumber(sent as u32), *message)),
         made,
+        ghosts,
         late: made.and_then(|made| later_proposed(model, made)),
         before,
         after: model.member(event.member()).copied(),
-        nodes: made.map(|made| changed_nodes(calls, table, made)).unwrap_or_default(),
+        nodes,
     }
 }
 
@@ -102,14 +106,17 @@ fn later_proposed(model: &Model, made: Made) -> Option<Round> {
     model.proposals().map(|proposal| proposal.round).max().filter(|highest| *highest > decision.round)
 }
 
-/// Adds or commits, and gives the nodes that this changed. What a member makes gets OK: the third demand.
-fn changed_nodes(calls: &Calls, table: &mut [u64], made: Made) -> Vec<Node> {
+/// Adds or commits, and gives the nodes that this changed, and how many rounds an add made GHOST. What a member makes gets OK: the
+/// third demand.
+fn enter(calls: &Calls, table: &mut [u64], made: Made) -> (Vec<Node>, Option<u32>) {
     let before: Vec<Node> = nodes(table).collect();
-    let _ = match made {
-        Made::Proposal(made) => {
-            (calls.tree_add)(TreeKind::Value, table, made.round, made.value, made.parent).map(|_| ())
+    let ghosts = match made {
+        Made::Proposal(made) => (calls.tree_add)(TreeKind::Value, table, made.round, made.value, made.parent).ok(),
+        Made::Decision(made) => {
+            let _ = (calls.tree_commit)(TreeKind::Value, table, made.round);
+            None
         }
-        Made::Decision(made) => (calls.tree_commit)(TreeKind::Value, table, made.round),
     };
-    nodes(table).enumerate().filter(|(row, node)| before.get(*row) != Some(node)).map(|(_, node)| node).collect()
+    let changed = nodes(table).enumerate().filter(|(row, node)| before.get(*row) != Some(node));
+    (changed.map(|(_, node)| node).collect(), ghosts)
 }

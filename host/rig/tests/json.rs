@@ -1,6 +1,6 @@
 //! The JSON of a run, from the tool: an object for each event, with the fields that docs/host-notes.md names.
 
-use kalebasin_rig::suite::REHEARSAL;
+use kalebasin_rig::suite::{MADE_GHOST, REHEARSAL};
 use std::process::Command;
 
 /// Status, standard output and standard error of the tool.
@@ -41,9 +41,30 @@ fn every_field_is_documented() {
         printed.split("\":").filter_map(|part| part.rsplit_once('"')).map(|part| part.1).collect();
     names.sort_unstable();
     names.dedup();
-    assert_eq!(names.len(), 33, "{names:?}");
+    assert_eq!(names.len(), 34, "{names:?}");
     for name in names {
         assert!(documented().contains(&format!("`{name}`")), "{name}");
+    }
+}
+
+/// A proposal has the number of rounds that it made GHOST, and its nodes have them; one that is GHOST from the first isn't counted.
+#[test]
+fn rounds_made_ghost() {
+    let printed = json(MADE_GHOST);
+    let node = |round, parent, value, status| {
+        format!("{{\"round\":{round},\"parent\":{parent},\"value\":\"{value}\",\"status\":\"{status}\"}}")
+    };
+    let by_round_4 = [node(1, 0, 70, "GHOST"), node(2, 1, 70, "GHOST"), node(4, 0, 60, "ADDED")].join(",");
+    for (at, line) in printed.lines().enumerate() {
+        let (ghosts, nodes) = match at {
+            4 => ("0", node(1, 0, 70, "ADDED")),
+            10 => ("0", node(2, 1, 70, "ADDED")),
+            19 => ("2", by_round_4.clone()),
+            20 => ("0", node(3, 0, 90, "GHOST")),
+            _ => ("null", String::new()),
+        };
+        assert!(line.contains(&format!(",\"ghosts\":{ghosts},\"late\":null,")), "{line}");
+        assert!(line.ends_with(&format!(",\"nodes\":[{nodes}]}}")), "{line}");
     }
 }
 

@@ -5,10 +5,14 @@
 mod svg;
 
 use kalebasin::notation::{parse, parse_tree};
-use kalebasin::{Event, EventList, Refusal, Round, TreeKind};
+use kalebasin::{nodes, Event, EventList, Node, Refusal, Round, Status, TreeKind};
+use kalebasin_rig::compare::{play, Lent};
 use kalebasin_rig::explain_tree::explain;
-use kalebasin_rig::suite::{LOST_JOIN, REHEARSAL};
-use kalebasin_rig::{draw, second, Calls};
+use kalebasin_rig::random::Random;
+use kalebasin_rig::second::model::Made;
+use kalebasin_rig::suite::{LOST_JOIN, MADE_GHOST, REHEARSAL};
+use kalebasin_rig::trace::trace;
+use kalebasin_rig::{draw, generate, second, Calls};
 use std::ffi::OsStr;
 use std::io::{BufRead, BufReader, Write};
 use std::os::unix::ffi::OsStrExt;
@@ -332,21 +336,94 @@ fn refused_tree_calls_in_words() {
     }
 }
 
-/// An add that strikes out several rounds, and a table made fresh behind it.
+/// Adds that make one round GHOST and several, one of them GHOST itself from the first, and a table made fresh behind them: how many
+/// rounds each add makes GHOST, and which, and the sum.
 #[test]
 fn struck_rounds_in_words() {
-    let calls = "add(1,5,0) add(2,5,1) add(3,5,2) add(4,6,0) path(3) fresh path(3)";
+    let calls = "add(1,5,0) add(2,5,1) add(3,5,2) add(4,6,0) add(6,6,4) add(5,7,0) path(3) fresh path(3)";
     for on in IMPLEMENTATIONS {
-        let (status, out, _) = tool_on(on, &["tree", "-e", calls], b"");
-        let struck = "round 4 is ADDED below the root, with the value 6; its edge crosses rounds 1, 2 and 3, which become GHOST\n";
-        assert!(status == 0 && out.contains(struck), "{out}");
-        assert!(out.contains("  0  the path of round 3 is 0, 1, 2, 3\n"), "{out}");
-        let end = "  0  the table has the root alone\n   6  path(3)     10  round 3 has no path: it isn't there\n\n\
-                   6 of 7 calls accepted, 0 nodes beside the root: 0 ADDED, 0 GHOST, 0 COMMITTED\n\nroot\n";
-        assert!(out.ends_with(end), "{out}");
-        let none = "\n0 of 0 calls accepted, 0 nodes beside the root: 0 ADDED, 0 GHOST, 0 COMMITTED\n\nroot\n";
+        for kind in TreeKind::ALL {
+            let (status, out, _) = tool_on(on, &["tree", "--kind", &kind.to_string(), "-e", calls], b"");
+            assert_eq!(status, 0);
+            for words in [
+                "round 4 is ADDED below the root, with the value 6; its edge makes 3 rounds GHOST: rounds 1, 2 and 3\n",
+                "round 6 is ADDED below round 4, with the value 6\n",
+                "round 5 is GHOST below the root, with the value 7: round 6 is there already; its edge makes 1 round GHOST: round 4\n",
+                "  0  the path of round 3 is 0, 1, 2, 3\n",
+            ] {
+                assert!(out.contains(words), "{words}\n{out}");
+            }
+            let end = "  0  the table has the root alone\n   8  path(3)     10  round 3 has no path: it isn't there\n\n\
+                       8 of 9 calls accepted, 4 rounds made GHOST, 0 nodes beside the root: 0 ADDED, 0 GHOST, 0 COMMITTED\n\nroot\n";
+            assert!(out.ends_with(end), "{out}");
+        }
+        let none =
+            "\n0 of 0 calls accepted, 0 rounds made GHOST, 0 nodes beside the root: 0 ADDED, 0 GHOST, 0 COMMITTED\n\nroot\n";
         assert!(tool_on(on, &["tree"], b"").1.ends_with(none));
     }
+}
+
+/// Proposals that make two rounds GHOST and none, and the sum; the second is GHOST itself from the first.
+#[test]
+fn struck_rounds_of_a_run_in_words() {
+    for on in IMPLEMENTATIONS {
+        let (status, out, _) = tool_on(on, &["run", "-e", MADE_GHOST], b"");
+        let lines: Vec<&str> = out.lines().skip(2).collect();
+        for (at, line) in [
+            (
+                19,
+                "it proposes 60 (its own offer), add(4,60,0), and sends PROPOSE (message 15); its edge makes 2 rounds GHOST: rounds \
+                 1 and 2",
+            ),
+            (20, "it proposes 90 (its own offer), add(3,90,0), and sends PROPOSE (message 16)"),
+            (22, "21 of 21 events accepted, 17 messages, 4 proposals, 0 decisions, 2 rounds made GHOST"),
+        ] {
+            assert!(lines[at].ends_with(line), "{line}\n{out}");
+        }
+        assert!(status == 0 && out.matches("its edge").count() == 1, "{out}");
+    }
+}
+
+/// Of random lists, a proposal's words name the rounds that the tables before and after its add tell, and its number is theirs. The
+/// sums are those of play, and of the table that it leaves: GHOST nodes without a higher round in a row above.
+#[test]
+fn rounds_made_ghost_in_words() {
+    let mut random = Random::new(3);
+    let mut several = 0;
+    for _ in 0..500 {
+        let list = generate::list(&mut random, 3, 120, 120, 64).unwrap();
+        let left = play(&second::CALLS, &list.to_bytes(), &Lent::rows(120, 64, 120));
+        let trace = trace(&second::CALLS, &list, left.answers(), 120, 64).unwrap();
+        for one in &trace {
+            let struck = one.nodes.iter().filter(|node| node.status == Status::Ghost).map(|node| node.round);
+            let mut rounds: Vec<u32> = match one.made {
+                Some(Made::Proposal(made)) => {
+                    struck.filter(|round| *round != made.round).map(|round| round.0).collect()
+                }
+                _ => Vec::new(),
+            };
+            rounds.sort_unstable();
+            let words = one.explained.words.split_once("; its edge makes ").map_or("", |(_, words)| words);
+            let expected = match &rounds[..] {
+                [] => String::new(),
+                [round] => format!("1 round GHOST: round {round}"),
+                [others @ .., last] => {
+                    let others: Vec<String> = others.iter().map(u32::to_string).collect();
+                    format!("{} rounds GHOST: rounds {} and {last}", rounds.len(), others.join(", "))
+                }
+            };
+            assert_eq!(words, expected, "{list}");
+            assert_eq!(one.ghosts.unwrap_or(0) as usize, rounds.len(), "{list}");
+            several += usize::from(rounds.len() > 1);
+        }
+        let sum: u32 = trace.iter().filter_map(|one| one.ghosts).sum();
+        assert_eq!(left.result.map(|played| played.ghosts), Ok(sum), "{list}");
+        let nodes: Vec<Node> = nodes(left.table()).collect();
+        let from_the_first = |at: usize| nodes[..at].iter().any(|above| above.round > nodes[at].round);
+        let ghosts = (0..nodes.len()).filter(|at| nodes[*at].status == Status::Ghost && !from_the_first(*at));
+        assert_eq!(ghosts.count(), sum as usize, "{list}");
+    }
+    assert!(several > 20, "{several}");
 }
 
 /// What the second implementation does otherwise is told call by call.
@@ -382,6 +459,21 @@ fn tree_calls_answered_otherwise() {
         assert_eq!(calls.iter().map(|call| call.difference.as_deref()).collect::<Vec<_>>(), told);
         assert!(calls.iter().all(|call| call.difference.is_some() || call.answer == call.explained.answer));
     }
+}
+
+/// An add that counts other rounds than it makes GHOST is told, with both counts; of a call that is refused there is nothing to count.
+#[test]
+fn rounds_counted_otherwise() {
+    fn with_itself(kind: TreeKind, table: &mut [u64], round: Round, value: u64, parent: Round) -> Result<u32, Refusal> {
+        let ghosts = second::tree::add(kind, table, round, value, parent)?;
+        Ok(ghosts + u32::from(nodes(table).any(|node| node.round == round && node.status == Status::Ghost)))
+    }
+    let faulty = Calls { tree_add: with_itself, ..second::CALLS };
+    let list = "add(1,5,0) add(2,5,1) add(5,6,0) add(4,7,0) add(6,6,5) add(6,6,5) add(3,8,0) path(1)".parse().unwrap();
+    let (calls, _) = explain(&faulty, &list, 8).unwrap();
+    let told = [None, None, None, Some("COUNTS 0 GHOST, NOT 1"), None, None, Some("COUNTS 0 GHOST, NOT 1"), None];
+    assert_eq!(calls.iter().map(|call| call.difference.as_deref()).collect::<Vec<_>>(), told);
+    assert_eq!(calls.iter().map(|call| call.ghosts).collect::<Vec<_>>(), [0, 0, 2, 1, 0, 0, 1, 0]);
 }
 
 #[test]

@@ -152,12 +152,13 @@ fn print_counts(list: &EventList, left: &Left, out: &mut dyn Write) -> Result<()
     let Ok(played) = left.result else { return Ok(()) };
     writeln!(
         out,
-        "\n{} of {} accepted, {}, {}, {}",
+        "\n{} of {} accepted, {}, {}, {}, {} made GHOST",
         played.accepted,
         count(list.events.len(), "event"),
         count(played.messages as usize, "message"),
         count(played.proposals as usize, "proposal"),
-        count(played.decisions as usize, "decision")
+        count(played.decisions as usize, "decision"),
+        count(played.ghosts as usize, "round")
     )?;
     Ok(())
 }

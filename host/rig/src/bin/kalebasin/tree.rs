@@ -17,9 +17,10 @@ pub fn tree(options: &Options, out: &mut dyn Write) -> Outcome {
     let (called, table) = explain(&calls, &list, rows)?;
     writeln!(out, "{} tree, {}, on {}\n", list.kind, count(rows, "table row"), calls.name)?;
     let accepted = called.iter().filter(|one| one.answer == 0).count();
+    let ghosts = called.iter().map(|one| one.ghosts).sum();
     let lines: Vec<Line> = called.into_iter().map(line).collect();
     let as_the_second = print_lines(&lines, out)?;
-    print_counts(accepted, lines.len(), &table, out)?;
+    print_counts([accepted, lines.len(), ghosts], &table, out)?;
     write!(out, "\n{}", draw::text(&table))?;
     write_file(options.dot.as_deref(), || Ok(draw::dot(&table)))?;
     write_file(options.svg.as_deref(), || Ok(draw::svg(&table)))?;
@@ -27,18 +28,19 @@ pub fn tree(options: &Options, out: &mut dyn Write) -> Outcome {
 }
 
 fn line(called: Called) -> Line {
-    let Called { answer, explained, difference } = called;
+    let Called { answer, explained, difference, .. } = called;
     let otherwise = difference.map(|difference| format!("THE SECOND IMPLEMENTATION {difference}"));
     Line { explained, number: answer, otherwise }
 }
 
-/// How many calls were accepted, and how many nodes beside the root have each status.
-fn print_counts(accepted: usize, calls: usize, table: &[u64], out: &mut dyn Write) -> Result<(), Stop> {
+/// How many calls were accepted, how many rounds their adds made GHOST, and how many nodes beside the root have each status.
+fn print_counts([accepted, calls, ghosts]: [usize; 3], table: &[u64], out: &mut dyn Write) -> Result<(), Stop> {
     let of = |status: Status| nodes(table).skip(1).filter(|node| node.status == status).count();
     writeln!(
         out,
-        "\n{accepted} of {} accepted, {} beside the root: {} ADDED, {} GHOST, {} COMMITTED",
+        "\n{accepted} of {} accepted, {} made GHOST, {} beside the root: {} ADDED, {} GHOST, {} COMMITTED",
         count(calls, "call"),
+        count(ghosts, "round"),
         count(nodes(table).skip(1).count(), "node"),
         of(Status::Added),
         of(Status::Ghost),
