@@ -1,4 +1,4 @@
-/* Asks the archive what the examples of docs/REFERENCE.md ask. A line is a question, and gets a line of answer, an accepted list two:
+/* Asks the archive what the examples of docs/REFERENCE.md ask. A line is a question, and gets a line of answer, an accepted list three:
      message HEX, list HEX, cause NUMBER; fresh(ROWS), add(ROUND,VALUE,PARENT), commit(ROUND), path(ROUND), path(ROUND) into COUNT words and
      nodes of one table, a call with "command " in front by the functions of a tree of commands; fresh(NUMBER,N), start(ROUND,OFFER), deliver HEX and
      record of one member; write(KIND,ROUND,SENDER,PRESENT,VOTED,VALUE). */
@@ -10,7 +10,7 @@ enum { ROOM = 8 + 20 * 1000 + 100, STORE_ROWS = 1000, TABLE_ROWS = 64 };
 
 static char line[2 * ROOM + 20], data[ROOM];
 static uint8_t store[STORE_ROWS * KALEBASIN_STORE_ROW], answers[1000];
-static uint64_t table[TABLE_ROWS * KALEBASIN_TABLE_ROW], rounds[TABLE_ROWS];
+static uint64_t table[TABLE_ROWS * KALEBASIN_TABLE_ROW], before[TABLE_ROWS * KALEBASIN_TABLE_ROW], rounds[TABLE_ROWS];
 
 static void put_nodes(size_t rows) {
     for (size_t i = 0; i < rows && table[4 * i + 3]; i++) {
@@ -29,17 +29,28 @@ static void put_played(size_t n) {
     for (int i = 0; i < data[7]; i++) printf(" %u", answers[i]); /* the count's low byte: an example has fewer events than 128 */
     printf("\nnodes: ");
     put_nodes(TABLE_ROWS);
+    printf("\nghosts: %u", r.ghosts);
 }
 
 /* The calls of a kind of tree. */
 typedef struct {
-    uint32_t (*add)(uint64_t *, size_t, uint32_t, uint64_t, uint32_t);
+    KalebasinAddResult (*add)(uint64_t *, size_t, uint32_t, uint64_t, uint32_t);
     uint32_t (*commit)(uint64_t *, size_t, uint32_t);
     KalebasinPathResult (*path)(const uint64_t *, size_t, uint32_t, uint64_t *, size_t);
 } Tree;
 
 static const Tree of_values = {kalebasin_tree_add, kalebasin_tree_commit, kalebasin_tree_path};
 static const Tree of_commands = {kalebasin_command_add, kalebasin_command_commit, kalebasin_command_path};
+
+/* The number, how many rounds were made GHOST, and which: those that were ADDED in a copy of the table. */
+static void put_added(const Tree *tree, size_t rows, uint32_t round, uint64_t value, uint32_t parent) {
+    memcpy(before, table, sizeof table);
+    KalebasinAddResult r = tree->add(table, 4 * rows, round, value, parent);
+    printf("%u", r.number);
+    if (r.ghosts) printf(", makes %u GHOST:", r.ghosts);
+    for (size_t i = 0; i < rows; i++)
+        if (before[4 * i + 3] == KALEBASIN_ADDED && table[4 * i + 3] == KALEBASIN_GHOST) printf(" %llu", (unsigned long long)table[4 * i]);
+}
 
 static void put_path(KalebasinPathResult r) {
     printf("%u", r.number);
@@ -90,7 +101,7 @@ int main(void) {
         else if (!strncmp(line, "record", 6)) put_record(record);
         else if (sscanf(line, "write(%u,%u,%u,%u,%u,%llu)", &a, &b, &c, &d, &p, &v) == 6) put_written(a, b, c, d, p, v);
         else if (sscanf(line, "fresh(%u)", &a) == 1 && a <= TABLE_ROWS) printf("%u", kalebasin_tree_fresh(table, 4 * (rows = a)));
-        else if (sscanf(call, "add(%u,%llu,%u)", &a, &v, &p) == 3) printf("%u", tree->add(table, 4 * rows, a, v, p));
+        else if (sscanf(call, "add(%u,%llu,%u)", &a, &v, &p) == 3) put_added(tree, rows, a, v, p);
         else if (sscanf(call, "commit(%u)", &a) == 1) printf("%u", tree->commit(table, 4 * rows, a));
         else if (sscanf(call, "path(%u) into %u words", &a, &p) == 2 && p <= TABLE_ROWS) put_path(tree->path(table, 4 * rows, a, rounds, p));
         else if (sscanf(call, "path(%u)", &a) == 1) put_path(tree->path(table, 4 * rows, a, rounds, TABLE_ROWS));
