@@ -90,7 +90,7 @@ each-ghosts valued ns (c ∷ cs) = at-add ghosts-made valued 64 ns c ∷ each-gh
 -- Rounds 1 and 2 stand below the root, one behind the other. Round 4 crosses both; round 3 is born GHOST; round 5 crosses four rounds, and 4 alone
 -- was ADDED. A second add of round 5 and one that crosses a COMMITTED round are refused, and a commit makes none GHOST.
 abbrev struck-calls : List Call
-struck-calls = add 1 5 0 ∷ add 2 5 1 ∷ add 4 6 0 ∷ add 3 5 2 ∷ add 5 7 0 ∷ add 5 7 0 ∷ commit 5 ∷ add 6 8 4 ∷ []
+struck-calls = add 1 5 0 ∷ add 2 5 1 ∷ add 4 6 0 ∷ add 3 5 2 ∷ add 5 7 0 ∷ add 5 7 0 ∷ commit 5 ∷ add 6 6 4 ∷ []
 
 -- Round 1 proposes; before anyone votes, members 0 and 2 join round 2, whose proposal crosses it.
 abbrev struck-list : List Event
