@@ -113,8 +113,8 @@ fn counted_join(sender: Member, was: &Record, is: &Record, step: &Step, sent: &s
     words
 }
 
-/// The rounds that a proposal makes GHOST: those that its edge crosses, and none before it. No edge crosses a decided one, by the
-/// third demand.
+/// The rounds that a proposal makes GHOST: those that its edge crosses and no edge of an earlier one did. No edge crosses a decided
+/// round, by the third demand.
 fn made_ghost(before: &Model, proposal: Proposal) -> Vec<Round> {
     let crosses = |edge: Proposal, round: Round| edge.parent < round && round < edge.round;
     let crossed = before.proposals().map(|made| made.round).filter(|round| crosses(proposal, *round));
