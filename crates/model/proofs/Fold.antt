@@ -2,12 +2,10 @@
 use mathlib.Core.Path.{_≡_, refl, sym, ap, _∙_}
 use mathlib.Core.Bool.{false, cond}
 use mathlib.Core.List.{List, [], _∷_, _++_, append-assoc}
-use Prim.Native.Nat.{ℕ, suc, _+_}
-use native.Mathlib.Omega.{arith}
+use Prim.Native.Nat.{suc}
 use lib.ListN.{length}
 use lib.Dec.{eqb}
 use borrow.Author.Tests.{eq-eqb}
-use Rattle.laws.specs.Tests.{by-test}
 use Rattle.numbers.specs.Numbers.{OK}
 use Rattle.model.specs.Model.{Sizes, Event, Office, event-answer, taken, next, office-after, event-answers, offers-at, offered}
 use Rattle.model.specs.Counts.{zeros, accepted-events}

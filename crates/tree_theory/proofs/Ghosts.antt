@@ -7,22 +7,22 @@ use Prim.Native.Nat.{ℕ, _+_, _≤_, _<_}
 use native.Mathlib.Omega.{arith}
 use lib.ListN.{length, length-map}
 use lib.Dec.{eqb}
-use borrow.Author.Tests.{eqb-true, not-false}
+use borrow.Author.Tests.{eqb-true}
 use Rattle.laws.specs.Tests.{by-test, clash, and-left}
 use Rattle.laws.specs.Lists.{_∈_, how-many, how-many-append, how-many-most, how-many-same, how-many-none, how-many-either, how-many-map}
 use Rattle.laws.specs.First.{passed}
 use Rattle.numbers.specs.Numbers.{OK}
-use Rattle.tree_theory.specs.Machine.{Call, add, commit, Node, ADDED, GHOST, COMMITTED, root, fresh, has-round, has-status, present, find, crossed-with}
+use Rattle.tree_theory.specs.Machine.{Call, add, commit, Node, ADDED, GHOST, root, fresh, has-round, has-status, present, find, crossed-with}
 use Rattle.tree_theory.specs.Machine.{strikes, struck, new-node, commit-node, causes, answer, change, step, after}
 use Rattle.tree_theory.specs.Table.{sized, rows, Tree, nodes, call-number, call-table}
 use Rattle.tree_theory.specs.Ghosts.{rounds, made-ghost, ghosts-made, born-ghost, ghosts-born, at-add, over-adds, once, GhostsAddUp, table-ghosts}
-use Rattle.tree_theory.proofs.Nodes.{find-in, find-round, find-new, in-present}
+use Rattle.tree_theory.proofs.Nodes.{find-in, find-new, in-present}
 use Rattle.tree_theory.proofs.Grown.{Grown, found}
 use Rattle.tree_theory.proofs.Paths.{crossing-alone, accepted-parent}
 use Rattle.tree_theory.proofs.History.{step-ok, step-refused, all-grown}
 use Rattle.tree_theory.proofs.Words.{nodes-table}
 use Rattle.tree_theory.proofs.Trees.{tree-held, grown-fit, grown-stated, sized-bounds, sized-rows}
-use Rattle.tree_theory.proofs.Steps.{after-append, step-grown, tree-number, tree-table}
+use Rattle.tree_theory.proofs.Steps.{step-grown, tree-number, tree-table}
 
 -- no node is ADDED and GHOST
 not-both : (n : Node) → (has-status ADDED n && has-status GHOST n) ≡ false
