@@ -5,7 +5,7 @@ use mathlib.Core.Bool.{Bool, true, false}
 use mathlib.Core.List.{List, [], _∷_}
 use Prim.Native.Nat.{ℕ}
 use Rattle.quorum.specs.Count.{some}
-use Rattle.tree_theory.specs.Machine.{Call, ADDED, GHOST, COMMITTED, Node, node-of, fresh, add, commit, struck, new-node, find, path-in, commit-node}
+use Rattle.tree_theory.specs.Machine.{Call, ADDED, GHOST, COMMITTED, Node, node-of, fresh, answers, add, commit, struck, new-node, find, path-in, commit-node}
 use Rattle.tree_theory.specs.Machine.{causes, change, step}
 use Rattle.tree_theory.specs.Machine.{answer as answer-call, after as after-calls}
 use Rattle.tree_theory.specs.Ghosts.{ghosts-made, ghosts-born, at-add, over-adds}
@@ -87,10 +87,11 @@ unfoldable each-ghosts : Bool → List Node → List Call → List ℕ
 each-ghosts valued ns [] = []
 each-ghosts valued ns (c ∷ cs) = at-add ghosts-made valued 64 ns c ∷ each-ghosts valued (step valued 64 ns c) cs
 
--- Rounds 1 and 2 stand below the root, one behind the other. Round 4 crosses both; round 3 is born GHOST; round 5 crosses four rounds, and 4 alone
--- was ADDED. A second add of round 5 and one that crosses a COMMITTED round are refused, and a commit makes none GHOST.
+-- Rounds 1 and 2 stand below the root, one behind the other; a second add of round 2, whose edge crosses round 1, is refused. Round 4 crosses both.
+-- Round 3 is born GHOST. Round 5 crosses four rounds, of which 4 alone was ADDED. Round 6 would cross it, and is refused for its value; then, for round
+-- 5 is COMMITTED by now, for its edge. A commit makes none GHOST.
 abbrev struck-calls : List Call
-struck-calls = add 1 5 0 ∷ add 2 5 1 ∷ add 4 6 0 ∷ add 3 5 2 ∷ add 5 7 0 ∷ add 5 7 0 ∷ commit 5 ∷ add 6 6 4 ∷ []
+struck-calls = add 1 5 0 ∷ add 2 5 1 ∷ add 2 5 0 ∷ add 4 6 0 ∷ add 3 5 2 ∷ add 5 7 0 ∷ add 6 8 4 ∷ commit 5 ∷ add 6 6 4 ∷ []
 
 -- Round 1 proposes; before anyone votes, members 0 and 2 join round 2, whose proposal crosses it.
 abbrev struck-list : List Event
@@ -103,8 +104,9 @@ born-list =
     start 1 1 70 ∷ deliver 0 0 ∷ deliver 0 1 ∷ start 2 2 80 ∷ deliver 3 0 ∷ deliver 3 2 ∷ deliver 4 2 ∷ deliver 5 2 ∷ deliver 1 1 ∷ deliver 2 1 ∷ []
 
 record GhostsMet : Type 0 where
-  values : each-ghosts true fresh struck-calls ≡ 0 ∷ 0 ∷ 2 ∷ 0 ∷ 1 ∷ 0 ∷ 0 ∷ 0 ∷ []
-  commands : each-ghosts false fresh (add 1 5 0 ∷ add 2 6 1 ∷ add 4 7 0 ∷ add 3 8 2 ∷ add 5 9 0 ∷ []) ≡ 0 ∷ 0 ∷ 2 ∷ 0 ∷ 1 ∷ []
+  values : each-ghosts true fresh struck-calls ≡ 0 ∷ 0 ∷ 0 ∷ 2 ∷ 0 ∷ 1 ∷ 0 ∷ 0 ∷ 0 ∷ []
+  numbers : answers true 64 fresh struck-calls ≡ 0 ∷ 0 ∷ 4 ∷ 0 ∷ 0 ∷ 0 ∷ 7 ∷ 0 ∷ 8 ∷ []
+  commands : each-ghosts false fresh (add 1 5 0 ∷ add 2 6 1 ∷ add 2 6 0 ∷ add 4 7 0 ∷ add 3 8 2 ∷ add 5 9 0 ∷ []) ≡ 0 ∷ 0 ∷ 0 ∷ 2 ∷ 0 ∷ 1 ∷ []
   sum : over-adds ghosts-made true 64 fresh struck-calls ≡ 3
   born : over-adds ghosts-born true 64 fresh struck-calls ≡ 1
   rehearsal-sum : made-ghosts (sizes 1000 64) (ended (sizes 1000 64) rehearsal) ≡ 0
@@ -116,9 +118,10 @@ record GhostsMet : Type 0 where
   born-born : born-ghosts (sizes 9 9) (ended (sizes 9 9) born-list) ≡ 1
 
 ghosts-met : GhostsMet
-unfolding each-ghosts ghosts-made ghosts-born over-adds step answer-call causes change event-answers office-after first-office calls after-calls some struck new-node find path-in commit-node
+unfolding each-ghosts ghosts-made ghosts-born over-adds answers step answer-call causes change struck new-node find path-in commit-node event-answers office-after first-office calls after-calls some
 ghosts-met = record {
   values = refl;
+  numbers = refl;
   commands = refl;
   sum = refl;
   born = refl;

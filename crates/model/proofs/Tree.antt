@@ -1,5 +1,5 @@
 -- The tree event after event: it says OK to what each accepted event proposes or decides, that call makes the tree of the office after
--- the event, and the tree's nodes are counted by the proposals and decisions made. Assumes nothing.
+-- the event, what a proposal makes GHOST is counted on, and the tree's nodes are counted by the proposals and decisions made. Assumes nothing.
 use mathlib.Core.Path.{_≡_, refl, ap, subst}
 use mathlib.Core.Bool.{true}
 use mathlib.Core.List.{List, [], _∷_, _++_}

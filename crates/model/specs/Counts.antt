@@ -7,7 +7,7 @@ use Prim.Native.Nat.{ℕ, suc}
 use lib.Dec.{eqb}
 use Rattle.numbers.specs.Numbers.{OK}
 use Rattle.laws.specs.Lists.{how-many}
-use Rattle.tree_theory.specs.Machine.{Node, GHOST, COMMITTED, has-status, fresh}
+use Rattle.tree_theory.specs.Machine.{Node, COMMITTED, has-status, fresh}
 use Rattle.tree_theory.specs.Ghosts.{ghosts-made, ghosts-born, over-adds}
 use Rattle.tree_theory.specs.Machine.{after as after-calls}
 use Rattle.member.specs.Table.{Named, nothing, proposal, decision}
@@ -33,12 +33,9 @@ decisions (nothing ∷ ns) = decisions ns
 decisions (proposal r x b ∷ ns) = decisions ns
 decisions (decision r x ∷ ns) = suc (decisions ns)
 
--- how many nodes are COMMITTED, and how many GHOST
+-- how many nodes are COMMITTED
 abbrev pub committed-nodes : List Node → ℕ
 committed-nodes ns = how-many (has-status COMMITTED) ns
-
-abbrev pub ghost-nodes : List Node → ℕ
-ghost-nodes ns = how-many (has-status GHOST) ns
 
 -- how many answers are 0
 abbrev pub zeros : List ℕ → ℕ

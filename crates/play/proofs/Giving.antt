@@ -1,7 +1,7 @@
 -- Play's promise: a refused list leaves everything; a list that is taken has the model's answers, store and tree, and the third demand.
 -- Assumes nothing.
 use mathlib.Core.Path.{_≡_, refl, sym, ap, subst, _∙_}
-use mathlib.Core.Bool.{true, false, not}
+use mathlib.Core.Bool.{true, false, cond, not}
 use mathlib.Core.List.{List, [], _++_}
 use Prim.Native.Nat.{ℕ, suc, _+_, _≤_, _<_}
 use native.Mathlib.Omega.{arith}
@@ -11,8 +11,9 @@ use borrow.Author.Tests.{not-false, lt-ltb, le-ltb, ltb-false}
 use Rattle.laws.specs.Tests.{by-test, or-left, or-right}
 use Rattle.laws.specs.First.{passed}
 use Rattle.numbers.specs.Numbers.{OK, TABLE-LENGTH, LIST-SHAPE, OFFICE-SIZE, STORE-OR-ANSWERS}
-use Rattle.tree_theory.specs.Machine.{fresh}
+use Rattle.tree_theory.specs.Machine.{GHOST, fresh, has-status, find}
 use Rattle.tree_theory.specs.Table.{nodes, rows, sized, table, fresh-number, fresh-table}
+use Rattle.tree_theory.specs.Ghosts.{ghost-nodes}
 use Rattle.tree_theory.proofs.Grown.{Grown}
 use Rattle.tree_theory.proofs.Words.{length-table, nodes-table}
 use Rattle.tree_theory.proofs.History.{all-grown}
@@ -22,7 +23,7 @@ use Rattle.tree_theory.proofs.Ghosts.{ghosts-add-up}
 use Rattle.member_record.specs.Record.{allowed}
 use Rattle.model.specs.Model.{Sizes, first-office, event-answers, proposals}
 use Rattle.model.specs.Demand.{calls, ended}
-use Rattle.model.specs.Counts.{made-tree, made-ghosts, born-ghosts, zeros, decisions, committed-nodes, ghost-nodes}
+use Rattle.model.specs.Counts.{made-tree, made-ghosts, born-ghosts, zeros, decisions, committed-nodes}
 use Rattle.model.proofs.Demanded.{all-ok, demand-met}
 use Rattle.model.proofs.Tree.{nodes-counted, committed-counted}
 use Rattle.play_events.specs.List.{members-of, count-of, list-fits, events-of}
@@ -175,6 +176,7 @@ module _ {list : List ℕ} {L : Lent} (P : PassedList list L) where
         let held : nodes (L′ .memory .table) ≡ ns = ap nodes (U .table-is) ∙ nodes-table (length ws) ns fit (grown-stated true (rows ws) ns grown) in
         let lent-rows = sized-rows ws (P .table-length) in
         let ok = all-ok z es (P .members) lent-rows in
+        let adds = ghosts-add-up true (z .table) lent-rows (calls (ended z es .made)) in
         record {
           number-is = U .number-ok ∙ sym number-zero;
           taken = λ q.
@@ -184,8 +186,9 @@ module _ {list : List ℕ} {L : Lent} (P : PassedList list L) where
                     (U .table-is ∙ ap (λ n. table n ns) (sym (sized-words ws (P .table-length))));
                 proposals-are = ap suc (U .proposals-made) ∙ sym (ap length held ∙ nodes-counted z (ended z es) ok);
                 decisions-are = ap suc (U .decisions-made) ∙ sym (ap committed-nodes held ∙ committed-counted z (ended z es) ok lent-rows);
-                ghosts-left = ap ghost-nodes held ∙ ghosts-add-up true (z .table) lent-rows (calls (ended z es .made)) .rows-are ∙
+                ghosts-left = ap ghost-nodes held ∙ adds .rows-are ∙
                     ap (λ n. n + born-ghosts z (ended z es)) (sym (U .ghosts-are));
+                ghosts-once = λ k. ap {B = ℕ} (λ ks. cond (has-status GHOST (find k ks)) 1 0) held ∙ adds .each-once k;
               };
           refused = λ q. absurd (q (U .number-ok));
         }

@@ -1,16 +1,18 @@
 -- What play promises, on every answer: the number, the five counts, the answers, the store, with equal JOINs in it, and the table, and the third demand.
 use mathlib.Core.Path.{_≡_}
-use mathlib.Core.Bool.{not, _||_}
+use mathlib.Core.Bool.{true, cond, not, _||_}
 use mathlib.Core.List.{List, [], _∷_}
 use Prim.Native.Nat.{ℕ, suc, _+_}
 use lib.ListN.{length}
 use lib.Dec.{ltb}
 use Rattle.laws.specs.First.{Cause, _gives_, first}
 use Rattle.numbers.specs.Numbers.{OK, TABLE-LENGTH, LIST-SHAPE, OFFICE-SIZE, STORE-OR-ANSWERS}
-use Rattle.tree_theory.specs.Table.{sized, nodes}
+use Rattle.tree_theory.specs.Machine.{GHOST, fresh, has-status, find}
+use Rattle.tree_theory.specs.Table.{rows, sized, nodes}
+use Rattle.tree_theory.specs.Ghosts.{ghost-nodes, made-ghost, born-ghost, over-adds, once}
 use Rattle.member_record.specs.Record.{allowed}
-use Rattle.model.specs.Demand.{Demand, ended}
-use Rattle.model.specs.Counts.{committed-nodes, ghost-nodes, born-ghosts}
+use Rattle.model.specs.Demand.{Demand, calls, ended}
+use Rattle.model.specs.Counts.{committed-nodes, born-ghosts}
 use Rattle.play_events.specs.List.{members-of, count-of, list-fits, events-of}
 use Rattle.play_store.specs.Rows.{store-sized}
 use Rattle.play_run.specs.declared.PlayAnswer.{PlayAnswer}
@@ -41,8 +43,13 @@ pub record TakenList (list : List ℕ) (L : Lent) (r : PlayAnswer) (L′ : Lent)
   -- proposals are the nodes less the root, decisions the COMMITTED less the root
   pub proposals-are : suc (r .proposals) ≡ length (nodes (L′ .memory .table))
   pub decisions-are : suc (r .decisions) ≡ committed-nodes (nodes (L′ .memory .table))
-  -- the GHOST are those that a proposal made so, and those born so
+  -- the GHOST nodes are as many as proposals made so, and as were born so
   pub ghosts-left : ghost-nodes (nodes (L′ .memory .table)) ≡ r .ghosts + born-ghosts (sizes-of list (L .memory)) (ended (sizes-of list (L .memory)) (events-of list))
+  -- and round by round: one that is GHOST was made so by one proposal or was born so, and any other by none
+  pub ghosts-once : (k : ℕ) →
+      let made = calls (ended (sizes-of list (L .memory)) (events-of list) .made) in
+      cond (has-status GHOST (find k (nodes (L′ .memory .table)))) 1 0 ≡
+      over-adds (once made-ghost k) true (rows (L .memory .table)) fresh made + over-adds (once born-ghost k) true (rows (L .memory .table)) fresh made
 
 -- a refused list leaves everything, and counts nothing
 pub record RefusedList (L : Lent) (r : PlayAnswer) (L′ : Lent) : Type 0 where

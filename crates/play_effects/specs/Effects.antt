@@ -7,8 +7,8 @@ use lib.Dec.{eqb}
 use Rattle.laws.specs.First.{Cause, first, _gives_}
 use Rattle.numbers.specs.Numbers.{OK, NO-FREE-ROW, STORE-FULL, no-row-left}
 use Rattle.tree_theory.specs.Machine.{Call}
-use Rattle.tree_theory.specs.Table.{rows, nodes}
-use Rattle.tree_theory.specs.Ghosts.{ghosts-made, at-add}
+use Rattle.tree_theory.specs.Table.{rows}
+use Rattle.tree_theory.specs.Ghosts.{stepped-ghosts}
 use Rattle.message.specs.declared.Message.{Message}
 use Rattle.tree.specs.Promises.{stepped-table}
 use Rattle.play_store.specs.Rows.{store-rows, put-row}
@@ -57,13 +57,9 @@ proposal-causes t M =
 abbrev pub proposal-number : Tally → Memory → ℕ
 proposal-number t M = first (proposal-causes t M)
 
--- how many rounds the call c makes GHOST in a table, from the tables before and after it
-abbrev pub counts-ghosts : List ℕ → Call → ℕ
-counts-ghosts ws c = at-add ghosts-made true (rows ws) (nodes ws) c
-
 -- a step that sends g and names c
 pub record ProposalEffect (t : Tally) (g : Message) (c : Call) (M : Memory) (w : EventEffect) (M′ : Memory) : Type 0 where
-  pub result-is : w ≡ cond (eqb (proposal-number t M) OK) (accepted-event (counted t 1 1 0 (counts-ghosts (M .table) c))) (refused-event t (proposal-number t M))
+  pub result-is : w ≡ cond (eqb (proposal-number t M) OK) (accepted-event (counted t 1 1 0 (stepped-ghosts true (M .table) c))) (refused-event t (proposal-number t M))
   pub store-is : M′ .store ≡ cond (eqb (proposal-number t M) OK) (put-row (M .store) (t .sent) g) (M .store)
   pub table-is : M′ .table ≡ cond (eqb (proposal-number t M) OK) (stepped-table true (M .table) c) (M .table)
 

@@ -12,7 +12,7 @@ use Rattle.numbers.specs.Numbers.{OK, NO-FREE-ROW, STORE-FULL}
 use Rattle.ids.specs.declared.Round.{Round}
 use Rattle.tree_theory.specs.Machine.{Call, add, commit, step}
 use Rattle.tree_theory.specs.Table.{rows, table}
-use Rattle.tree_theory.specs.Ghosts.{ghosts-made, at-add}
+use Rattle.tree_theory.specs.Ghosts.{ghosts-made, at-add, stepped-ghosts}
 use Rattle.message.specs.declared.Message.{Message}
 use Rattle.member_record.specs.declared.MemberState.{MemberState}
 use Rattle.member.specs.declared.StepAnswer.{StepAnswer}
@@ -32,7 +32,7 @@ use Rattle.tree.specs.Promises.{stepped-table}
 use Rattle.play_effects.specs.declared.EventEffect.{EventEffect}
 use Rattle.play_effects.specs.declared.Tally.{Tally}
 use Rattle.play_effects.specs.Memory.{Memory, in-memory}
-use Rattle.play_effects.specs.Effects.{counted, counts-ghosts, refused-event, accepted-event, no-room-to-send, no-room-to-propose, SendEffect, ProposalEffect, DecisionEffect}
+use Rattle.play_effects.specs.Effects.{counted, refused-event, accepted-event, no-room-to-send, no-room-to-propose, SendEffect, ProposalEffect, DecisionEffect}
 use Rattle.play_office.specs.Represents.{RecordAt, StepBefore, StepAfter, ModelStep, AnswerIs, AnswerBefore, after-event}
 use Rattle.play_office.proofs.Before.{nodes-held}
 use Rattle.play_office.proofs.Settling.{refused-step, store-full-answer, table-full-answer, sent-one, proposed-one, silent-one}
@@ -105,7 +105,7 @@ module _ {t : Tally} {M : Memory} (B : StepBefore t M) where
       ap (λ n. table (length (M .table)) (step true n ns c)) (sym (B .sizes .table-is)) ∙ ap (λ n. table n (step true (B .z .table) ns c)) (sym l)
 
   -- and so is what it makes GHOST
-  counted-on : (c : Call) → counts-ghosts (M .table) c ≡ at-add ghosts-made true (B .z .table) (made-tree (B .z) (B .o)) c
+  counted-on : (c : Call) → stepped-ghosts true (M .table) c ≡ at-add ghosts-made true (B .z .table) (made-tree (B .z) (B .o)) c
   counted-on c =
       ap (λ ks. at-add ghosts-made true (rows (M .table)) ks c) (nodes-held B) ∙
       ap (λ n. at-add ghosts-made true n (made-tree (B .z) (B .o)) c) (sym (B .sizes .table-is))
@@ -132,10 +132,10 @@ module _ {t : Tally} {M : Memory} (B : StepBefore t M) {e : Event} {i : ℕ} (wa
   goes-proposed : {m : MemberState} {g : Message} {r x b : ℕ} (M′ : Memory) → ModelStep (B .z) (B .o) e i (proposing m g r x b) →
       t .sent < store-rows (M .store) → t .proposals + 1 < rows (M .table) → length (M′ .store) ≡ length (M .store) →
       M′ .store ≡ put-row (M .store) (t .sent) g → length (M′ .table) ≡ length (M .table) → M′ .table ≡ stepped-table true (M .table) (add r x b) →
-      StepAfter B e i (after-event was m (accepted-event (counted t 1 1 0 (counts-ghosts (M .table) (add r x b))))) M′
+      StepAfter B e i (after-event was m (accepted-event (counted t 1 1 0 (stepped-ghosts true (M .table) (add r x b))))) M′
   unfolding proposals decisions
   goes-proposed {m} {g} {r} {x} {b} M′ T h f l w l′ q =
-      accepted-after B was M′ 1 1 0 (counts-ghosts (M .table) (add r x b)) T
+      accepted-after B was M′ 1 1 0 (stepped-ghosts true (M .table) (add r x b)) T
       (proposed-one T refl refl (free B h) refl (omega (arith, B .sizes .table-is, B .represents .slot .proposed))) refl refl refl
       (ghosts-proposal (B .z) (B .o) e r x b (named-by T) ∙ ap (λ n. made-ghosts (B .z) (B .o) + n) (sym (counted-on B (add r x b))))
       (put-behind B g (M′ .store) h l w)

@@ -17,13 +17,13 @@ use Rattle.tree_theory.proofs.Steps.{step-tree, tree-number, tree-table, table-
 use Rattle.tree_theory.proofs.Ghosts.{none-refused, table-none, tree-few, tree-ghosts}
 use Rattle.tree_steps.specs.Planned.{call-written, Planned}
 use Rattle.tree.specs.declared.CallAnswer.{CallAnswer}
-use Rattle.tree.specs.Promises.{stepped-table, CountedOnTable, CountedOnTree, refused-call}
+use Rattle.tree.specs.Promises.{stepped-table, CountedOnTable, CountedOnTree, refused-answer}
 
 module _ {valued : Bool} {ws : List ℕ} (h : sized ws ≡ true) (T : Tree valued ws) {c : Call} {number row status strikes : ℕ}
     (P : Planned valued ws c number row status strikes) where
   -- a refused call leaves the table, and makes none GHOST
-  pub call-refused : (a : CallAnswer) → a ≡ refused-call number → (number ≡ OK → ⊥) → CountedOnTree valued ws c (a .number) (a .ghosts) ws
-  call-refused a q z =
+  pub call-refused : {a : CallAnswer} → a ≡ refused-answer number → (number ≡ OK → ⊥) → CountedOnTree valued ws c (a .number) (a .ghosts) ws
+  call-refused q z =
       let t : eqb (answer valued (rows ws) (nodes ws) c) OK ≡ false = ne-eqb _ _ (λ q. z (P .number-is ∙ q)) in
       let w : ws ≡ stepped-table valued ws c =
       tree-held valued ws h T .whole ∙ ap (table (length ws)) (sym (step-refused valued (rows ws) (nodes ws) c t)) in
@@ -45,8 +45,8 @@ module _ {valued : Bool} {ws : List ℕ} (h : sized ws ≡ true) (T : Tree value
       }
 
   -- no more are struck than a table has rows
-  pub strikes-few : number ≡ OK → strikes ≤ 256
-  strikes-few z = omega (arith, P .ghosts-are z, tree-few valued ws h T c)
+  pub ghosts-fit : number ≡ OK → strikes ≤ 256
+  ghosts-fit z = omega (arith, P .ghosts-are z, tree-few valued ws h T c)
 
 -- what the number of the row "table" says, where 0 is OK
 module _ (valued : Bool) (ws : List ℕ) {number : ℕ} (e : number ≡ first (table-causes valued ws)) where
@@ -58,9 +58,9 @@ module _ (valued : Bool) (ws : List ℕ) {number : ℕ} (e : number ≡ first (t
   pub tree-there : number ≡ OK → (sized ws ≡ true) × Tree valued ws
   tree-there z = let (s, t) = table-passed z in (s, is-tree-exact valued ws s .0 t)
 
-  pub table-refuses : (c : Call) (a : CallAnswer) → a ≡ refused-call number → (number ≡ OK → ⊥) → CountedOnTable valued ws c (a .number) (a .ghosts) ws
+  pub table-refuses : (c : Call) {a : CallAnswer} → a ≡ refused-answer number → (number ≡ OK → ⊥) → CountedOnTable valued ws c (a .number) (a .ghosts) ws
   unfolding call-number
-  table-refuses c a q z =
+  table-refuses c q z =
       let n : number ≡ call-number valued ws c =
       e ∙ sym (first-front (table-causes valued ws) (causes valued (rows ws) (nodes ws) c) (λ q. z (e ∙ q))) in
       let t : eqb (call-number valued ws c) OK ≡ false = ne-eqb _ _ (λ q. z (n ∙ q)) in

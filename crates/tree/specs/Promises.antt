@@ -6,7 +6,7 @@ use Prim.Native.Nat.{ℕ}
 use lib.ListN.{length}
 use Rattle.tree_theory.specs.Machine.{Call, answer, step}
 use Rattle.tree_theory.specs.Table.{rows, nodes, table, Tree, call-number, call-table, path-number, path-count, path-slice}
-use Rattle.tree_theory.specs.Ghosts.{ghosts-made, at-add, table-ghosts}
+use Rattle.tree_theory.specs.Ghosts.{stepped-ghosts, table-ghosts}
 use Rattle.tree.specs.declared.CallAnswer.{CallAnswer}
 
 -- add or commit of any table: the number, and the table left
@@ -24,19 +24,19 @@ pub record CalledOnTree (valued : Bool) (ws : List ℕ) (c : Call) (number : ℕ
   pub table-is : ws′ ≡ stepped-table valued ws c
   pub tree : Tree valued ws′
 
--- add of any table: the number, the table left, and how many rounds were made GHOST; a commit counts none
+-- add or commit of any table: the number, the table left, and how many rounds were made GHOST; a commit counts none
 pub record CountedOnTable (valued : Bool) (ws : List ℕ) (c : Call) (number ghosts : ℕ) (ws′ : List ℕ) : Type 0 where
   pub called : CalledOnTable valued ws c number ws′
   pub ghosts-are : ghosts ≡ table-ghosts valued ws c
 
--- add of a tree: the same by the machine's step
+-- add or commit of a tree: the same by the machine's step
 pub record CountedOnTree (valued : Bool) (ws : List ℕ) (c : Call) (number ghosts : ℕ) (ws′ : List ℕ) : Type 0 where
   pub called : CalledOnTree valued ws c number ws′
-  pub ghosts-are : ghosts ≡ at-add ghosts-made valued (rows ws) (nodes ws) c
+  pub ghosts-are : ghosts ≡ stepped-ghosts valued ws c
 
 -- with a refusal no round is counted
-abbrev pub refused-call : ℕ → CallAnswer
-refused-call number = record { number = number; ghosts = 0 }
+abbrev pub refused-answer : ℕ → CallAnswer
+refused-answer number = record { number = number; ghosts = 0 }
 
 -- path of any table: the number, how many rounds, and the slice lent for them
 pub record PathGiven (valued : Bool) (ws : List ℕ) (r : ℕ) (out : List ℕ) (number count : ℕ) (out′ : List ℕ) : Type 0 where

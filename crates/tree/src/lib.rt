@@ -7,7 +7,7 @@ ghost use mathlib.Core.Bool.{true, false};
 ghost use Rattle.tree_theory.specs.Machine.{add, commit};
 ghost use Rattle.tree_theory.specs.Table.{sized, Tree, fresh-number, fresh-table};
 ghost use Rattle.tree_steps.specs.Planned.{call-of};
-ghost use Rattle.tree.specs.Promises.{CalledOnTable, CalledOnTree, CountedOnTable, CountedOnTree, PathGiven, refused-call};
+ghost use Rattle.tree.specs.Promises.{CalledOnTable, CalledOnTree, CountedOnTable, CountedOnTree, PathGiven, refused-answer};
 
 // An add's or a commit's number, and how many rounds it made GHOST (02, ticket 3): those that were ADDED before it. 0 with a refusal; a commit
 // makes none.
@@ -35,8 +35,8 @@ pub fn fresh(t: &mut [u64]) -> u32
 }
 
 // A refusal's number alone.
-fn refused_call(number: u32) -> CallAnswer
-    ensures { λ a. ⌜ a ≡ refused-call number ⌝ }
+fn refused_answer(number: u32) -> CallAnswer
+    ensures { λ a. ⌜ a ≡ refused-answer number ⌝ }
 {
     CallAnswer { number, ghosts: 0 }
 }
@@ -48,7 +48,7 @@ fn call_on_tree(valued: bool, t: &mut [u64], call: TreeCall) -> CallAnswer
 {
     let plan = tree_steps::call::plan_call(valued, t, call);
     if plan.number != numbers::OK {
-        return refused_call(plan.number);
+        return refused_answer(plan.number);
     }
     tree_steps::call::write_call(t, call, plan.row, plan.status, plan.strikes);
     let ghosts = plan.strikes as u32;
@@ -64,7 +64,7 @@ fn call_on_table(valued: bool, t: &mut [u64], call: TreeCall) -> CallAnswer
 {
     let number = tree_check::table_number(valued, t);
     if number != numbers::OK {
-        return refused_call(number);
+        return refused_answer(number);
     }
     call_on_tree(valued, t, call)
 }

@@ -1,9 +1,8 @@
-// Runs the tree's calls as standard input has them: 01's cases P1 to P11, paths, tables that are none, a list that fills 256 rows, and
-// calls of command trees. f(words) is fresh on the first so many words, which then are the table; a(round,value,parent) is add, c(round) is
-// commit, p(round,words) is path into so many words; A, C and P are those of a command tree; w(word,value) writes a word of the table. All
-// that is read is written again: behind each call its number (of an add also how many rounds it made GHOST, of a path how many rounds, and the
-// slice), behind each line each node's
-// round, parent, value and status.
+// Runs the tree's calls as standard input has them: 01's cases P1 to P11, paths, tables that are none, a list that fills 256 rows, and calls of
+// command trees. f(words) is fresh on the first so many words, which then are the table; a(round,value,parent) is add, c(round) is commit,
+// p(round,words) is path into so many words; A, C and P are those of a command tree; w(word,value) writes a word of the table. All that is read
+// is written again: behind each call its number (of an add also how many rounds it made GHOST, of a path how many rounds, and the slice), behind
+// each line each node's round, parent, value and status.
 use ids::Round;
 use libc::STDIN_FILENO;
 use libc::STDOUT_FILENO;

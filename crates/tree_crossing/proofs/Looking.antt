@@ -117,18 +117,16 @@ module _ {ws : List ℕ} {r p : ℕ} {l : Look} (L : LookedTo ws r p l) where
 
     -- a round below r
     module _ (below : round < r) where
-      not-here : has-round r (row ws (l .used)) ≡ false
-      not-here = rw (← at) (ne-eqb round r (λ q. omega arith))
+      here : l .present ≡ present r (rows-of ws (l .used + 1))
+      here = kept (has-round r) was-present (rw (← at) (ne-eqb round r (λ q. omega arith)))
 
-      not-over : above r (row ws (l .used)) ≡ false
-      not-over = rw (← at) (le-ltb r round (omega arith))
+      over : l .above ≡ any (above r) (rows-of ws (l .used + 1))
+      over = kept (above r) was-above (rw (← at) (le-ltb r round (omega arith)))
 
       pub look-before : round ≤ p →
           record { used = l .used + 1; present = l .present; parent = parent; above = l .above; blocked = l .blocked; strikes = l .strikes } ≡ more
       look-before h =
           let off : crosses r p (row ws (l .used) .round) ≡ false = rw (← at) (rw (le-ltb p round h) refl) in
-          let here = kept (has-round r) was-present not-here in
-          let over = kept (above r) was-above not-over in
           let block = kept (blocks r p) was-blocked (uncrossed off COMMITTED) in
           let strike = not-struck (uncrossed off ADDED) in
           λ j. record { used = count j; present = here j; parent = found j; above = over j; blocked = block j; strikes = strike j }
@@ -143,8 +141,6 @@ module _ {ws : List ℕ} {r p : ℕ} {l : Look} (L : LookedTo ws r p l) where
         pub look-struck : status ≡ ADDED →
             record { used = l .used + 1; present = l .present; parent = parent; above = l .above; blocked = l .blocked; strikes = l .strikes + 1 } ≡ more
         look-struck s =
-            let here = kept (has-round r) was-present not-here in
-            let over = kept (above r) was-above not-over in
             let block = kept (blocks r p) was-blocked (sym (crossed COMMITTED) ∙ ap (λ n. eqb n COMMITTED) s) in
             let strike = struck-here (sym (crossed ADDED) ∙ eq-eqb status ADDED s) in
             λ j. record { used = count j; present = here j; parent = found j; above = over j; blocked = block j; strikes = strike j }
@@ -159,8 +155,6 @@ module _ {ws : List ℕ} {r p : ℕ} {l : Look} (L : LookedTo ws r p l) where
               strikes = l .strikes;
             } ≡ more
         look-unstruck s =
-            let here = kept (has-round r) was-present not-here in
-            let over = kept (above r) was-above not-over in
             let block = part (blocks r p) was-blocked (crossed COMMITTED) in
             let strike = not-struck (sym (crossed ADDED) ∙ ne-eqb status ADDED s) in
             λ j. record { used = count j; present = here j; parent = found j; above = over j; blocked = block j; strikes = strike j }

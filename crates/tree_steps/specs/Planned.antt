@@ -8,7 +8,7 @@ use Rattle.laws.specs.Lists.{how-many}
 use Rattle.numbers.specs.Numbers.{OK}
 use Rattle.tree_theory.specs.Machine.{Call, ADDED, add, commit, node-of, crossed-with, strike-crossed, answer, change}
 use Rattle.tree_theory.specs.Table.{rows, rows-of, nodes, words, table}
-use Rattle.tree_theory.specs.Ghosts.{ghosts-made, at-add}
+use Rattle.tree_theory.specs.Ghosts.{stepped-ghosts}
 use Rattle.tree_steps.specs.declared.call.TreeCall.{TreeCall}
 use Rattle.tree_steps.specs.declared.call.TreeCall.the-variants as tree-call
 
@@ -35,4 +35,4 @@ pub record Planned (valued : Bool) (ws : List ℕ) (c : Call) (number row status
   pub fits : number ≡ OK → 4 * row + 4 ≤ length ws
   pub makes : number ≡ OK → call-written ws c row status ≡ table (length ws) (change (nodes ws) c)
   pub strikes-is : strikes ≡ call-strikes ws c row
-  pub ghosts-are : number ≡ OK → strikes ≡ at-add ghosts-made valued (rows ws) (nodes ws) c
+  pub ghosts-are : number ≡ OK → strikes ≡ stepped-ghosts valued ws c

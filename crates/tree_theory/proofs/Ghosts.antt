@@ -1,22 +1,22 @@
 -- What an add makes GHOST: of a tree's nodes the ADDED ones that its edge crosses. And what the sum over adds comes to: each GHOST row was counted
 -- once, or was born GHOST. Assumes nothing.
 use mathlib.Core.Path.{_≡_, refl, sym, ap, _∙_}
-use mathlib.Core.Bool.{Bool, true, false, cond, _&&_, _||_, or-false}
+use mathlib.Core.Bool.{Bool, true, false, _&&_, _||_, or-false}
 use mathlib.Core.List.{List, [], _∷_, _++_, map, append-nil}
 use Prim.Native.Nat.{ℕ, _+_, _≤_, _<_}
 use native.Mathlib.Omega.{arith}
 use lib.ListN.{length, length-map}
 use lib.Dec.{eqb}
 use borrow.Author.Tests.{eqb-true}
-use Rattle.laws.specs.Tests.{by-test, clash, and-left}
+use Rattle.laws.specs.Tests.{by-test, and-left}
 use Rattle.laws.specs.Lists.{_∈_, how-many, how-many-append, how-many-most, how-many-same, how-many-none, how-many-either, how-many-map}
 use Rattle.laws.specs.First.{passed}
 use Rattle.numbers.specs.Numbers.{OK}
 use Rattle.tree_theory.specs.Machine.{Call, add, commit, Node, ADDED, GHOST, root, fresh, has-round, has-status, present, find, crossed-with}
 use Rattle.tree_theory.specs.Machine.{strikes, struck, new-node, commit-node, causes, answer, change, step, after}
 use Rattle.tree_theory.specs.Table.{sized, rows, Tree, nodes, call-number, call-table}
-use Rattle.tree_theory.specs.Ghosts.{rounds, made-ghost, ghosts-made, born-ghost, ghosts-born, at-add, over-adds, once, GhostsAddUp, table-ghosts}
-use Rattle.tree_theory.proofs.Nodes.{find-in, find-new, in-present}
+use Rattle.tree_theory.specs.Ghosts.{rounds, made-ghost, ghosts-made, born-ghost, ghosts-born, at-add, over-adds, once, ghost-nodes, GhostsAddUp, stepped-ghosts, table-ghosts}
+use Rattle.tree_theory.proofs.Nodes.{find-in, find-new, find-absent, present-changed, find-changed, in-present}
 use Rattle.tree_theory.proofs.Grown.{Grown, found}
 use Rattle.tree_theory.proofs.Paths.{crossing-alone, accepted-parent}
 use Rattle.tree_theory.proofs.History.{step-ok, step-refused, all-grown}
@@ -29,31 +29,15 @@ not-both : (n : Node) → (has-status ADDED n && has-status GHOST n) ≡ false
 not-both n =
     by-test (has-status ADDED n) (λ t. let e : n .status ≡ ADDED = eqb-true (n .status) ADDED t in rw e refl) (λ t. rw t refl)
 
-find-absent : (c : ℕ) (ns : List Node) → present c ns ≡ false → find c ns ≡ root
-unfolding find
-find-absent c [] h = refl
-find-absent c (n ∷ ns) h = by-test (has-round c n) (λ t. clash refl (rw t at h)) (λ t. rw t (find-absent c ns (rw t at h)))
-
 -- ---- nodes changed one by one, each keeping its round
 module _ (f : Node → Node) (same : (n : Node) → f n .round ≡ n .round) where
-  present-changed : (c : ℕ) (ns : List Node) → present c (map f ns) ≡ present c ns
-  present-changed c [] = refl
-  present-changed c (n ∷ ns) = rw (same n, present-changed c ns) refl
-
-  find-changed : (c : ℕ) (ns ms : List Node) → present c ns ≡ true → find c (map f ns ++ ms) ≡ f (find c ns)
-  unfolding find
-  find-changed c [] ms h = clash h refl
-  find-changed c (n ∷ ns) ms h =
-      let e : has-round c (f n) ≡ has-round c n = ap (λ k. eqb k c) (same n) in
-      by-test (has-round c n) (λ t. rw (e ∙ t, t) refl) (λ t. rw (e ∙ t, t) (find-changed c ns ms (rw t at h)))
-
   -- the rounds made GHOST are those of the nodes that the change makes so
   made-changed : (valued : Bool) (rows : ℕ) (ns ms : List Node) → Grown valued rows ns →
       ghosts-made ns (map f ns ++ ms) ≡ how-many (λ n. has-status ADDED n && has-status GHOST (f n)) ns
   unfolding ghosts-made
   made-changed valued rows ns ms G =
       how-many-map (made-ghost ns (map f ns ++ ms)) (λ n. n .round) ns ∙
-      how-many-same _ _ ns (λ n m. rw (find-changed (n .round) ns ms (in-present ns m), found valued rows ns G n m) refl)
+      how-many-same _ _ ns (λ n m. rw (find-changed f same (n .round) ns ms (in-present ns m), found valued rows ns G n m) refl)
 
   -- none of them is born
   none-born : (ns after : List Node) → how-many (λ n. born-ghost ns after (n .round)) (map f ns) ≡ 0
@@ -70,11 +54,14 @@ committed-round : (r : ℕ) (n : Node) → commit-node r n .round ≡ n .round
 unfolding commit-node
 committed-round r n = by-test (has-round r n) (λ t. rw t refl) (λ t. rw t refl)
 
+struck-was-added : (ns : List Node) (r p : ℕ) (n : Node) → strikes ns r p n ≡ true → n .status ≡ ADDED
+struck-was-added ns r p n t = eqb-true (n .status) ADDED (and-left (has-status ADDED n) _ t)
+
 struck-turns : (ns : List Node) (r p : ℕ) (n : Node) → (has-status ADDED n && has-status GHOST (struck ns r p n)) ≡ strikes ns r p n
 unfolding struck
 struck-turns ns r p n =
     by-test (strikes ns r p n)
-    (λ t. let e : n .status ≡ ADDED = eqb-true (n .status) ADDED (and-left (has-status ADDED n) _ t) in rw (t, e) refl)
+    (λ t. rw (t, struck-was-added ns r p n t) refl)
     (λ t. rw t (not-both n))
 
 -- GHOST is what was GHOST, and what is made so
@@ -83,12 +70,19 @@ struck-ghost : (ns : List Node) (r p : ℕ) (n : Node) →
 unfolding struck
 struck-ghost ns r p n =
     by-test (strikes ns r p n)
-    (λ t. let e : n .status ≡ ADDED = eqb-true (n .status) ADDED (and-left (has-status ADDED n) _ t) in rw (t, e) refl)
+    (λ t. rw (t, struck-was-added ns r p n t) refl)
     (λ t. rw (t, not-both n) (sym (or-false (has-status GHOST n))))
 
 apart : (n m : Node) → (has-status GHOST n && (has-status ADDED n && has-status GHOST m)) ≡ false
 apart n m =
     by-test (has-status GHOST n) (λ t. let e : n .status ≡ GHOST = eqb-true (n .status) GHOST t in rw e refl) (λ t. rw t refl)
+
+-- of any nodes, those that are GHOST after an add are those that were and those made so
+ghosts-struck : (ns : List Node) (r p : ℕ) (ms : List Node) →
+    ghost-nodes (map (struck ns r p) ms) ≡ ghost-nodes ms + how-many (λ n. has-status ADDED n && has-status GHOST (struck ns r p n)) ms
+ghosts-struck ns r p ms =
+    how-many-map (has-status GHOST) (struck ns r p) ms ∙ how-many-same _ _ ms (λ n m. struck-ghost ns r p n) ∙
+    how-many-either (has-status GHOST) _ ms (λ n m. apart n (struck ns r p n))
 
 -- an accepted commit isn't of a GHOST node
 committed-ghost : (valued : Bool) (rows : ℕ) (ns : List Node) (r : ℕ) → Grown valued rows ns → answer valued rows ns (commit r) ≡ OK →
@@ -145,11 +139,11 @@ module _ (valued : Bool) (ws : List ℕ) (h : sized ws ≡ true) (T : Tree value
       ap nodes (tree-table valued ws h T c) ∙ nodes-table _ ns (grown-fit valued ws ns h G) (grown-stated valued (rows ws) ns G)
 
   -- no more than a table has rows
-  pub tree-few : (c : Call) → at-add ghosts-made valued (rows ws) (nodes ws) c ≤ 256
+  pub tree-few : (c : Call) → stepped-ghosts valued ws c ≤ 256
   tree-few c =
       omega (arith, at-add-few valued (rows ws) (nodes ws) c, tree-held valued ws h T .grown .fit (sized-rows ws h), sized-bounds ws h .most)
 
-  pub tree-ghosts : (c : Call) → table-ghosts valued ws c ≡ at-add ghosts-made valued (rows ws) (nodes ws) c
+  pub tree-ghosts : (c : Call) → table-ghosts valued ws c ≡ stepped-ghosts valued ws c
   unfolding table-ghosts
   tree-ghosts (add r v p) =
       let c = add r v p in
@@ -189,18 +183,36 @@ unfolding over-adds
 both-over f g valued rows ns [] = refl
 both-over f g valued rows ns (c ∷ cs) = omega (arith, both-at f g valued rows ns c, both-over f g valued rows (step valued rows ns c) cs)
 
+-- ---- row by row
+born-none : (ns : List Node) → ghosts-born ns ns ≡ 0
+unfolding ghosts-born
+born-none ns = how-many-map (born-ghost ns ns) (λ n. n .round) ns ∙ how-many-none _ ns (λ n m. rw (in-present ns m) refl)
+
+-- ---- round by round: a list of the round's node alone
+abbrev is-ghost : ℕ → List Node → ℕ
+is-ghost r ns = ghost-nodes (find r ns ∷ [])
+
+abbrev turned : ℕ → List Node → List Node → ℕ
+turned r = both (once made-ghost r) (once born-ghost r)
+
+-- an absent round is no GHOST and no ADDED one
+absent-once : (r : ℕ) (ns ms : List Node) → present r ns ≡ false → is-ghost r ms ≡ is-ghost r ns + turned r ns ms
+absent-once r ns ms h = rw (h, find-absent r ns h) (omega arith)
+
+same-once : (r : ℕ) (ns : List Node) → turned r ns ns ≡ 0
+same-once r ns =
+    by-test (present r ns)
+    (λ t. rw (not-both (find r ns), t) refl)
+    (λ t. rw (not-both (find r ns), t, find-absent r ns t) refl)
+
+none-fresh : (r : ℕ) → is-ghost r fresh ≡ 0
+unfolding find
+none-fresh r = by-test (has-round r root) (λ t. rw t refl) (λ t. rw t refl)
+
 module _ (valued : Bool) (rows : ℕ) where
-  abbrev ghost-rows : List Node → ℕ
-  ghost-rows ns = how-many (has-status GHOST) ns
-
-  -- ---- row by row
-  born-none : (ns : List Node) → ghosts-born ns ns ≡ 0
-  unfolding ghosts-born
-  born-none ns = how-many-map (born-ghost ns ns) (λ n. n .round) ns ∙ how-many-none _ ns (λ n m. rw (in-present ns m) refl)
-
-  -- the new node alone
+  -- the new node alone is born
   born-new : (ns : List Node) (r v p : ℕ) → answer valued rows ns (add r v p) ≡ OK →
-      ghosts-born ns (change ns (add r v p)) ≡ ghost-rows (new-node ns r v p ∷ [])
+      ghosts-born ns (change ns (add r v p)) ≡ ghost-nodes (new-node ns r v p ∷ [])
   unfolding ghosts-born change answer new-node
   born-new ns r v p z =
       let (a, (b, _)) = passed (causes valued rows ns (add r v p)) refl z in
@@ -212,48 +224,20 @@ module _ (valued : Bool) (rows : ℕ) where
       rw (none-born (struck ns r p) (struck-round ns r p) ns (ms ++ n ∷ []), b, new) (omega arith)
 
   rows-changed : (ns : List Node) (c : Call) → Grown valued rows ns → answer valued rows ns c ≡ OK → step valued rows ns c ≡ change ns c →
-      ghost-rows (change ns c) ≡ ghost-rows ns + at-add (both ghosts-made ghosts-born) valued rows ns c
+      ghost-nodes (change ns c) ≡ ghost-nodes ns + at-add (both ghosts-made ghosts-born) valued rows ns c
   unfolding change
   rows-changed ns (add r v p) G z e =
       let f = struck ns r p in
       let n = new-node ns r v p in
-      let turns : Node → Bool = λ n. has-status ADDED n && has-status GHOST (f n) in
-      let kept : ghost-rows (map f ns) ≡ ghost-rows ns + how-many turns ns =
-      how-many-map (has-status GHOST) f ns ∙ how-many-same _ _ ns (λ n m. struck-ghost ns r p n) ∙
-      how-many-either (has-status GHOST) turns ns (λ n m. apart n (f n)) in
       rw e (omega (
         arith,
         how-many-append (has-status GHOST) (map f ns) (n ∷ []),
-        kept,
+        ghosts-struck ns r p ns,
         made-changed f (struck-round ns r p) valued rows ns (n ∷ []) G,
         born-new ns r v p z,
       ))
   rows-changed ns (commit r) G z e =
       omega (arith, how-many-map (has-status GHOST) (commit-node r) ns, how-many-same _ _ ns (committed-ghost valued rows ns r G z))
-
-  rows-refused : (ns : List Node) (c : Call) → step valued rows ns c ≡ ns → ghost-rows ns ≡ ghost-rows ns + at-add (both ghosts-made ghosts-born) valued rows ns c
-  rows-refused ns (add r v p) e = rw (e, ghosts-none ns, born-none ns) (omega arith)
-  rows-refused ns (commit r) e = omega arith
-
-  -- ---- round by round
-  abbrev is-ghost : ℕ → List Node → ℕ
-  is-ghost r ns = cond (has-status GHOST (find r ns)) 1 0
-
-  abbrev turned : ℕ → List Node → List Node → ℕ
-  turned r = both (once made-ghost r) (once born-ghost r)
-
-  -- an absent round is no GHOST and no ADDED one
-  absent-once : (r : ℕ) (ns ms : List Node) → present r ns ≡ false → is-ghost r ms ≡ is-ghost r ns + turned r ns ms
-  absent-once r ns ms h = rw (h, find-absent r ns h) (omega arith)
-
-  same-once : (r : ℕ) (ns : List Node) → turned r ns ns ≡ 0
-  same-once r ns =
-      by-test (present r ns)
-      (λ t. rw (not-both (find r ns), t) refl)
-      (λ t. rw (not-both (find r ns), t, find-absent r ns t) refl)
-
-  either-once : (a b : Bool) → (a && b) ≡ false → cond (a || b) 1 0 ≡ cond a 1 0 + cond b 1 0
-  either-once a b h = by-test a (λ t. rw (t, rw t at h) refl) (λ t. rw t (omega arith))
 
   once-changed : (s : ℕ) (ns : List Node) (c : Call) → Grown valued rows ns → answer valued rows ns c ≡ OK → step valued rows ns c ≡ change ns c →
       is-ghost s (change ns c) ≡ is-ghost s ns + at-add (turned s) valued rows ns c
@@ -262,10 +246,8 @@ module _ (valued : Bool) (rows : ℕ) where
       rw e
       (by-test (present s ns)
       (λ t.
-      let n = find s ns in
-      let m = struck ns r p n in
       rw (find-changed (struck ns r p) (struck-round ns r p) s ns (new-node ns r v p ∷ []) t, t)
-      (omega (arith, ap {B = ℕ} (λ b. cond b 1 0) (struck-ghost ns r p n), either-once (has-status GHOST n) (has-status ADDED n && has-status GHOST m) (apart n m))))
+      (omega (arith, ghosts-struck ns r p (find s ns ∷ []))))
       (λ t. absent-once s ns _ t))
   once-changed s ns (commit r) G z e =
       by-test (present s ns)
@@ -278,40 +260,41 @@ module _ (valued : Bool) (rows : ℕ) where
       let gone = find-absent s (map (commit-node r) ns) (present-changed (commit-node r) (committed-round r) s ns ∙ t) in
       rw (gone, find-absent s ns t) refl)
 
-  once-refused : (s : ℕ) (ns : List Node) (c : Call) → step valued rows ns c ≡ ns → is-ghost s ns ≡ is-ghost s ns + at-add (turned s) valued rows ns c
-  once-refused s ns (add r v p) e = rw e (omega (arith, same-once s ns))
-  once-refused s ns (commit r) e = omega arith
-
   -- a call, accepted or refused
+  refused-adds : (f : List Node → List Node → ℕ) (ns : List Node) (c : Call) → step valued rows ns c ≡ ns → f ns ns ≡ 0 → at-add f valued rows ns c ≡ 0
+  refused-adds f ns (add r v p) e h = ap (f ns) e ∙ h
+  refused-adds f ns (commit r) e h = refl
+
   at-call : (g : List Node → ℕ) (f : List Node → List Node → ℕ) →
       ((ns : List Node) (c : Call) → Grown valued rows ns → answer valued rows ns c ≡ OK → step valued rows ns c ≡ change ns c →
       g (change ns c) ≡ g ns + at-add f valued rows ns c) →
-      ((ns : List Node) (c : Call) → step valued rows ns c ≡ ns → g ns ≡ g ns + at-add f valued rows ns c) →
+      ((ns : List Node) → f ns ns ≡ 0) →
       (ns : List Node) (c : Call) → Grown valued rows ns → g (step valued rows ns c) ≡ g ns + at-add f valued rows ns c
-  at-call g f changes refuses ns c G =
+  at-call g f changes stays ns c G =
       by-test (eqb (answer valued rows ns c) OK)
       (λ t. ap g (step-ok valued rows ns c t) ∙ changes ns c G (eqb-true _ OK t) (step-ok valued rows ns c t))
-      (λ t. ap g (step-refused valued rows ns c t) ∙ refuses ns c (step-refused valued rows ns c t))
+      (λ t.
+      let e = step-refused valued rows ns c t in
+      omega (arith, ap g e, refused-adds f ns c e (stays ns)))
 
   grown-fresh : Grown valued rows fresh
   unfolding after
   grown-fresh = all-grown valued rows []
 
-  none-fresh : (r : ℕ) → is-ghost r fresh ≡ 0
-  unfolding find
-  none-fresh r = by-test (has-round r root) (λ t. rw t refl) (λ t. rw t refl)
-
   pub ghosts-add-up : 0 < rows → (cs : List Call) → GhostsAddUp valued rows cs
-  ghosts-add-up pos cs = record {
-    rows-are = omega (
-      arith,
-      adds-up ghost-rows (both ghosts-made ghosts-born) valued rows pos (at-call ghost-rows _ rows-changed rows-refused) fresh grown-fresh cs,
-      both-over ghosts-made ghosts-born valued rows fresh cs,
-    );
-    each-once = λ r. omega (
-      arith,
-      adds-up (is-ghost r) (turned r) valued rows pos (at-call (is-ghost r) _ (once-changed r) (once-refused r)) fresh grown-fresh cs,
-      both-over (once made-ghost r) (once born-ghost r) valued rows fresh cs,
-      none-fresh r,
-    );
-  }
+  ghosts-add-up pos cs =
+      let made-or-born : List Node → List Node → ℕ = both ghosts-made ghosts-born in
+      let none : (ns : List Node) → made-or-born ns ns ≡ 0 = λ ns. omega (arith, ghosts-none ns, born-none ns) in
+      record {
+        rows-are = omega (
+          arith,
+          adds-up ghost-nodes made-or-born valued rows pos (at-call ghost-nodes made-or-born rows-changed none) fresh grown-fresh cs,
+          both-over ghosts-made ghosts-born valued rows fresh cs,
+        );
+        each-once = λ r. omega (
+          arith,
+          adds-up (is-ghost r) (turned r) valued rows pos (at-call (is-ghost r) (turned r) (once-changed r) (same-once r)) fresh grown-fresh cs,
+          both-over (once made-ghost r) (once born-ghost r) valued rows fresh cs,
+          none-fresh r,
+        );
+      }

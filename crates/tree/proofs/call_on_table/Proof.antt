@@ -16,8 +16,8 @@ begun c = c .before .before .before
 table-number-requires : tie.Need-table-number-requires
 table-number-requires c κs = search needs
 
-refused-call-requires : tie.Need-refused-call-requires
-refused-call-requires c κs = search needs
+refused-answer-requires : tie.Need-refused-answer-requires
+refused-answer-requires c κs = search needs
 
 same-length : tie.Need-same-length
 same-length c = search needs
@@ -27,7 +27,7 @@ returns c =
     let b = c .before in
     let n = b .before in
     let a = begun n .args in
-    table-refuses (a .valued) (now (a .t)) (n .table-number .ensures) (call-of (a .call)) _ (c .refused-call .ensures) (b .if1 .taken)
+    table-refuses (a .valued) (now (a .t)) (n .table-number .ensures) (call-of (a .call)) (c .refused-answer .ensures) (b .if1 .taken)
 
 -- the table is a tree
 held : (c : tie.Else1) → let a = begun (c .before) .args in (sized (now (a .t)) ≡ true) × Tree (a .valued) (now (a .t))
@@ -48,4 +48,4 @@ returns-2 c =
     of-tree (held (w .before .before)) (w .call-on-tree .ensures)
 
 pub call-on-table-spec : {M : Type 1} → statement M
-call-on-table-spec = tie.close (tie.spec table-number-requires refused-call-requires same-length returns call-on-tree-requires same-length-2 returns-2)
+call-on-table-spec = tie.close (tie.spec table-number-requires refused-answer-requires same-length returns call-on-tree-requires same-length-2 returns-2)

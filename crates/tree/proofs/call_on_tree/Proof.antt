@@ -2,7 +2,7 @@
 -- nothing.
 use native.Mathlib.Omega.{arith}
 use borrow.Author.Needs.{needs}
-use Rattle.tree.proofs.Calling.{call-refused, done, strikes-few}
+use Rattle.tree.proofs.Calling.{call-refused, done, ghosts-fit}
 use Rattle.tree.proofs.call_on_tree.Statement.{statement}
 use Rattle.tree.proofs.call_on_tree.Tie as tie
 
@@ -13,8 +13,8 @@ begun c = c .before .before .before
 plan-call-requires : tie.Need-plan-call-requires
 plan-call-requires c κs = search needs
 
-refused-call-requires : tie.Need-refused-call-requires
-refused-call-requires c κs = search needs
+refused-answer-requires : tie.Need-refused-answer-requires
+refused-answer-requires c κs = search needs
 
 same-length : tie.Need-same-length
 same-length c = search needs
@@ -24,7 +24,7 @@ returns c =
     let b = c .before in
     let q = b .before .before in
     let s = begun q in
-    call-refused (s .pre .0) (s .pre .1) (q .plan-call .ensures) _ (c .refused-call .ensures) (b .if1 .taken)
+    call-refused (s .pre .0) (s .pre .1) (q .plan-call .ensures) (c .refused-answer .ensures) (b .if1 .taken)
 
 write-call-requires : tie.Need-write-call-requires
 write-call-requires c κs =
@@ -37,7 +37,7 @@ cast-ghosts c =
     let b = c .before .before .before .before .before in
     let q = b .before .before in
     let s = begun q in
-    omega (arith, strikes-few (s .pre .0) (s .pre .1) (q .plan-call .ensures) (b .if1 .left))
+    omega (arith, ghosts-fit (s .pre .0) (s .pre .1) (q .plan-call .ensures) (b .if1 .left))
 
 same-length-2 : tie.Need-same-length-2
 same-length-2 c = search needs
@@ -55,7 +55,7 @@ call-on-tree-spec =
     tie.close
     (tie.spec
     plan-call-requires
-    refused-call-requires
+    refused-answer-requires
     same-length
     returns
     write-call-requires

@@ -1,4 +1,5 @@
--- `tree_crossing::look::look_on` meets its contract: the row is not below r, not above p, or crossed. Assumes nothing.
+-- `tree_crossing::look::look_on` meets its contract: the row is not below r, not above p, or crossed, and then struck or not. Assumes
+-- nothing.
 use mathlib.Core.Path.{ap}
 use native.Mathlib.Omega.{arith}
 use borrow.Author.Needs.{needs}
