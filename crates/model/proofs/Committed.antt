@@ -76,7 +76,11 @@ changed-count : (valued : Bool) (rows : ℕ) (ns : List Node) (c : Call) → Gro
     committed-nodes (change ns c) ≡ committed-nodes ns + commits-in (c ∷ [])
 unfolding change answer commits-in
 changed-count valued rows ns (add r v p) G h =
-    rw (how-many-append (has-status COMMITTED) (map (struck ns r p) ns) (new-node ns r v p ∷ []), kept-count (struck ns r p) ns (λ n i. struck-status ns r p n), new-status ns r v p) refl
+    rw (
+      how-many-append (has-status COMMITTED) (map (struck ns r p) ns) (new-node ns r v p ∷ []),
+      kept-count (struck ns r p) ns (λ n i. struck-status ns r p n),
+      new-status ns r v p,
+    ) refl
 changed-count valued rows ns (commit r) G h =
     let (a, (b, (c, rest))) = passed (causes valued rows ns (commit r)) refl h in
     omega (arith, one-more r ns (grown-distinct valued rows ns G) (not-false (present r ns) b) c)

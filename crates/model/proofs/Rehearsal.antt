@@ -6,8 +6,8 @@ use mathlib.Core.List.{List, [], _∷_}
 use Prim.Native.Nat.{ℕ}
 use Rattle.quorum.specs.Count.{some}
 use Rattle.tree_theory.specs.Machine.{Call, ADDED, GHOST, COMMITTED, Node, node-of, fresh, answers, add, commit, struck, new-node, find, path-in, commit-node}
-use Rattle.tree_theory.specs.Machine.{causes, change, step}
-use Rattle.tree_theory.specs.Machine.{answer as answer-call, after as after-calls}
+use Rattle.tree_theory.specs.Machine.{step}
+use Rattle.tree_theory.specs.Machine.{after as after-calls}
 use Rattle.tree_theory.specs.Ghosts.{ghosts-made, ghosts-born, at-add, over-adds}
 use Rattle.message.specs.declared.Message.the-variants.{Start, Join, JoinVoted, Propose, Vote}
 use Rattle.member_record.specs.Record.{round-number}
@@ -118,7 +118,7 @@ record GhostsMet : Type 0 where
   born-born : born-ghosts (sizes 9 9) (ended (sizes 9 9) born-list) ≡ 1
 
 ghosts-met : GhostsMet
-unfolding each-ghosts ghosts-made ghosts-born over-adds answers step answer-call causes change struck new-node find path-in commit-node event-answers office-after first-office calls after-calls some
+unfolding each-ghosts ghosts-made ghosts-born over-adds answers event-answers office-after first-office calls after-calls some struck new-node find path-in commit-node
 ghosts-met = record {
   values = refl;
   numbers = refl;

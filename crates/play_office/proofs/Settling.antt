@@ -76,7 +76,8 @@ module _ {t : Tally} {M : Memory} (B : StepBefore t M) {e : Event} {i : ℕ} whe
 
   -- an accepted one takes its step
   pub accepted-after : (was : MemberState) {u : Outcome} (M′ : Memory) (a b c d : ℕ) → ModelStep (B .z) (B .o) e i u → event-answer (B .z) (B .o) e ≡ OK →
-      length (u .sent) ≡ a → proposals (made-by (u .named)) ≡ b → decisions (made-by (u .named)) ≡ c → made-ghosts (B .z) (taken (B .z) (B .o) e) ≡ made-ghosts (B .z) (B .o) + d →
+      length (u .sent) ≡ a → proposals (made-by (u .named)) ≡ b → decisions (made-by (u .named)) ≡ c →
+      made-ghosts (B .z) (taken (B .z) (B .o) e) ≡ made-ghosts (B .z) (B .o) + d →
       M′ .store ≡ stored (length (M′ .store)) (B .o .sent ++ u .sent) →
       M′ .table ≡ table (length (M′ .table)) (made-tree (B .z) (taken (B .z) (B .o) e)) →
       StepAfter B e i (after-event was (u .state) (accepted-event (counted t a b c d))) M′

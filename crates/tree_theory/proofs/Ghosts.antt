@@ -15,7 +15,8 @@ use Rattle.numbers.specs.Numbers.{OK}
 use Rattle.tree_theory.specs.Machine.{Call, add, commit, Node, ADDED, GHOST, root, fresh, has-round, has-status, present, find, crossed-with}
 use Rattle.tree_theory.specs.Machine.{strikes, struck, new-node, commit-node, causes, answer, change, step, after}
 use Rattle.tree_theory.specs.Table.{sized, rows, Tree, nodes, call-number, call-table}
-use Rattle.tree_theory.specs.Ghosts.{rounds, made-ghost, ghosts-made, born-ghost, ghosts-born, at-add, over-adds, once, ghost-nodes, GhostsAddUp, stepped-ghosts, table-ghosts}
+use Rattle.tree_theory.specs.Ghosts.{rounds, made-ghost, ghosts-made, born-ghost, ghosts-born, at-add, over-adds, once, ghost-nodes, GhostsAddUp}
+use Rattle.tree_theory.specs.Ghosts.{stepped-ghosts, table-ghosts}
 use Rattle.tree_theory.proofs.Nodes.{find-in, find-new, find-absent, present-changed, find-changed, in-present}
 use Rattle.tree_theory.proofs.Grown.{Grown, found}
 use Rattle.tree_theory.proofs.Paths.{crossing-alone, accepted-parent}
