@@ -1,4 +1,5 @@
-//! The types that a host sees: lists from notation and from events, refusals from numbers, and numbers of every size.
+//! The types that a host sees: lists from notation and from events, refusals from numbers, trees in lent and owned words, rounds made
+//! GHOST, and numbers of every size.
 
 use kalebasin::{made_ghost, nodes, notation, sent};
 use kalebasin::{Event, EventList, Member, Message, MessageNumber, NoRefusal, Refusal, Round};
