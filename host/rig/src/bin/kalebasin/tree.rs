@@ -20,7 +20,7 @@ pub fn tree(options: &Options, out: &mut dyn Write) -> Outcome {
     let ghosts = called.iter().map(|one| one.ghosts).sum();
     let lines: Vec<Line> = called.into_iter().map(line).collect();
     let as_the_second = print_lines(&lines, out)?;
-    print_counts([accepted, lines.len(), ghosts], &table, out)?;
+    print_counts(accepted, lines.len(), ghosts, &table, out)?;
     write!(out, "\n{}", draw::text(&table))?;
     write_file(options.dot.as_deref(), || Ok(draw::dot(&table)))?;
     write_file(options.svg.as_deref(), || Ok(draw::svg(&table)))?;
@@ -34,7 +34,7 @@ fn line(called: Called) -> Line {
 }
 
 /// How many calls were accepted, how many rounds their adds made GHOST, and how many nodes beside the root have each status.
-fn print_counts([accepted, calls, ghosts]: [usize; 3], table: &[u64], out: &mut dyn Write) -> Result<(), Stop> {
+fn print_counts(accepted: usize, calls: usize, ghosts: usize, table: &[u64], out: &mut dyn Write) -> Result<(), Stop> {
     let of = |status: Status| nodes(table).skip(1).filter(|node| node.status == status).count();
     writeln!(
         out,
