@@ -118,9 +118,11 @@ fn check_round(round: Round) -> Result<(), Refusal> {
 /// # Panics
 /// May, where the table's length isn't one of a tree.
 pub fn machine_add(kind: TreeKind, table: &mut [u64], r: u64, v: u64, p: u64) -> Result<u32, Refusal> {
-    let before = table.to_vec();
+    let mut memory = [0; TABLE_ROW * TABLE_ROWS];
+    let before = &mut memory[..table.len()];
+    before.copy_from_slice(table);
     enter(kind, table, r, v, p)?;
-    Ok(made_ghost(&before, table))
+    Ok(made_ghost(before, table))
 }
 
 /// The number of rounds that are ADDED before an add and GHOST after it. A node keeps its row, and that of the new one is
