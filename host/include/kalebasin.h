@@ -120,7 +120,7 @@ typedef struct {
     uint32_t messages;  /* rows of the store that hold a message */
     uint32_t proposals; /* nodes beside the root */
     uint32_t decisions; /* COMMITTED nodes beside the root */
-    uint32_t ghosts;    /* rounds made GHOST: the sum over the adds of its proposals */
+    uint32_t ghosts;    /* rounds made GHOST, the sum over its adds; a node that was GHOST from the first isn't counted */
 } KalebasinPlayResult;
 
 /* Runs a list of events over a whole office. 26, 27, 28, 1.
@@ -231,7 +231,7 @@ KalebasinPathResult kalebasin_tree_path(const uint64_t *table, size_t len, uint3
 /* The last three are the calls of a tree of commands, each after a named earlier one: the same table, but a node has any value. A
  * table is such a tree if they can leave it, from a fresh one; else it gets 2. Every tree of values is a tree of commands. */
 
-/* Adds a round. 1 to 6, 8, 9 in that order. */
+/* Adds a round; ghosts is as above. 1 to 6, 8, 9 in that order. */
 KalebasinAddResult kalebasin_command_add(uint64_t *table, size_t len, uint32_t round, uint64_t value, uint32_t parent);
 
 /* Commits a round. 1, 2, 3, 10, 11, 12. */
