@@ -1,9 +1,10 @@
-//! A program to start a host from: an office of three, in which member 2 takes over from member 1, and member 0 from both.
+//! A program to start a host from: an office of three, in which member 2 takes over member 1's value, and member 0 takes over none,
+//! which makes both their rounds GHOST.
 //!
 //! Run it with `cargo run --release --example office`.
 
 use kalebasin::{made_ghost, nodes, play, read_message, sent};
-use kalebasin::{EventList, Member, MessageNumber, Refusal, Round, ValueTree, STORE_ROW, TABLE_ROW};
+use kalebasin::{EventList, Member, MessageNumber, Played, Refusal, Round, ValueTree, STORE_ROW, TABLE_ROW};
 use std::error::Error;
 use std::io::{self, Write};
 use std::process::ExitCode;
@@ -75,7 +76,7 @@ fn office(out: &mut dyn Write) -> Result<(), Box<dyn Error>> {
         }
     }
 
-    let [proposals, decisions, ghosts] = [played.proposals, played.decisions, played.ghosts];
+    let Played { proposals, decisions, ghosts, .. } = played;
     writeln!(out, "{proposals} proposals, {decisions} decisions, {ghosts} rounds made GHOST")?;
     Ok(())
 }
