@@ -51,6 +51,7 @@ fn every_field_is_documented() {
 #[test]
 fn rounds_made_ghost() {
     let printed = json(MADE_GHOST);
+    assert_eq!(printed.lines().count(), 21);
     let node = |round, parent, value, status| {
         format!("{{\"round\":{round},\"parent\":{parent},\"value\":\"{value}\",\"status\":\"{status}\"}}")
     };
