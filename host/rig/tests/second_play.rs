@@ -216,20 +216,6 @@ fn rounds_born_ghost() {
     assert_eq!(rows(&with_another), [[0, 0, 0, 3], [1, 0, 70, 2], [3, 1, 70, 1], [2, 0, 80, 2]]);
 }
 
-/// A list that is refused as a whole has no counts.
-#[test]
-fn refused_lists_have_no_counts() {
-    let bytes = list(SIDE_BY_SIDE).to_bytes();
-    let with_four = list(&SIDE_BY_SIDE.replace("n=3", "n=4")).to_bytes();
-    let result = |list: &[u8], lent: Lent| play(&second::CALLS, list, &lent).result;
-    let lent = Lent::rows(12, 4, 15);
-    assert_eq!(result(&bytes, lent).map(counts), Ok([15, 12, 3, 0, 2]));
-    assert_eq!(result(&bytes[..bytes.len() - 1], lent), Err(Refusal::ListShape));
-    assert_eq!(result(&with_four, lent), Err(Refusal::OfficeSize));
-    assert_eq!(result(&bytes, Lent { answers: 14, ..lent }), Err(Refusal::StoreOrAnswers));
-    assert_eq!(result(&bytes, Lent { table: 15, ..lent }), Err(Refusal::TableLength));
-}
-
 /// Faults seen on earlier builds, each with a list that shows it.
 #[test]
 fn faults_seen_on_earlier_builds() {
