@@ -93,7 +93,7 @@ fn difference([one, other]: [&Run; 2], call: TreeCall, answers: [Result<usize, R
     if numbers[0] != numbers[1] {
         Some(format!("ANSWERS {}", numbers[1]))
     } else if ghosts[0] != ghosts[1] {
-        Some(format!("COUNTS {} GHOST, NOT {}", ghosts[1], ghosts[0]))
+        Some(format!("MAKES {} GHOST, NOT {}", ghosts[1], ghosts[0]))
     } else if answers[0] != answers[1] || one.path != other.path {
         Some("WRITES ANOTHER PATH".into())
     } else if one.table != other.table {

@@ -471,7 +471,7 @@ fn rounds_counted_otherwise() {
     let faulty = Calls { tree_add: with_itself, ..second::CALLS };
     let list = "add(1,5,0) add(2,5,1) add(5,6,0) add(4,7,0) add(6,6,5) add(6,6,5) add(3,8,0) path(1)".parse().unwrap();
     let (calls, _) = explain(&faulty, &list, 8).unwrap();
-    let told = [None, None, None, Some("COUNTS 0 GHOST, NOT 1"), None, None, Some("COUNTS 0 GHOST, NOT 1"), None];
+    let told = [None, None, None, Some("MAKES 0 GHOST, NOT 1"), None, None, Some("MAKES 0 GHOST, NOT 1"), None];
     assert_eq!(calls.iter().map(|call| call.difference.as_deref()).collect::<Vec<_>>(), told);
     assert_eq!(calls.iter().map(|call| call.ghosts).collect::<Vec<_>>(), [0, 0, 2, 1, 0, 0, 1, 0]);
 }
