@@ -77,7 +77,7 @@ fn accepted(before: &Model, after: &Model, event: &Event, step: &Step) -> String
                     format!("member {member} votes{again} for {value} in round {round} and sends {sent}")
                 }
                 Message::Join { sender, .. } => {
-                    let ghosts = step.proposal.map(|proposal| made_ghost(before, proposal)).unwrap_or_default();
+                    let ghosts = step.proposal.map(|proposal| first_crossed(before, proposal)).unwrap_or_default();
                     counted_join(*sender, was, is, step, &sent) + &ghosts_in_words(ghosts)
                 }
                 Message::Vote { sender, .. } => counted_vote(*sender, is, step),
@@ -115,7 +115,7 @@ fn counted_join(sender: Member, was: &Record, is: &Record, step: &Step, sent: &s
 
 /// The rounds that a proposal makes GHOST: those that its edge crosses and no edge of an earlier one did. No edge crosses a decided
 /// round, by the third demand.
-fn made_ghost(before: &Model, proposal: Proposal) -> Vec<Round> {
+fn first_crossed(before: &Model, proposal: Proposal) -> Vec<Round> {
     let crosses = |edge: Proposal, round: Round| edge.parent < round && round < edge.round;
     let crossed = before.proposals().map(|made| made.round).filter(|round| crosses(proposal, *round));
     crossed.filter(|round| !before.proposals().any(|edge| crosses(edge, *round))).collect()
