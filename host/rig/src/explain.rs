@@ -76,10 +76,7 @@ fn accepted(before: &Model, after: &Model, event: &Event, step: &Step) -> String
                     let again = if was.v == *round { " again" } else { "" };
                     format!("member {member} votes{again} for {value} in round {round} and sends {sent}")
                 }
-                Message::Join { sender, .. } => {
-                    let ghosts = step.proposal.map(|proposal| first_crossed(before, proposal)).unwrap_or_default();
-                    counted_join(*sender, was, is, step, &sent) + &ghosts_in_words(ghosts)
-                }
+                Message::Join { sender, .. } => counted_join(before, *sender, is, step, &sent),
                 Message::Vote { sender, .. } => counted_vote(*sender, is, step),
             }
         }
@@ -95,7 +92,8 @@ fn join_before(before: &Model, step: &Step) -> (&'static str, String) {
     }
 }
 
-fn counted_join(sender: Member, was: &Record, is: &Record, step: &Step, sent: &str) -> String {
+fn counted_join(before: &Model, sender: Member, is: &Record, step: &Step, sent: &str) -> String {
+    let was = &before.members[is.number.0 as usize];
     let needed = quorum(is.n);
     let count = was.counted() + 1;
     let mut words = format!("member {} counts the JOIN of member {sender}, {count} of {needed}", is.number);
@@ -105,8 +103,9 @@ fn counted_join(sender: Member, was: &Record, is: &Record, step: &Step, sent: &s
     if let Some(proposal) = step.proposal {
         let source =
             if proposal.parent.0 == 0 { "its own offer".into() } else { format!("from round {}", proposal.parent) };
+        let ghosts = ghosts_in_words(", which", first_crossed(before, proposal));
         words += &format!(
-            "; that is a quorum: it proposes {} ({source}), add({},{},{}), and sends {sent}",
+            "; that is a quorum: it proposes {} ({source}), add({},{},{}){ghosts}, and sends {sent}",
             proposal.value, proposal.round, proposal.value, proposal.parent
         );
     }

@@ -112,7 +112,7 @@ fn accepted(before: &[u64], after: &Run, call: TreeCall, count: usize) -> String
                 Some(higher) => format!("round {round} is GHOST {place}: round {higher} is there already"),
                 None => format!("round {round} is ADDED {place}"),
             };
-            words + &ghosts_in_words(made_ghost(before, &after.table).collect())
+            words + &ghosts_in_words("; the add", made_ghost(before, &after.table).collect())
         }
         TreeCall::Commit(round) => format!("round {round} becomes COMMITTED"),
         TreeCall::Path(round) => {
@@ -122,12 +122,13 @@ fn accepted(before: &[u64], after: &Run, call: TreeCall, count: usize) -> String
     }
 }
 
-/// What stands behind an add that made these rounds GHOST: `; its edge makes 2 rounds GHOST: rounds 1 and 3`.
-pub(crate) fn ghosts_in_words(rounds: Vec<Round>) -> String {
+/// What stands behind an add that made these rounds GHOST, from the words that name it on: `; the add makes 2 rounds GHOST: rounds 1
+/// and 3`.
+pub(crate) fn ghosts_in_words(the_add: &str, rounds: Vec<Round>) -> String {
     match rounds.len() {
         0 => String::new(),
-        1 => format!("; its edge makes 1 round GHOST: {}", all_named(rounds)),
-        count => format!("; its edge makes {count} rounds GHOST: {}", all_named(rounds)),
+        1 => format!("{the_add} makes 1 round GHOST: {}", all_named(rounds)),
+        count => format!("{the_add} makes {count} rounds GHOST: {}", all_named(rounds)),
     }
 }
 

@@ -346,9 +346,9 @@ fn struck_rounds_in_words() {
             let (status, out, _) = tool_on(on, &["tree", "--kind", &kind.to_string(), "-e", calls], b"");
             assert_eq!(status, 0);
             for words in [
-                "round 4 is ADDED below the root, with the value 6; its edge makes 3 rounds GHOST: rounds 1, 2 and 3\n",
+                "round 4 is ADDED below the root, with the value 6; the add makes 3 rounds GHOST: rounds 1, 2 and 3\n",
                 "round 6 is ADDED below round 4, with the value 6\n",
-                "round 5 is GHOST below the root, with the value 7: round 6 is there already; its edge makes 1 round GHOST: round 4\n",
+                "round 5 is GHOST below the root, with the value 7: round 6 is there already; the add makes 1 round GHOST: round 4\n",
                 "  0  the path of round 3 is 0, 1, 2, 3\n",
             ] {
                 assert!(out.contains(words), "{words}\n{out}");
@@ -372,15 +372,15 @@ fn struck_rounds_of_a_run_in_words() {
         for (at, line) in [
             (
                 19,
-                "it proposes 60 (its own offer), add(4,60,0), and sends PROPOSE (message 15); its edge makes 2 rounds GHOST: rounds \
-                 1 and 2",
+                "it proposes 60 (its own offer), add(4,60,0), which makes 2 rounds GHOST: rounds 1 and 2, and sends PROPOSE (message \
+                 15)",
             ),
             (20, "it proposes 90 (its own offer), add(3,90,0), and sends PROPOSE (message 16)"),
             (22, "21 of 21 events accepted, 17 messages, 4 proposals, 0 decisions, 2 rounds made GHOST"),
         ] {
             assert!(lines[at].ends_with(line), "{line}\n{out}");
         }
-        assert!(status == 0 && out.matches("its edge").count() == 1, "{out}");
+        assert!(status == 0 && out.matches(", which makes ").count() == 1, "{out}");
     }
 }
 
@@ -403,7 +403,8 @@ fn rounds_made_ghost_in_words() {
                 _ => Vec::new(),
             };
             rounds.sort_unstable();
-            let words = one.explained.words.split_once("; its edge makes ").map_or("", |(_, words)| words);
+            let behind = one.explained.words.split_once(", which makes ").map_or("", |(_, behind)| behind);
+            let words = behind.split_once(", and sends PROPOSE ").map_or("", |(words, _)| words);
             let expected = match &rounds[..] {
                 [] => String::new(),
                 [round] => format!("1 round GHOST: round {round}"),
