@@ -5,12 +5,13 @@ use crate::generate::{self, Case};
 use crate::random::Random;
 use crate::second::member::size_allowed;
 use crate::second::model::{Made, Model};
-use crate::second::{self, message, tree};
+use crate::second::{self, message};
 use crate::shrink::{shortest, shrink};
+use crate::trace::model_ghosts;
 use crate::Calls;
 use kalebasin::{
-    made_ghost, nodes, number_of, sent, Event, EventList, Member, Message, MessageNumber, Refusal, Round, Status,
-    TreeKind, STORE_ROW, STORE_ROWS, TABLE_ROW, TABLE_ROWS,
+    nodes, number_of, sent, Event, EventList, Member, Message, MessageNumber, Refusal, Round, Status, STORE_ROW,
+    STORE_ROWS, TABLE_ROW, TABLE_ROWS,
 };
 use std::collections::{HashMap, HashSet};
 use std::sync::atomic::{AtomicU64, Ordering};
@@ -165,28 +166,12 @@ fn counts(_: &Calls, run: &Run) -> Option<String> {
     let rows = run.left.store().chunks(STORE_ROW).filter(|row| row.iter().any(|byte| *byte != 0)).count();
     let added: Vec<_> = nodes(run.left.table()).skip(1).collect();
     let committed = added.iter().filter(|node| node.status == Status::Committed).count();
-    let held = [accepted, rows, added.len(), committed, ghosts(run)].map(|count| count as u32);
+    let of_adds = model_ghosts(&run.model.made, run.case.lent.whole_rows().1);
+    let ghosts = of_adds.expect("a run's table has the length of a tree").iter().map(|(_, ghosts)| ghosts).sum();
+    let [accepted, rows, added, committed] = [accepted, rows, added.len(), committed].map(|count| count as u32);
+    let held = [accepted, rows, added, committed, ghosts];
     let said = [played.accepted, played.messages, played.proposals, played.decisions, played.ghosts];
     (held != said).then(|| format!("{held:?} are held and {said:?} are said"))
-}
-
-/// How many rounds the model's adds make GHOST, by the tables before and after each.
-fn ghosts(run: &Run) -> usize {
-    let mut table = vec![0; run.case.lent.table];
-    tree::fresh(&mut table).expect("a run's table has the length of a tree");
-    let mut ghosts = 0;
-    for at in &run.model.made {
-        let before = table.clone();
-        let _ = match at.made {
-            Made::Proposal(made) => {
-                let (round, parent) = (made.round.0.into(), made.parent.0.into());
-                tree::machine_add(TreeKind::Value, &mut table, round, made.value, parent).map(|_| ())
-            }
-            Made::Decision(made) => tree::machine_commit(&mut table, made.round.0.into()),
-        };
-        ghosts += made_ghost(&before, &table).count();
-    }
-    ghosts
 }
 
 fn answers(_: &Calls, run: &Run) -> Option<String> {

@@ -2,9 +2,10 @@
 
 use crate::explain::{explain_event, Explained};
 use crate::second::member::Record;
-use crate::second::model::{Made, Model};
+use crate::second::model::{Made, MadeAt, Model};
+use crate::second::tree;
 use crate::Calls;
-use kalebasin::{nodes, Event, EventList, Member, Message, MessageNumber, Node, Refusal, Round, TreeKind};
+use kalebasin::{made_ghost, nodes, Event, EventList, Member, Message, MessageNumber, Node, Refusal, Round, TreeKind};
 use kalebasin::{TABLE_ROW, TABLE_ROWS};
 
 /// One event and what came of it. The answer is the one given by the implementation asked for; the tree is made by its
@@ -119,4 +120,33 @@ fn enter(calls: &Calls, table: &mut [u64], made: Made) -> (Vec<Node>, Option<u32
     };
     let changed = nodes(table).enumerate().filter(|(row, node)| before.get(*row) != Some(node));
     (changed.map(|(_, node)| node).collect(), ghosts)
+}
+
+/// How many rounds each add of what a model made makes GHOST, with the event that made the proposal: by the tables before and after
+/// it, from a fresh one of so many rows on.
+///
+/// # Errors
+/// 1 where no tree has so many rows.
+///
+/// # Panics
+/// Where the tree refuses something made. What a model makes gets OK: the third demand.
+pub fn model_ghosts(made: &[MadeAt], table_rows: usize) -> Result<Vec<(usize, u32)>, Refusal> {
+    // One row more than a tree has is enough to be refused.
+    let mut table = vec![0; table_rows.min(TABLE_ROWS + 1) * TABLE_ROW];
+    tree::fresh(&mut table)?;
+    let mut ghosts = Vec::new();
+    for at in made {
+        match at.made {
+            Made::Proposal(made) => {
+                let before = table.clone();
+                tree::machine_add(TreeKind::Value, &mut table, made.round.0.into(), made.value, made.parent.0.into())
+                    .expect("a proposal gets OK in the tree");
+                ghosts.push((at.event, made_ghost(&before, &table).count() as u32));
+            }
+            Made::Decision(made) => {
+                tree::machine_commit(&mut table, made.round.0.into()).expect("a decision gets OK in the tree");
+            }
+        }
+    }
+    Ok(ghosts)
 }

@@ -3,14 +3,14 @@
 //! on earlier builds, and the third demand on random lists.
 
 use kalebasin::notation::parse;
-use kalebasin::{nodes, number_of, sent, EventList, Message, Played, Refusal, Status, TreeKind};
+use kalebasin::{nodes, number_of, sent, EventList, Message, Played, Refusal, Round, Status};
 use kalebasin_rig::compare::{play, Left, Lent};
 use kalebasin_rig::random::Random;
 use kalebasin_rig::search::{Run, ALWAYS};
 use kalebasin_rig::second;
 use kalebasin_rig::second::model::Made;
-use kalebasin_rig::second::tree;
 use kalebasin_rig::suite::REHEARSAL;
+use kalebasin_rig::trace::model_ghosts;
 use kalebasin_rig::{generate, rehearsal};
 use std::collections::HashMap;
 
@@ -290,26 +290,13 @@ impl Reached {
     }
 }
 
-/// The rounds that the model's proposals made GHOST, by the tables before and after each, and those that were GHOST from
-/// the first. Play says the first, and the two are all that are GHOST at the end.
+/// The rounds that the model's proposals made GHOST, and those that were GHOST from the first, since a higher one was proposed before.
+/// Play says the first, and the two are all that are GHOST at the end.
 fn ghosts(run: &Run) -> [u32; 2] {
-    let mut table = vec![0; run.left.table().len()];
-    tree::fresh(&mut table).unwrap();
-    let (mut made, mut born) = (0, 0);
-    for at in &run.model.made {
-        match at.made {
-            Made::Proposal(proposal) => {
-                let [r, p] = [proposal.round, proposal.parent].map(|round| u64::from(round.0));
-                let before: Vec<Status> = nodes(&table).map(|node| node.status).collect();
-                tree::machine_add(TreeKind::Value, &mut table, r, proposal.value, p).unwrap();
-                let is_ghost: Vec<bool> = nodes(&table).map(|node| node.status == Status::Ghost).collect();
-                let turned = before.iter().zip(&is_ghost).filter(|(was, is)| **was == Status::Added && **is);
-                made += turned.count() as u32;
-                born += u32::from(is_ghost[before.len()]);
-            }
-            Made::Decision(decision) => tree::machine_commit(&mut table, decision.round.0.into()).unwrap(),
-        }
-    }
+    let of_adds = model_ghosts(&run.model.made, run.case.lent.whole_rows().1).unwrap();
+    let made = of_adds.iter().map(|(_, ghosts)| ghosts).sum();
+    let rounds: Vec<Round> = run.model.proposals().map(|made| made.round).collect();
+    let born = (0..rounds.len()).filter(|at| rounds[..*at].iter().any(|before| *before > rounds[*at])).count() as u32;
     let left = nodes(run.left.table()).filter(|node| node.status == Status::Ghost).count() as u32;
     assert_eq!((run.left.result.unwrap().ghosts, left), (made, made + born), "{}", run.case.list);
     [made, born]
