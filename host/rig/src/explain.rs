@@ -3,6 +3,7 @@
 use crate::explain_tree::ghosts_in_words;
 use crate::second::member::{quorum, Proposal, Record, Step, COLLECTING, DECIDED, IDLE, PROPOSED};
 use crate::second::model::Model;
+use crate::trace::model_ghosts;
 use kalebasin::{Event, EventList, Member, Message, MessageNumber, Refusal, Round};
 
 /// An event, or a call of a tree, in words.
@@ -36,6 +37,21 @@ pub struct Explained {
 pub fn explain(list: &EventList, store_rows: usize, table_rows: usize) -> Result<Vec<Explained>, Refusal> {
     let mut model = Model::new(list.n, store_rows, table_rows)?;
     Ok(list.events.iter().map(|event| explain_event(&mut model, event)).collect())
+}
+
+/// What the model does otherwise than a play of a list that says how many rounds its adds made GHOST: `MAKES 2 GHOST`.
+///
+/// # Errors
+/// 27 where N isn't 3, 5 or 7; 1 where no tree has so many rows.
+pub fn ghosts_otherwise(
+    list: &EventList,
+    ghosts: u32,
+    store_rows: usize,
+    table_rows: usize,
+) -> Result<Option<String>, Refusal> {
+    let (model, _) = Model::run(list, store_rows, table_rows)?;
+    let made: u32 = model_ghosts(&model.made, table_rows)?.iter().map(|(_, ghosts)| ghosts).sum();
+    Ok((ghosts != made).then(|| format!("MAKES {made} GHOST")))
 }
 
 /// Takes the next event of a run and puts it in words.

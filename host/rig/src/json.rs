@@ -108,6 +108,7 @@ pub fn event(at: usize, happened: &Happened) -> Json {
         ("sent", or_null(happened.sent, |(number, message)| sent(number.0, &message))),
         ("made", or_null(happened.made, made)),
         ("ghosts", or_null(happened.ghosts, number)),
+        ("model_ghosts", or_null(happened.model_ghosts, number)),
         ("late", or_null(happened.late, |round| number(round.0))),
         ("before", or_null(happened.before, |before| record(&before))),
         ("after", or_null(happened.after, |after| record(&after))),

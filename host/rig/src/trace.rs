@@ -26,6 +26,8 @@ pub struct Happened {
     pub made: Option<Made>,
     /// How many rounds the add of a proposal made GHOST, as the implementation answers.
     pub ghosts: Option<u32>,
+    /// How many the add of the model's proposal makes so.
+    pub model_ghosts: Option<u32>,
     /// The highest round proposed, if the event decides a lower one.
     pub late: Option<Round>,
     /// The member's record before the event; none where there is no such member.
@@ -50,9 +52,9 @@ impl Happened {
         self.before.map(|record| record.number)
     }
 
-    /// Whether the answer given is the model's.
+    /// Whether the answer given and the number of rounds made GHOST are the model's.
     pub fn as_the_model(&self) -> bool {
-        self.answer == self.explained.answer
+        self.answer == self.explained.answer && self.ghosts == self.model_ghosts
     }
 }
 
@@ -73,9 +75,15 @@ pub fn trace(
     let mut table = vec![0; table_rows.min(TABLE_ROWS + 1) * TABLE_ROW];
     (calls.tree_fresh)(&mut table)?;
     let events = list.events.iter().zip(answers);
-    Ok(events.map(|(event, answer)| happened(calls, &mut model, &mut table, event, *answer)).collect())
+    let mut trace: Vec<Happened> =
+        events.map(|(event, answer)| happened(calls, &mut model, &mut table, event, *answer)).collect();
+    for (event, ghosts) in model_ghosts(&model.made, table_rows)? {
+        trace[event].model_ghosts = Some(ghosts);
+    }
+    Ok(trace)
 }
 
+/// One event; the model's count of rounds made GHOST isn't there yet.
 fn happened(calls: &Calls, model: &mut Model, table: &mut [u64], event: &Event, answer: u8) -> Happened {
     let before = model.member(event.member()).copied();
     let (sent, made) = (model.sent.len(), model.made.len());
@@ -94,6 +102,7 @@ fn happened(calls: &Calls, model: &mut Model, table: &mut [u64], event: &Event, 
         sent: model.sent.get(sent).map(|message| (MessageNumber(sent as u32), *message)),
         made,
         ghosts,
+        model_ghosts: None,
         late: made.and_then(|made| later_proposed(model, made)),
         before,
         after: model.member(event.member()).copied(),

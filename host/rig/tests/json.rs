@@ -41,7 +41,7 @@ fn every_field_is_documented() {
         printed.split("\":").filter_map(|part| part.rsplit_once('"')).map(|part| part.1).collect();
     names.sort_unstable();
     names.dedup();
-    assert_eq!(names.len(), 34, "{names:?}");
+    assert_eq!(names.len(), 35, "{names:?}");
     for name in names {
         assert!(documented().contains(&format!("`{name}`")), "{name}");
     }
@@ -64,7 +64,7 @@ fn rounds_made_ghost() {
             20 => ("0", node(3, 0, 90, "GHOST")),
             _ => ("null", String::new()),
         };
-        assert!(line.contains(&format!(",\"ghosts\":{ghosts},\"late\":null,")), "{line}");
+        assert!(line.contains(&format!(",\"ghosts\":{ghosts},\"model_ghosts\":{ghosts},\"late\":null,")), "{line}");
         assert!(line.ends_with(&format!(",\"nodes\":[{nodes}]}}")), "{line}");
     }
 }

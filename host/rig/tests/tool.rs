@@ -5,14 +5,15 @@
 mod svg;
 
 use kalebasin::notation::{parse, parse_tree};
-use kalebasin::{nodes, Event, EventList, Node, Refusal, Round, Status, TreeKind};
+use kalebasin::{nodes, Event, EventList, Node, Played, Refusal, Round, Status, TreeKind};
 use kalebasin_rig::compare::{play, Lent};
+use kalebasin_rig::explain::ghosts_otherwise;
 use kalebasin_rig::explain_tree::explain;
 use kalebasin_rig::random::Random;
 use kalebasin_rig::second::model::Made;
 use kalebasin_rig::suite::{LOST_JOIN, MADE_GHOST, REHEARSAL};
 use kalebasin_rig::trace::trace;
-use kalebasin_rig::{draw, generate, second, Calls};
+use kalebasin_rig::{draw, generate, json, second, Calls};
 use std::ffi::OsStr;
 use std::io::{BufRead, BufReader, Write};
 use std::os::unix::ffi::OsStrExt;
@@ -475,6 +476,37 @@ fn rounds_counted_otherwise() {
     let told = [None, None, None, Some("MAKES 0 GHOST, NOT 1"), None, None, Some("MAKES 0 GHOST, NOT 1"), None];
     assert_eq!(calls.iter().map(|call| call.difference.as_deref()).collect::<Vec<_>>(), told);
     assert_eq!(calls.iter().map(|call| call.ghosts).collect::<Vec<_>>(), [0, 0, 2, 1, 0, 0, 1, 0]);
+}
+
+/// A play that says another number of rounds made GHOST than the model's adds make is told, and an add of a run that does isn't as the
+/// model, with both numbers in its JSON.
+#[test]
+fn rounds_of_a_run_counted_otherwise() {
+    fn one_less(list: &[u8], store: &mut [u8], table: &mut [u64], answers: &mut [u8]) -> Result<Played, Refusal> {
+        let mut played = (second::CALLS.play)(list, store, table, answers)?;
+        played.ghosts -= 1;
+        Ok(played)
+    }
+    fn one_more(kind: TreeKind, table: &mut [u64], round: Round, value: u64, parent: Round) -> Result<u32, Refusal> {
+        second::tree::add(kind, table, round, value, parent).map(|ghosts| ghosts + u32::from(ghosts > 0))
+    }
+    let list = parse(MADE_GHOST, None).unwrap();
+    let told = |calls: &Calls| {
+        let left = play(calls, &list.to_bytes(), &Lent::rows(100, 64, list.events.len()));
+        let trace = trace(calls, &list, left.answers(), 100, 64).unwrap();
+        let others: Vec<String> = (0..trace.len())
+            .filter(|at| !trace[*at].as_the_model())
+            .map(|at| json::event(at, &trace[at]).to_string())
+            .collect();
+        (ghosts_otherwise(&list, left.result.unwrap().ghosts, 100, 64).unwrap(), others)
+    };
+    assert_eq!(told(&second::CALLS), (None, Vec::new()));
+    assert_eq!(told(&Calls { play: one_less, ..second::CALLS }), (Some("MAKES 2 GHOST".into()), Vec::new()));
+    let (sum, others) = told(&Calls { tree_add: one_more, ..second::CALLS });
+    assert_eq!((sum, others.len()), (None, 1));
+    assert!(others[0].starts_with("{\"number\":19,"), "{others:?}");
+    assert!(others[0].contains(",\"answer\":0,\"model_answer\":0,"), "{others:?}");
+    assert!(others[0].contains(",\"ghosts\":3,\"model_ghosts\":2,"), "{others:?}");
 }
 
 #[test]

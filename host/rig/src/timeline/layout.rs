@@ -191,7 +191,7 @@ fn items(one: &Happened, delivered: bool) -> Vec<Item> {
 
 /// What an event answers; with the model's answer, if that is another.
 pub fn answer(one: &Happened) -> String {
-    match one.as_the_model() {
+    match one.answer == one.explained.answer {
         true => one.answer.to_string(),
         false => format!("{}, model {}", one.answer, one.explained.answer),
     }

@@ -99,7 +99,7 @@ fn traced(options: &Options, case: &Case, left: &Left) -> Result<Vec<Happened>, 
     trace(&calls(options), &case.list, left.answers(), store_rows, table_rows)
 }
 
-/// An object for each event; whether all answers are those of the model.
+/// An object for each event; whether all answers, and all counts of rounds made GHOST, are those of the model.
 fn print_json(trace: &[Happened], out: &mut dyn Write) -> Result<bool, Stop> {
     for (at, one) in trace.iter().enumerate() {
         writeln!(out, "{}", json::event(at, one))?;
@@ -107,12 +107,12 @@ fn print_json(trace: &[Happened], out: &mut dyn Write) -> Result<bool, Stop> {
     Ok(trace.iter().all(Happened::as_the_model))
 }
 
-/// Each event in words, the counts and the tree; whether all answers are those of the model.
+/// Each event in words, the counts and the tree; whether all answers, and the count of rounds made GHOST, are those of the model.
 pub fn explain_run(case: &Case, left: &Left, out: &mut dyn Write) -> Result<bool, Stop> {
-    let as_the_model = print_events(case, left.answers(), out)?;
-    print_counts(&case.list, left, out)?;
+    let answers = print_events(case, left.answers(), out)?;
+    let counts = print_counts(case, left, out)?;
     write!(out, "\n{}", draw::text(left.table()))?;
-    Ok(as_the_model)
+    Ok(answers && counts)
 }
 
 /// One line for each event; whether all answers are those of the model.
@@ -148,19 +148,25 @@ pub fn print_lines(lines: &[Line], out: &mut dyn Write) -> Result<bool, Stop> {
     Ok(lines.iter().all(|line| line.otherwise.is_none()))
 }
 
-fn print_counts(list: &EventList, left: &Left, out: &mut dyn Write) -> Result<(), Stop> {
-    let Ok(played) = left.result else { return Ok(()) };
+/// The counts, and a line where the model makes more or fewer rounds GHOST; whether it doesn't.
+fn print_counts(case: &Case, left: &Left, out: &mut dyn Write) -> Result<bool, Stop> {
+    let played = left.result?;
     writeln!(
         out,
         "\n{} of {} accepted, {}, {}, {}, {} made GHOST",
         played.accepted,
-        count(list.events.len(), "event"),
+        count(case.list.events.len(), "event"),
         count(played.messages as usize, "message"),
         count(played.proposals as usize, "proposal"),
         count(played.decisions as usize, "decision"),
         count(played.ghosts as usize, "round")
     )?;
-    Ok(())
+    let (store_rows, table_rows) = case.lent.whole_rows();
+    let otherwise = explain::ghosts_otherwise(&case.list, played.ghosts, store_rows, table_rows)?;
+    if let Some(otherwise) = &otherwise {
+        writeln!(out, "THE MODEL {otherwise}")?;
+    }
+    Ok(otherwise.is_none())
 }
 
 /// `1 event` or `3 events`.
