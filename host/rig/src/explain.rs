@@ -2,7 +2,7 @@
 
 use crate::explain_tree::ghosts_in_words;
 use crate::second::member::{quorum, Proposal, Record, Step, COLLECTING, DECIDED, IDLE, PROPOSED};
-use crate::second::model::Model;
+use crate::second::model::{Breach, Model};
 use crate::trace::model_ghosts;
 use kalebasin::{Event, EventList, Member, Message, MessageNumber, Refusal, Round};
 
@@ -39,7 +39,8 @@ pub fn explain(list: &EventList, store_rows: usize, table_rows: usize) -> Result
     Ok(list.events.iter().map(|event| explain_event(&mut model, event)).collect())
 }
 
-/// What the model does otherwise than a play of a list that says how many rounds its adds made GHOST: `MAKES 2 GHOST`.
+/// What the model does otherwise than a play of a list that says how many rounds its adds made GHOST: `MAKES 2 GHOST`. Where the tree
+/// refuses something that the model made, there is no such number.
 ///
 /// # Errors
 /// 27 where N isn't 3, 5 or 7; 1 where no tree has so many rows.
@@ -50,7 +51,11 @@ pub fn ghosts_otherwise(
     table_rows: usize,
 ) -> Result<Option<String>, Refusal> {
     let (model, _) = Model::run(list, store_rows, table_rows)?;
-    let made: u32 = model_ghosts(&model.made, table_rows)?.iter().map(|(_, ghosts)| ghosts).sum();
+    let made: u32 = match model_ghosts(&model.made, table_rows) {
+        Ok(of_adds) => of_adds.iter().map(|(_, ghosts)| ghosts).sum(),
+        Err(Breach::Table(refusal)) => return Err(refusal),
+        Err(breach) => return Ok(Some(format!("BREAKS THE THIRD DEMAND: {breach}"))),
+    };
     Ok((ghosts != made).then(|| format!("MAKES {made} GHOST")))
 }
 

@@ -166,8 +166,10 @@ fn counts(_: &Calls, run: &Run) -> Option<String> {
     let rows = run.left.store().chunks(STORE_ROW).filter(|row| row.iter().any(|byte| *byte != 0)).count();
     let added: Vec<_> = nodes(run.left.table()).skip(1).collect();
     let committed = added.iter().filter(|node| node.status == Status::Committed).count();
-    let of_adds = model_ghosts(&run.model.made, run.case.lent.whole_rows().1);
-    let ghosts = of_adds.expect("a run's table has the length of a tree").iter().map(|(_, ghosts)| ghosts).sum();
+    let ghosts = match model_ghosts(&run.model.made, run.case.lent.whole_rows().1) {
+        Ok(of_adds) => of_adds.iter().map(|(_, ghosts)| ghosts).sum(),
+        Err(breach) => return Some(breach.to_string()),
+    };
     let [accepted, rows, added, committed] = [accepted, rows, added.len(), committed].map(|count| count as u32);
     let held = [accepted, rows, added, committed, ghosts];
     let said = [played.accepted, played.messages, played.proposals, played.decisions, played.ghosts];

@@ -2,14 +2,14 @@
 
 use crate::explain::{explain_event, Explained};
 use crate::second::member::Record;
-use crate::second::model::{Made, MadeAt, Model};
+use crate::second::model::{Breach, Made, MadeAt, Model};
 use crate::second::tree;
 use crate::Calls;
 use kalebasin::{made_ghost, nodes, Event, EventList, Member, Message, MessageNumber, Node, Refusal, Round, TreeKind};
 use kalebasin::{TABLE_ROW, TABLE_ROWS};
 
 /// One event and what came of it. The answer is the one given by the implementation asked for; the tree is made by its
-/// calls; all else comes from the model.
+/// calls, which tell how many rounds an add made GHOST; all else comes from the model.
 #[derive(Clone, Debug, PartialEq, Eq, Hash)]
 pub struct Happened {
     /// The event.
@@ -77,7 +77,8 @@ pub fn trace(
     let events = list.events.iter().zip(answers);
     let mut trace: Vec<Happened> =
         events.map(|(event, answer)| happened(calls, &mut model, &mut table, event, *answer)).collect();
-    for (event, ghosts) in model_ghosts(&model.made, table_rows)? {
+    // Where the tree refuses something made, no count is the model's.
+    for (event, ghosts) in model_ghosts(&model.made, table_rows).unwrap_or_default() {
         trace[event].model_ghosts = Some(ghosts);
     }
     Ok(trace)
@@ -135,26 +136,22 @@ fn enter(calls: &Calls, table: &mut [u64], made: Made) -> (Vec<Node>, Option<u32
 /// it, from a fresh one of so many rows on.
 ///
 /// # Errors
-/// 1 where no tree has so many rows.
-///
-/// # Panics
-/// Where the tree refuses something made. What a model makes gets OK: the third demand.
-pub fn model_ghosts(made: &[MadeAt], table_rows: usize) -> Result<Vec<(usize, u32)>, Refusal> {
+/// Where no tree has so many rows, and where the tree refuses something made.
+pub fn model_ghosts(made: &[MadeAt], table_rows: usize) -> Result<Vec<(usize, u32)>, Breach> {
     // One row more than a tree has is enough to be refused.
     let mut table = vec![0; table_rows.min(TABLE_ROWS + 1) * TABLE_ROW];
-    tree::fresh(&mut table)?;
+    tree::fresh(&mut table).map_err(Breach::Table)?;
     let mut ghosts = Vec::new();
     for at in made {
+        let refused = |refusal| Breach::Refused(*at, refusal);
         match at.made {
             Made::Proposal(made) => {
                 let before = table.clone();
                 tree::machine_add(TreeKind::Value, &mut table, made.round.0.into(), made.value, made.parent.0.into())
-                    .expect("a proposal gets OK in the tree");
+                    .map_err(refused)?;
                 ghosts.push((at.event, made_ghost(&before, &table).count() as u32));
             }
-            Made::Decision(made) => {
-                tree::machine_commit(&mut table, made.round.0.into()).expect("a decision gets OK in the tree");
-            }
+            Made::Decision(made) => tree::machine_commit(&mut table, made.round.0.into()).map_err(refused)?,
         }
     }
     Ok(ghosts)

@@ -4,16 +4,16 @@
 use kalebasin::notation::parse;
 use kalebasin::{EventList, Member, Message, Refusal, Round, TreeKind};
 use kalebasin_rig::compare::{play, Lent};
-use kalebasin_rig::explain::explain;
+use kalebasin_rig::explain::{explain, ghosts_otherwise};
 use kalebasin_rig::generate::{self, Case};
 use kalebasin_rig::random::Random;
 use kalebasin_rig::search::{clean_case, few_events, Run, Search, Source, ALWAYS};
-use kalebasin_rig::second::member::fresh;
-use kalebasin_rig::second::model::{Breach, Model};
+use kalebasin_rig::second::member::{fresh, Decision, Proposal};
+use kalebasin_rig::second::model::{Breach, Made, MadeAt, Model};
 use kalebasin_rig::second::tree::is_tree;
 use kalebasin_rig::shrink::shrink;
 use kalebasin_rig::suite::REHEARSAL;
-use kalebasin_rig::trace::trace;
+use kalebasin_rig::trace::{model_ghosts, trace};
 use kalebasin_rig::{draw, explain_tree, page, second, timeline};
 
 const NO_OFFICES: [u32; 8] = [0, 1, 2, 4, 6, 8, 9, u32::MAX];
@@ -34,6 +34,7 @@ fn offices_that_are_none() {
         assert_eq!(Model::new(n, 20, 4).err(), refused);
         assert_eq!(Model::run(&list, 20, 4).err(), refused);
         assert_eq!(explain(&list, 20, 4).err(), refused);
+        assert_eq!(ghosts_otherwise(&list, 0, 20, 4).err(), refused);
         assert_eq!(trace(&second::CALLS, &list, &[0; 15], 20, 4).err(), refused);
         assert_eq!(generate::list(&mut Random::new(1), n, 9, 20, 4).err(), refused);
         assert_eq!(few_events(n).err(), refused);
@@ -76,6 +77,8 @@ fn tables_of_every_size() {
     for rows in [0, 257, usize::MAX] {
         let (model, _) = Model::run(&list(3), usize::MAX, rows).unwrap();
         assert_eq!(model.third_demand(), Err(Breach::Table(Refusal::TableLength)));
+        assert_eq!(model_ghosts(&model.made, rows), Err(Breach::Table(Refusal::TableLength)));
+        assert_eq!(ghosts_otherwise(&list(3), 0, 20, rows).err(), Some(Refusal::TableLength));
         assert_eq!(trace(&second::CALLS, &list(3), &[0; 15], 20, rows).err(), Some(Refusal::TableLength));
         let calls = "add(1,70,0)".parse().unwrap();
         assert_eq!(explain_tree::explain(&second::CALLS, &calls, rows).err(), Some(Refusal::TableLength));
@@ -83,6 +86,16 @@ fn tables_of_every_size() {
     for words in [0, 1, 3, 5, 1_023, 1_025, 4_096] {
         assert!(TreeKind::ALL.iter().all(|kind| !is_tree(*kind, &vec![0; words])), "{words}");
     }
+}
+
+/// What the tree refuses of what was made is told, and no round is counted.
+#[test]
+fn made_what_the_tree_refuses() {
+    let decided = MadeAt { event: 4, made: Made::Decision(Decision { round: Round(1), value: 70 }) };
+    assert_eq!(model_ghosts(&[decided], 4), Err(Breach::Refused(decided, Refusal::RoundAbsent)));
+    let proposed = Made::Proposal(Proposal { round: Round(1), value: 70, parent: Round(2) });
+    let proposed = MadeAt { event: 0, made: proposed };
+    assert_eq!(model_ghosts(&[proposed, decided], 4), Err(Breach::Refused(proposed, Refusal::ParentAbsent)));
 }
 
 /// Nodes that are their own parents or one another's don't keep a drawing from its end.
