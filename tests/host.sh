@@ -34,6 +34,25 @@ difference_told() {
     [ $? -eq 1 ] && [ "$(grep -c '[A-Z] IMPLEMENTATION' "$work/told")" -eq 1 ] && grep -qx ' *THE SECOND IMPLEMENTATION ANSWERS 7' "$work/told"
 }
 
+# An archive whose play counts a round too many: a run says how many the model makes GHOST, and has the status of that, in JSON too.
+sum_told() {
+    rm -rf "$work/other" && mkdir "$work/other" && cp "${archives[@]}" "$work/other" &&
+        (cd "$work/other" && ar x libexports.a && objcopy --redefine-sym kalebasin_play=own_play exports.o) &&
+        cc -Ihost/include -x c -c -o "$work/other/play.o" - <<'C' && (cd "$work/other" && ar rc libexports.a exports.o play.o) || return
+#include "kalebasin.h"
+KalebasinPlayResult own_play(const uint8_t *, size_t, uint8_t *, size_t, uint64_t *, size_t, uint8_t *, size_t);
+KalebasinPlayResult kalebasin_play(const uint8_t *l, size_t n, uint8_t *s, size_t m, uint64_t *t, size_t k, uint8_t *a, size_t b) {
+    KalebasinPlayResult r = own_play(l, n, s, m, t, k, a, b);
+    r.ghosts++;
+    return r;
+}
+C
+    (cd host && KALEBASIN_LIB=$work/other cargo run --offline --quiet -- run -e 's(1,1,70)') >"$work/told"
+    [ $? -eq 1 ] && [ "$(grep -cx 'THE MODEL MAKES 0 GHOST' "$work/told")" -eq 1 ] || return
+    (cd host && KALEBASIN_LIB=$work/other cargo run --offline --quiet -- run --json -e 's(1,1,70)') >"$work/told"
+    [ $? -eq 1 ] && [ "$(wc -l <"$work/told")" -eq 1 ]
+}
+
 build_examples() {
     (cd host && cargo build --offline --examples)
 }
@@ -79,6 +98,7 @@ check "the example machines takes other arguments than its own" arguments_told "
 check "an archive of another version isn't told" other_version_told exports kalebasin_version
 check "an archive of another version with one member isn't told" other_version_told exports_member kalebasin_member_version
 check "a tree call that the core answers otherwise isn't told" difference_told
+check "a sum that play counts otherwise isn't told" sum_told
 
 cargo_tests --no-fail-fast
 passed=$((passed + ran))

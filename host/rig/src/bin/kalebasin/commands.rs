@@ -82,7 +82,7 @@ fn run_list(options: &Options, out: &mut dyn Write) -> Outcome {
     let (store_rows, table_rows) = case.lent.whole_rows();
     let (n, name) = (case.list.n, calls(options).name);
     let as_the_model = if options.json {
-        print_json(&traced(options, &case, &left)?, out)?
+        print_json(&traced(options, &case, &left)?, out)? && sum_otherwise(&case, &left)?.is_none()
     } else {
         writeln!(out, "{n} members, {store_rows} store rows, {table_rows} table rows, on {name}\n")?;
         explain_run(&case, &left, out)?
@@ -161,12 +161,17 @@ fn print_counts(case: &Case, left: &Left, out: &mut dyn Write) -> Result<bool, S
         count(played.decisions as usize, "decision"),
         count(played.ghosts as usize, "round")
     )?;
-    let (store_rows, table_rows) = case.lent.whole_rows();
-    let otherwise = explain::ghosts_otherwise(&case.list, played.ghosts, store_rows, table_rows)?;
+    let otherwise = sum_otherwise(case, left)?;
     if let Some(otherwise) = &otherwise {
         writeln!(out, "THE MODEL {otherwise}")?;
     }
     Ok(otherwise.is_none())
+}
+
+/// What the model does otherwise than play's sum of rounds made GHOST.
+fn sum_otherwise(case: &Case, left: &Left) -> Result<Option<String>, Refusal> {
+    let (store_rows, table_rows) = case.lent.whole_rows();
+    explain::ghosts_otherwise(&case.list, left.result?.ghosts, store_rows, table_rows)
 }
 
 /// `1 event` or `3 events`.
