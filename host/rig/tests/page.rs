@@ -10,7 +10,7 @@ use kalebasin_rig::draw;
 use kalebasin_rig::second::member::Record;
 use kalebasin_rig::second::model::{Made, Model};
 use kalebasin_rig::second::tree;
-use kalebasin_rig::suite::REHEARSAL;
+use kalebasin_rig::suite::{MADE_GHOST, REHEARSAL};
 use kalebasin_rig::trace::Happened;
 use runs::{happened, random_list, REFUSALS, STORE_ROWS, TABLE_ROWS};
 use std::io::Write;
@@ -154,6 +154,23 @@ fn answers_have_words() {
         assert_eq!(browser.value(tip), words(one));
         browser.mouse(x, y, true);
         assert_eq!(browser.value("document.getElementById('place').innerText"), format!("{at}: {}", one.event));
+    }
+}
+
+/// An answer, and a number of rounds made GHOST, that isn't the model's is told beside the model's.
+#[test]
+#[ignore = "needs chromium"]
+fn others_than_the_models_are_told() {
+    let mut trace = happened(&parse(MADE_GHOST, None).unwrap());
+    (trace[0].answer, trace[19].ghosts) = (19, Some(3));
+    let file = PathBuf::from(env!("CARGO_TARGET_TMPDIR")).join("others.html");
+    std::fs::write(&file, kalebasin_rig::page::page(3, "another", &trace)).unwrap();
+    let mut browser = browser();
+    browser.open(&file);
+    for (at, told) in [(0, " The model answers 0."), (1, ""), (19, " It makes 3 GHOST, in the model 2.")] {
+        let (x, y) = answer_place(&mut browser, at);
+        browser.mouse(x, y, false);
+        assert_eq!(browser.value("probes.tip()"), words(&trace[at]) + told);
     }
 }
 

@@ -83,7 +83,8 @@ function showTree(at) {
 function wordsOf(event) {
     const answer = event.answer === 0 ? "0: accepted" : `${event.answer}: ${event.cause}`;
     const model = event.answer === event.model_answer ? "" : ` The model answers ${event.model_answer}.`;
-    return `${answer}. ${event.words}.${model}`;
+    const ghosts = event.ghosts === event.model_ghosts ? "" : ` It makes ${event.ghosts} GHOST, in the model ${event.model_ghosts}.`;
+    return `${answer}. ${event.words}.${model}${ghosts}`;
 }
 
 // Records and tree after the event that the slider stands on; -1 is before the first.
