@@ -242,10 +242,11 @@ fn messages_never_delivered_are_stubs() {
     assert!(stubs > 100);
 }
 
-/// Badges of what was made; a decision after a higher round was proposed has a frame and a ring, and says so.
+/// Badges of what was made; a decision after a higher round was proposed has a frame and a ring, and says so, and an add that makes
+/// rounds GHOST says how many.
 #[test]
 fn proposals_and_decisions_have_badges() {
-    let mut late_ones = 0;
+    let (mut late_ones, mut ghosts) = (0, 0);
     for drawn in DRAWN.iter() {
         let mut highest = Round::ROOT;
         for (at, one) in drawn.trace.iter().enumerate() {
@@ -264,9 +265,13 @@ fn proposals_and_decisions_have_badges() {
             assert_eq!(drawn.in_row(at, "frame").len(), if late { 2 } else { 0 });
             assert_eq!(drawn.texts(at).contains(&format!("late: round {highest} was proposed").as_str()), late);
             late_ones += usize::from(late);
+            let made = one.ghosts.filter(|made| *made > 0).map(|made| format!("makes {made} GHOST"));
+            let found = drawn.texts(at).into_iter().find(|text| text.starts_with("makes "));
+            assert_eq!(found, made.as_deref());
+            ghosts += usize::from(made.is_some());
         }
     }
-    assert!(late_ones > 10);
+    assert!(late_ones > 10 && ghosts > 10);
 }
 
 /// Each round has a colour of its own, which its arrows and labels have; also with as many rounds as events.

@@ -33,7 +33,7 @@ pub enum Item {
     Commit(String),
     /// The same after a higher round was proposed.
     Late(String),
-    /// Words to a late decision.
+    /// Words to a late decision, or to an add that makes rounds GHOST.
     Note(String),
     /// A message that is never delivered.
     Stub(String),
@@ -173,6 +173,9 @@ fn items(one: &Happened, delivered: bool) -> Vec<Item> {
     match (one.made, one.late) {
         (Some(Made::Proposal(made)), _) => {
             items.push(Item::Add(format!("add({},{},{})", made.round, made.value, made.parent)));
+            if let Some(ghosts) = one.ghosts.filter(|ghosts| *ghosts > 0) {
+                items.push(Item::Note(format!("makes {ghosts} GHOST")));
+            }
         }
         (Some(Made::Decision(made)), None) => {
             items.push(Item::Commit(format!("commit({}) = {}", made.round, made.value)))
