@@ -167,8 +167,8 @@ static int commands(void) {
     return 0;
 }
 
-/* Rounds 1 and 2 are made GHOST by round 5. Rounds 4 and 6 are GHOST from the first and aren't counted; round 6 makes one round GHOST, 5. A copy of the
-   table tells which. */
+/* Rounds 1 and 2 are made GHOST by round 5. Rounds 4 and 6 are GHOST from the first and aren't counted; round 6 makes one round GHOST, 5.
+   A copy of the table tells which. A refused add counts none, though its edge crosses round 7, which is ADDED. */
 static int ghosts(KalebasinAddResult (*add)(uint64_t *, size_t, uint32_t, uint64_t, uint32_t)) {
     uint64_t table[28], before[28];
     EXPECT(kalebasin_tree_fresh(table, 28) == 0);
@@ -181,7 +181,7 @@ static int ghosts(KalebasinAddResult (*add)(uint64_t *, size_t, uint32_t, uint64
     EXPECT(got(add(table, 28, 4, 5, 2), 0, 0) && table[16] == 4 && table[19] == KALEBASIN_GHOST);
     EXPECT(got(add(table, 28, 7, 6, 5), 0, 0) && table[12] == 5 && table[15] == KALEBASIN_ADDED);
     EXPECT(got(add(table, 28, 6, 8, 0), 0, 1) && table[15] == KALEBASIN_GHOST && table[27] == KALEBASIN_GHOST);
-    EXPECT(got(add(table, 28, 8, 6, 7), KALEBASIN_NO_FREE_ROW, 0));
+    EXPECT(got(add(table, 28, 8, 9, 0), KALEBASIN_NO_FREE_ROW, 0) && table[23] == KALEBASIN_ADDED);
     return 0;
 }
 
