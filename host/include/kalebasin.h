@@ -128,7 +128,8 @@ typedef struct {
  * list:    XDR words, high byte first: N, the count, then for each event 1, member, round, offer (8 bytes),
  *          or 2, message number, member.
  * store:   1 to 2,000 rows of 28 bytes. It is cleared; message k, from 0, stands at the front of row k.
- * table:   1 to 256 rows of 4 words: round, parent, value, status. It is made fresh before the first event.
+ * table:   1 to 256 rows of 4 words: round, parent, value, status. It is made fresh before the first event. In what it is left, a
+ *          GHOST node with a higher round in a row above was GHOST from the first; the other GHOST nodes are those that ghosts counts.
  * answers: at least a byte for each event, which gets 0, 3, 9, 19, 20, 22, 24, 25, 29 or 30; bytes behind them stay.
  */
 KalebasinPlayResult kalebasin_play(const uint8_t *list, size_t list_len,

@@ -24,6 +24,7 @@ pub struct PlayResult {
     /// COMMITTED nodes beside the root.
     pub decisions: u32,
     /// Rounds that were made GHOST, each by a later proposal; a node that was GHOST from the first isn't among them.
+    /// [`Played`](crate::Played) says how to tell them in the table left.
     pub ghosts: u32,
 }
 

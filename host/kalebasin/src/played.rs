@@ -14,7 +14,8 @@ pub struct Played {
     pub proposals: u32,
     /// COMMITTED nodes beside the root.
     pub decisions: u32,
-    /// Rounds that were made GHOST, each by a later proposal; a node that was GHOST from the first isn't among them.
+    /// Rounds that were made GHOST, each by a later proposal; a node that was GHOST from the first isn't among them. Such a node has
+    /// a higher round in a row above, and no other GHOST node of the table left has.
     pub ghosts: u32,
 }
 

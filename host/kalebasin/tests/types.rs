@@ -186,7 +186,7 @@ fn trees_in_words_lent_and_owned() {
 }
 
 /// An add answers how many rounds were ADDED before it and are GHOST after it; a copy of the table tells which. Those that were GHOST
-/// before aren't counted, nor is the new one, which rounds 4 and 6 here are from the first.
+/// before aren't counted, nor is the new one, though it may be GHOST from the first, as rounds 4 and 6 here.
 #[cfg(feature = "core")]
 #[test]
 fn rounds_made_ghost() {
