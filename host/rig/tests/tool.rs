@@ -259,6 +259,21 @@ fn the_notes_in_words() {
     }
 }
 
+/// The list of docs/host-notes.md whose last event makes rounds GHOST, with the line of that event.
+#[test]
+fn the_notes_on_rounds_made_ghost() {
+    let notes = include_str!("../../../docs/host-notes.md");
+    let (_, section) = notes.split_once("makes GHOST, and which, as in the last event of\n\n").unwrap();
+    let mut shown = section.lines().filter_map(|line| line.strip_prefix("    "));
+    let (list, line) = (shown.next().unwrap(), shown.next().unwrap());
+    assert!(line.contains("which makes 2 rounds GHOST: rounds 1 and 2, and sends"), "{line}");
+    for on in IMPLEMENTATIONS {
+        let (status, out, _) = tool_on(on, &["run", "-e", list], b"");
+        assert_eq!((status, out.lines().nth(2 + 15)), (0, Some(line)), "{out}");
+        assert!(out.contains(", 3 proposals, 0 decisions, 2 rounds made GHOST\n"), "{out}");
+    }
+}
+
 /// A START that comes again: joined again without a vote and with one, and refused after a vote in its round and in a higher
 /// round, as a PROPOSE is there.
 #[test]
