@@ -43,7 +43,7 @@ pub record TakenList (list : List ℕ) (L : Lent) (r : PlayAnswer) (L′ : Lent)
   -- proposals are the nodes less the root, decisions the COMMITTED less the root
   pub proposals-are : suc (r .proposals) ≡ length (nodes (L′ .memory .table))
   pub decisions-are : suc (r .decisions) ≡ committed-nodes (nodes (L′ .memory .table))
-  -- the GHOST nodes are as many as proposals made so, and as were born so
+  -- the GHOST nodes are as many as the proposals made GHOST, and as were born GHOST
   pub ghosts-left : ghost-nodes (nodes (L′ .memory .table)) ≡ r .ghosts + born-ghosts (sizes-of list (L .memory)) (ended (sizes-of list (L .memory)) (events-of list))
   -- and round by round: one that is GHOST was made so by one proposal or was born so, and any other by none
   pub ghosts-once : (k : ℕ) →

@@ -111,11 +111,16 @@ ghosts-none : (ns : List Node) → ghosts-made ns ns ≡ 0
 unfolding ghosts-made
 ghosts-none ns = how-many-none (made-ghost ns ns) (rounds ns) (λ r m. not-both (find r ns))
 
+-- a call that leaves the table counts nothing, where a table beside itself counts nothing
+refused-adds : (f : List Node → List Node → ℕ) (valued : Bool) (rows : ℕ) (ns : List Node) (c : Call) → step valued rows ns c ≡ ns → f ns ns ≡ 0 →
+    at-add f valued rows ns c ≡ 0
+refused-adds f valued rows ns (add r v p) e h = ap (f ns) e ∙ h
+refused-adds f valued rows ns (commit r) e h = refl
+
 -- a refused call makes none GHOST
 pub none-refused : (valued : Bool) (rows : ℕ) (ns : List Node) (c : Call) → eqb (answer valued rows ns c) OK ≡ false →
     at-add ghosts-made valued rows ns c ≡ 0
-none-refused valued rows ns (add r v p) t = ap (ghosts-made ns) (step-refused valued rows ns (add r v p) t) ∙ ghosts-none ns
-none-refused valued rows ns (commit r) t = refl
+none-refused valued rows ns c t = refused-adds ghosts-made valued rows ns c (step-refused valued rows ns c t) (ghosts-none ns)
 
 pub table-none : (valued : Bool) (ws : List ℕ) (c : Call) → eqb (call-number valued ws c) OK ≡ false → table-ghosts valued ws c ≡ 0
 unfolding table-ghosts
@@ -184,12 +189,11 @@ unfolding over-adds
 both-over f g valued rows ns [] = refl
 both-over f g valued rows ns (c ∷ cs) = omega (arith, both-at f g valued rows ns c, both-over f g valued rows (step valued rows ns c) cs)
 
--- ---- row by row
 born-none : (ns : List Node) → ghosts-born ns ns ≡ 0
 unfolding ghosts-born
 born-none ns = how-many-map (born-ghost ns ns) (λ n. n .round) ns ∙ how-many-none _ ns (λ n m. rw (in-present ns m) refl)
 
--- ---- round by round: a list of the round's node alone
+-- ---- of one round: a list of its node alone
 abbrev is-ghost : ℕ → List Node → ℕ
 is-ghost r ns = ghost-nodes (find r ns ∷ [])
 
@@ -211,7 +215,7 @@ unfolding find
 none-fresh r = by-test (has-round r root) (λ t. rw t refl) (λ t. rw t refl)
 
 module _ (valued : Bool) (rows : ℕ) where
-  -- the new node alone is born
+  -- ---- row by row: the new node alone is born
   born-new : (ns : List Node) (r v p : ℕ) → answer valued rows ns (add r v p) ≡ OK →
       ghosts-born ns (change ns (add r v p)) ≡ ghost-nodes (new-node ns r v p ∷ [])
   unfolding ghosts-born change answer new-node
@@ -240,6 +244,7 @@ module _ (valued : Bool) (rows : ℕ) where
   rows-changed ns (commit r) G z e =
       omega (arith, how-many-map (has-status GHOST) (commit-node r) ns, how-many-same _ _ ns (committed-ghost valued rows ns r G z))
 
+  -- ---- round by round
   once-changed : (s : ℕ) (ns : List Node) (c : Call) → Grown valued rows ns → answer valued rows ns c ≡ OK → step valued rows ns c ≡ change ns c →
       is-ghost s (change ns c) ≡ is-ghost s ns + at-add (turned s) valued rows ns c
   unfolding change
@@ -261,11 +266,7 @@ module _ (valued : Bool) (rows : ℕ) where
       let gone = find-absent s (map (commit-node r) ns) (present-changed (commit-node r) (committed-round r) s ns ∙ t) in
       rw (gone, find-absent s ns t) refl)
 
-  -- a call, accepted or refused
-  refused-adds : (f : List Node → List Node → ℕ) (ns : List Node) (c : Call) → step valued rows ns c ≡ ns → f ns ns ≡ 0 → at-add f valued rows ns c ≡ 0
-  refused-adds f ns (add r v p) e h = ap (f ns) e ∙ h
-  refused-adds f ns (commit r) e h = refl
-
+  -- ---- a call, accepted or refused
   at-call : (g : List Node → ℕ) (f : List Node → List Node → ℕ) →
       ((ns : List Node) (c : Call) → Grown valued rows ns → answer valued rows ns c ≡ OK → step valued rows ns c ≡ change ns c →
       g (change ns c) ≡ g ns + at-add f valued rows ns c) →
@@ -276,7 +277,7 @@ module _ (valued : Bool) (rows : ℕ) where
       (λ t. ap g (step-ok valued rows ns c t) ∙ changes ns c G (eqb-true _ OK t) (step-ok valued rows ns c t))
       (λ t.
       let e = step-refused valued rows ns c t in
-      omega (arith, ap g e, refused-adds f ns c e (stays ns)))
+      omega (arith, ap g e, refused-adds f valued rows ns c e (stays ns)))
 
   grown-fresh : Grown valued rows fresh
   unfolding after

@@ -1,4 +1,5 @@
--- `play_effects::propose` meets its contract: 30, 9, or a message in its row, a node in the table, one more of both counted, and the rounds made GHOST. Assumes nothing.
+-- `play_effects::propose` meets its contract: 30, 9, or a message in its row, a node in the table, one more of both counted, and the rounds made GHOST.
+-- Assumes nothing.
 use mathlib.Core.Path.{_≡_, refl, sym, ap, _∙_}
 use mathlib.Core.Bool.{true, false}
 use Prim.Native.Nat.{ℕ}
