@@ -224,26 +224,28 @@ fn refused_results_field_by_field() {
     assert_eq!(paths, [ffi::PathResult { number: 2, count: 0 }; 2]);
 }
 
-/// A refused add counts none and changes nothing, though its edge crosses rounds that are ADDED: of a tree that is full, and of one
-/// whose last round is COMMITTED.
+/// A refused add counts none and changes nothing, though its edge crosses a round that is ADDED. Of three full tables the second has
+/// a COMMITTED round, and the third is a tree of commands alone.
 #[test]
 fn refused_adds_count_none() {
     type Add = unsafe extern "C" fn(*mut u64, usize, u32, u64, u32) -> ffi::AddResult;
     let adds: [Add; 2] = [ffi::kalebasin_tree_add, ffi::kalebasin_command_add];
-    let tables = [1, 3].map(|last| [0, 0, 0, 3, 2, 0, 70, 1, 4, 2, 70, last]);
-    for (full, round, value, parent, numbers) in [
-        (0, 1_000_001, 70, 0, [3, 3]),
-        (0, 4, 70, 0, [4, 4]),
-        (0, 5, 70, 1, [5, 5]),
-        (0, 5, 80, 2, [7, 9]),
-        (1, 5, 80, 0, [8, 8]),
-        (0, 5, 80, 0, [9, 9]),
+    let table = |value, status| [0, 0, 0, 3, 2, 0, 70, 1, 4, 2, value, status];
+    let [added, committed, commands] = [table(70, 1), table(70, 3), table(80, 1)];
+    for (before, round, value, parent, numbers) in [
+        (commands, 5, 80, 0, [2, 9]),
+        (added, 1_000_001, 70, 0, [3, 3]),
+        (added, 4, 70, 0, [4, 4]),
+        (added, 5, 70, 1, [5, 5]),
+        (added, 5, 80, 2, [7, 9]),
+        (committed, 5, 80, 0, [8, 8]),
+        (added, 5, 80, 0, [9, 9]),
     ] {
         for (add, number) in adds.into_iter().zip(numbers) {
-            let mut table: [u64; 12] = tables[full];
+            let mut table = before;
             // SAFETY: pointer and length come from one array.
             let result = unsafe { add(table.as_mut_ptr(), table.len(), round, value, parent) };
-            assert_eq!((result, table), (ffi::AddResult { number, ghosts: 0 }, tables[full]));
+            assert_eq!((result, table), (ffi::AddResult { number, ghosts: 0 }, before));
         }
     }
 }
