@@ -8,7 +8,6 @@ use Rattle.member.specs.declared.rows.MessageRow.{MessageRow}
 use Rattle.member.specs.Table.{delivers, sound-step}
 use Rattle.member.specs.ByRow.{row-of, taking, by-row}
 use Rattle.member.specs.Answers.{MoveIs}
-use Rattle.member.proofs.Checks.{adopting-who}
 
 row-step : (m : MemberState) (g : Message) → by-row m g (row-of g) ≡ sound-step m (delivers g)
 unfolding row-of taking sound-step
@@ -22,12 +21,3 @@ row-step m (Vote r s) = refl
 pub row-moves : (m : MemberState) (g : Message) {w : MessageRow} → w ≡ row-of g → {t : Move} → MoveIs (by-row m g w) t →
     MoveIs (sound-step m (delivers g)) t
 row-moves m g q d = record { equals = d .equals ∙ ap (by-row m g) q ∙ row-step m g; numbered = d .numbered }
-
--- a vote taken over leaves the group that says who the member is
-pub taking-who : (m : MemberState) (g : Message) → taking m g .who ≡ m .who
-unfolding taking
-taking-who m (Start r s) = refl
-taking-who m (Join r s) = refl
-taking-who m (JoinVoted r s q w) = adopting-who m q w
-taking-who m (Propose r s v) = refl
-taking-who m (Vote r s) = refl

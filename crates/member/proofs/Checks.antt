@@ -16,7 +16,6 @@ use Rattle.message.specs.Fields.{in-range}
 use Rattle.message.specs.declared.Message.the-variants.{Start, Join, JoinVoted, Propose, Vote}
 use Rattle.member_record.specs.declared.MemberState.{MemberState}
 use Rattle.member_rules.specs.Causes.{count-causes}
-use Rattle.member_rules.specs.Changes.{adopting}
 use Rattle.member.specs.declared.StepAnswer.{StepAnswer}
 use Rattle.member.specs.declared.StepAnswer.the-variants.{Refused, Sent, Proposed}
 use Rattle.member.specs.declared.Move.{Move}
@@ -53,11 +52,6 @@ module _ (phase : ℕ) (r : Round) {m d : MemberState} {b : Bool} (same : d ≡ 
   complete-move h q =
       let e : completes phase d r ≡ after-count phase d r = rw (← is, not-false b h) refl in
       record { equals = q .equals ∙ e ∙ ap (λ k. after-count phase k r) same; numbered = q .numbered }
-
--- a vote taken over leaves the group that says who the member is
-pub adopting-who : (m : MemberState) (q : Round) (w : ℕ) → adopting m q w .who ≡ m .who
-unfolding adopting
-adopting-who m q w = by-test (ltb (m .lead .source .0) (q .0)) (λ t. rw t refl) (λ t. rw t refl)
 
 -- each number is a byte
 abbrev all-bytes : List Cause → Bool

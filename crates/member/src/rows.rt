@@ -83,7 +83,6 @@ fn on_start(m: MemberState, r: Round, s: Member) -> Move
 
 // Whether the flags are as many as the phase needs.
 fn is_complete(m: MemberState) -> bool
-    requires { ⌜ 1 ≤ m .who .n ⌝ }
     ensures { λ b. ⌜ b ≡ complete m ⌝ }
 {
     let flags = m.lead.flags;
@@ -137,7 +136,7 @@ fn end_phase(phase: u32, m: MemberState, r: Round) -> Move
 
 // A JOIN or VOTE is counted; short of what the phase needs, nothing is sent or named.
 fn count(phase: u32, m: MemberState, r: Round, s: Member) -> Move
-    requires { ⌜ (1 ≤ m .who .n) × (s .0 < 7) ⌝ }
+    requires { ⌜ s .0 < 7 ⌝ }
     ensures { λ t. ⌜ MoveIs (count-row phase m r s) t ⌝ }
 {
     let counted = counting(m, s);
@@ -152,7 +151,7 @@ fn count(phase: u32, m: MemberState, r: Round, s: Member) -> Move
 
 // JOIN r or VOTE r, each awaited in its phase: where it isn't refused it is counted in `taken`, the record with the vote that a JOIN carries.
 fn on_count(phase: u32, m: MemberState, taken: MemberState, r: Round, s: Member) -> Move
-    requires { ⌜ (1 ≤ m .who .n) × (m .who .n ≤ 7) × (taken .who ≡ m .who) ⌝ }
+    requires { ⌜ m .who .n ≤ 7 ⌝ }
     ensures { λ t. ⌜ MoveIs (unless (count-causes phase m r s) m (count-row phase taken r s)) t ⌝ }
 {
     let number = check_count(m, phase, r, s);

@@ -3,10 +3,10 @@
 use mathlib.Core.Path.{_≡_, refl, ap}
 use mathlib.Core.Bool.{true}
 use Prim.Native.Nat.{ℕ, _<_}
-use native.Mathlib.Omega.{arith}
 use lib.Dec.{ltb}
 use Rattle.laws.specs.Tests.{tests}
 use Rattle.quorum.specs.Quorum.{quorum}
+use Rattle.quorum.proofs.Cases.{quorum-some}
 use Rattle.member_record.specs.declared.Who.{Who}
 use Rattle.member_record.specs.Phases.{PROPOSED, DECIDED, needed}
 use Rattle.member_record.specs.Record.{flagged, no-flags}
@@ -14,7 +14,7 @@ use Rattle.member_record.proofs.Flags.{cleared-count}
 
 pub needed-some : (w : Who) (phase : ℕ) → 0 < needed w phase
 unfolding needed
-needed-some w phase = omega arith
+needed-some w phase = quorum-some (w .n)
 
 pub needed-alike : (w v : Who) (phase : ℕ) → w .n ≡ v .n → needed w phase ≡ needed v phase
 unfolding needed

@@ -18,7 +18,7 @@ PROPOSED = 2
 abbrev pub DECIDED : ℕ
 DECIDED = 3
 
--- the flags that a phase needs to end: joins while collecting, votes once proposed; decided, it has the votes that it needed. f+1 each
+-- the flags that a phase needs to end: joins while collecting, votes once proposed; decided, it has the votes that it needed. The quorum each
 unfoldable pub needed : Who → ℕ → ℕ
 unfolding quorum
 needed w phase = quorum (w .n)

@@ -78,7 +78,6 @@ pub fn changes_durable(before: Durable, after: Durable) -> bool
 
 // How many flags a phase needs to end, or ended with: the quorum of the office in each.
 pub fn needed(who: Who, phase: u32) -> u32
-    requires { ⌜ 1 ≤ who .n ⌝ }
     ensures { λ k. ⌜ k ≡ needed who phase ⌝ }
 {
     quorum_of(who.n)

@@ -60,7 +60,6 @@ fn idle_sound(l: Lead) -> bool
 
 // Fewer flags than needed while they are counted, as many once it is decided.
 fn count_sound(who: Who, l: Lead) -> bool
-    requires { ⌜ 1 ≤ who .n ⌝ }
     ensures { λ b. ⌜ b ≡ sound-count who l ⌝ }
 {
     let flags = l.flags;

@@ -1,3 +1,4 @@
--- Facts about counts and quorums, for every number of members.
+-- Facts about counts and quorums, for every number of members, and the three sizes.
 pub mod Counts
 pub mod Meet
+pub mod Cases

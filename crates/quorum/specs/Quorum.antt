@@ -1,12 +1,26 @@
--- Quorums: enough of the members 0 to n-1, each with a property.
+-- Quorums: how many members an office needs, and enough of the members 0 to n-1, each with a property.
 use mathlib.Core.Path.{_≡_}
-use mathlib.Core.Bool.{Bool, true}
-use Prim.Native.Nat.{ℕ, _+_, _-_, _/_, _<_, _≤_}
+use mathlib.Core.Bool.{Bool, true, cond}
+use Prim.Native.Nat.{ℕ, _+_, _*_, _<_, _≤_}
+use lib.Dec.{eqb}
 use Rattle.quorum.specs.Count.{count}
 
--- f = (N-1)/2, quorum f+1 (01, "Members")
+-- more than the flags of a record: in an office of another size no count is a quorum
+abbrev pub NO-QUORUM : ℕ
+NO-QUORUM = 8
+
+-- a case for each size (02, request 4): 2 of 3, 3 of 5, 4 of 7
 unfoldable pub quorum : ℕ → ℕ
-quorum n = (n - 1) / 2 + 1
+quorum n =
+    cond (eqb n 3) 2
+    (cond (eqb n 5) 3
+    (cond (eqb n 7) 4
+    NO-QUORUM))
+
+-- k of n is f+1 of 2f+1 (01, "Members")
+pub record Majority (k n f : ℕ) : Type 0 where
+  pub asked : k ≡ f + 1
+  pub members : n ≡ 2 * f + 1
 
 -- at least k of the n members have the property P
 pub record HasQuorum (n k : ℕ) (P : ℕ → Type 0) : Type 0 where

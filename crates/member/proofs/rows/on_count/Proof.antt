@@ -22,10 +22,8 @@ returns c =
 
 count-requires : tie.Need-count-requires
 count-requires c κs =
-    let entry = c .before .before in
-    let args = entry .args in
-    let sender = check-sender (args .phase) (args .m) (args .r) (args .s) (c .before .check-count .ensures) (c .if1 .left) in
-    (rw (entry .pre .2) (omega arith), omega (arith, sender))
+    let args = c .before .before .args in
+    omega (arith, check-sender (args .phase) (args .m) (args .r) (args .s) (c .before .check-count .ensures) (c .if1 .left))
 
 returns-2 : tie.Need-returns-2
 returns-2 c =

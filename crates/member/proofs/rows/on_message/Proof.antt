@@ -1,6 +1,6 @@
 -- `member::rows::on_message` meets its contract: it goes by the message's row. Assumes nothing.
 use mathlib.Core.Path.{sym, _∙_}
-use Rattle.member.proofs.ByRow.{row-moves, taking-who}
+use Rattle.member.proofs.ByRow.{row-moves}
 use borrow.Author.Needs.{needs}
 use Rattle.member.proofs.rows.on_message.Statement.{statement}
 use Rattle.member.proofs.rows.on_message.Tie as tie
@@ -25,9 +25,7 @@ taking-requires : tie.Need-taking-requires
 taking-requires c κs = search needs
 
 on-count-requires : tie.Need-on-count-requires
-on-count-requires c κs =
-    let s = found c .before in
-    (s .pre .0, s .pre .1, rw (c .taking .ensures) (taking-who (s .args .m) (s .args .g)))
+on-count-requires c κs = search needs
 
 enum-known-row-3 : tie.Need-enum-known-row-3
 enum-known-row-3 c = search needs
