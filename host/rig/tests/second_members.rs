@@ -303,7 +303,15 @@ fn vote_messages() {
 
 #[test]
 fn quorums() {
-    assert_eq!([3, 5, 7].map(kalebasin_rig::second::member::quorum), [2, 3, 4]);
+    use kalebasin_rig::second::member::quorum;
+
+    assert_eq!([3, 5, 7].map(quorum), [2, 3, 4]);
+    for f in 1..=3 {
+        assert_eq!(quorum(2 * f + 1), f + 1, "f = {f}");
+    }
+    for n in [0, 1, 2, 4, 6, 8, 9, u32::MAX] {
+        assert_eq!(quorum(n), u32::MAX, "N = {n}");
+    }
 }
 
 /// A step's line: the number, the message sent, what is proposed or decided.

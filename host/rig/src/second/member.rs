@@ -68,9 +68,14 @@ pub struct Step {
     pub decision: Option<Decision>,
 }
 
-/// f + 1 of N = 2f + 1.
+/// f + 1 of N = 2f + 1, for each N allowed. Any other N gets a number that no count of the flags reaches.
 pub fn quorum(n: u32) -> u32 {
-    n / 2 + 1
+    match n {
+        3 => 2,
+        5 => 3,
+        7 => 4,
+        _ => u32::MAX,
+    }
 }
 
 /// A fresh member.
