@@ -256,6 +256,22 @@ fn refused() -> Vec<(Record, Call)> {
     ]
 }
 
+/// Each size of an office, each phase and each number of flags, with the call that tells them apart: a JOIN or VOTE of a
+/// member that isn't flagged yet, where there is one, and a start of a member that has decided.
+fn each_count() -> Vec<(Record, Call)> {
+    let record = |n: u32, phase, counted: u32| {
+        let flags = std::array::from_fn(|at| at < counted as usize);
+        Record { j: Round(n), l: Round(n), phase, x: 70, flags, ..member(0, n) }
+    };
+    let call = |n: u32, phase, counted: u32| match phase {
+        COLLECTING => join(n, counted.min(n - 1)),
+        PROPOSED => vote(n, counted.min(n - 1)),
+        _ => starts(2 * n, 80),
+    };
+    let sizes = [3, 5, 7].into_iter().flat_map(|n| [COLLECTING, PROPOSED, DECIDED].map(|phase| (n, phase)));
+    sizes.flat_map(|(n, phase)| (0..=n).map(move |k| (record(n, phase, k), call(n, phase, k)))).collect()
+}
+
 /// A message with one word changed, cut off, or longer than its kind.
 fn damaged(message: &[u8]) -> Vec<Vec<u8>> {
     let with = |at: usize, word: u32| {
@@ -290,7 +306,7 @@ fn by_hand() -> Vec<Case> {
     for (record, call) in acceptable() {
         [0, 27, 28, 40].iter().for_each(|room| add(record, &call, *room));
     }
-    for (record, call) in refused() {
+    for (record, call) in refused().into_iter().chain(each_count()) {
         add(record, &call, 28);
     }
     for call in each_call() {
@@ -464,6 +480,22 @@ fn every_start() {
         ] {
             assert!(rows.contains(&row), "{row:?}");
         }
+    }
+}
+
+/// The flag that makes 2 of 3, 3 of 5 or 4 of 7 ends phase 1 or 2, and a record with as many there isn't sound; in phase 3 a
+/// record with exactly as many is.
+#[test]
+fn every_count() {
+    for (record, call) in each_count() {
+        let quorum = [(3, 2), (5, 3), (7, 4)].into_iter().find(|(n, _)| *n == record.n).unwrap().1;
+        let (sound, ends) = match record.phase {
+            DECIDED => (record.counted() == quorum, false),
+            _ => (record.counted() < quorum, record.counted() + 1 == quorum),
+        };
+        let (number, line) = Case { record, call, room: 28 }.worked();
+        let named = line.split(' ').nth(2).unwrap();
+        assert_eq!((number, named != "0"), (if sound { 0 } else { 17 }, ends), "{record:?}: {line}");
     }
 }
 

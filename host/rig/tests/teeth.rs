@@ -117,6 +117,9 @@ const FAULTS: &[Fault] = &[
         "replay == table\n",
         "replay[..table.len() - 1] == table[..table.len() - 1]\n",
     ),
+    Fault("the quorum is 3 of 3", "member.rs", "3 => 2,", "3 => 3,"),
+    Fault("the quorum is 2 of 5", "member.rs", "5 => 3,", "5 => 2,"),
+    Fault("the quorum is 3 of 7", "member.rs", "7 => 4,", "7 => 3,"),
     Fault("a VOTE of no member is counted", "member.rs", "if sender.0 >= self.n {", "if sender.0 >= 7 {"),
     Fault("B may be the round led", "member.rs", "self.b < self.l && flags_fit", "self.b <= self.l && flags_fit"),
     Fault(
