@@ -117,7 +117,7 @@ fn counted_join(before: &Model, sender: Member, is: &Record, step: &Step, sent: 
     let was = &before.members[is.number.0 as usize];
     let needed = quorum(is.n);
     let count = was.counted() + 1;
-    let mut words = format!("member {} counts the JOIN of member {sender}, {count} of {needed}", is.number);
+    let mut words = format!("member {} counts the JOIN of member {sender}, {count} of {needed} needed", is.number);
     if is.b != was.b {
         words += &format!("; its vote for {} in round {} replaces {}", is.x, is.b, was.x);
     }
@@ -126,8 +126,8 @@ fn counted_join(before: &Model, sender: Member, is: &Record, step: &Step, sent: 
             if proposal.parent.0 == 0 { "its own offer".into() } else { format!("from round {}", proposal.parent) };
         let ghosts = ghosts_in_words(", which", first_crossed(before, proposal));
         words += &format!(
-            "; that is a quorum: it proposes {} ({source}), add({},{},{}){ghosts}, and sends {sent}",
-            proposal.value, proposal.round, proposal.value, proposal.parent
+            "; that is a quorum, {needed} of {}: it proposes {} ({source}), add({},{},{}){ghosts}, and sends {sent}",
+            is.n, proposal.value, proposal.round, proposal.value, proposal.parent
         );
     }
     words
@@ -142,12 +142,13 @@ fn first_crossed(before: &Model, proposal: Proposal) -> Vec<Round> {
 }
 
 fn counted_vote(sender: Member, is: &Record, step: &Step) -> String {
+    let needed = quorum(is.n);
     let mut words =
-        format!("member {} counts the VOTE of member {sender}, {} of {}", is.number, is.counted(), quorum(is.n));
+        format!("member {} counts the VOTE of member {sender}, {} of {needed} needed", is.number, is.counted());
     if let Some(decision) = step.decision {
         words += &format!(
-            "; that is a quorum: round {} decides {}, commit({})",
-            decision.round, decision.value, decision.round
+            "; that is a quorum, {needed} of {}: round {} decides {}, commit({})",
+            is.n, decision.round, decision.value, decision.round
         );
     }
     words
