@@ -165,7 +165,7 @@ KalebasinWriteResult kalebasin_write_message(uint32_t kind, uint32_t round, uint
 /* A member record. Any numbers may stand here: what is no sound record gets 17. */
 typedef struct {
     uint32_t me;     /* own number */
-    uint32_t n;      /* N, the number of members */
+    uint32_t n;      /* N, the number of members: a quorum is 2 of 3, 3 of 5 or 4 of 7 */
     uint32_t joined; /* J, the highest round joined or voted in */
     uint32_t voted;  /* V, the round last voted in, 0 if none */
     uint64_t vote;   /* W, the value voted for there */

@@ -117,7 +117,7 @@ fn counted_join(before: &Model, sender: Member, is: &Record, step: &Step, sent: 
     let was = &before.members[is.number.0 as usize];
     let needed = quorum(is.n);
     let count = was.counted() + 1;
-    let mut words = format!("member {} counts the JOIN of member {sender}, {count} of {needed} needed", is.number);
+    let mut words = format!("member {} counts the JOIN of member {sender}, {count} of the {needed} needed", is.number);
     if is.b != was.b {
         words += &format!("; its vote for {} in round {} replaces {}", is.x, is.b, was.x);
     }
@@ -144,7 +144,7 @@ fn first_crossed(before: &Model, proposal: Proposal) -> Vec<Round> {
 fn counted_vote(sender: Member, is: &Record, step: &Step) -> String {
     let needed = quorum(is.n);
     let mut words =
-        format!("member {} counts the VOTE of member {sender}, {} of {needed} needed", is.number, is.counted());
+        format!("member {} counts the VOTE of member {sender}, {} of the {needed} needed", is.number, is.counted());
     if let Some(decision) = step.decision {
         words += &format!(
             "; that is a quorum, {needed} of {}: round {} decides {}, commit({})",

@@ -141,6 +141,7 @@ impl Record {
     }
 }
 
+/// More than half of the members: 2 of 3, 3 of 5, 4 of 7.
 fn is_quorum(n: u32, flags: u8) -> bool {
     flags.count_ones() > n / 2
 }

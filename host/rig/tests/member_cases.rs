@@ -256,8 +256,8 @@ fn refused() -> Vec<(Record, Call)> {
     ]
 }
 
-/// Each size of an office, each phase and each number of flags, with the call that tells them apart: a JOIN or VOTE of a
-/// member that isn't flagged yet, where there is one, and a start of a member that has decided.
+/// Each size of an office, each phase but idle and each number of flags, with the call that tells them apart: a JOIN or
+/// VOTE of a member that isn't flagged yet, where there is one, and a start of a member that has decided.
 fn each_count() -> Vec<(Record, Call)> {
     let record = |n: u32, phase, counted: u32| {
         let flags = std::array::from_fn(|at| at < counted as usize);
@@ -483,19 +483,32 @@ fn every_start() {
     }
 }
 
-/// The flag that makes 2 of 3, 3 of 5 or 4 of 7 ends phase 1 or 2, and a record with as many there isn't sound; in phase 3 a
-/// record with exactly as many is.
+/// A record's size, phase and flags before a call, and after it the number, whether a round is named, and the phase.
+fn count_row(case: &Case) -> (u32, u32, u32, u32, bool, String) {
+    let (number, line) = case.worked();
+    let words: Vec<&str> = line.split(' ').collect();
+    let Record { n, phase, .. } = case.record;
+    (n, phase, case.record.counted(), number, words[2] != "0", words[12].to_string())
+}
+
+/// The flag that makes 2 of 3, 3 of 5 or 4 of 7 ends phase 1 or 2, and there a record with as many or more isn't sound; in
+/// phase 3 one with exactly as many is, and may start another round.
 #[test]
 fn every_count() {
-    for (record, call) in each_count() {
-        let quorum = [(3, 2), (5, 3), (7, 4)].into_iter().find(|(n, _)| *n == record.n).unwrap().1;
-        let (sound, ends) = match record.phase {
-            DECIDED => (record.counted() == quorum, false),
-            _ => (record.counted() < quorum, record.counted() + 1 == quorum),
-        };
-        let (number, line) = Case { record, call, room: 28 }.worked();
-        let named = line.split(' ').nth(2).unwrap();
-        assert_eq!((number, named != "0"), (if sound { 0 } else { 17 }, ends), "{record:?}: {line}");
+    let rows: Vec<_> = by_hand().iter().map(count_row).collect();
+    for (n, needed) in [(3, 2), (5, 3), (7, 4)] {
+        for counted in 0..=n {
+            for phase in [COLLECTING, PROPOSED, DECIDED] {
+                let (number, ends, after) = match phase {
+                    DECIDED if counted == needed => (0, false, COLLECTING),
+                    COLLECTING | PROPOSED if counted + 1 == needed => (0, true, phase + 1),
+                    COLLECTING | PROPOSED if counted < needed => (0, false, phase),
+                    _ => (17, false, phase),
+                };
+                let row = (n, phase, counted, number, ends, after.to_string());
+                assert!(rows.contains(&row), "{row:?}");
+            }
+        }
     }
 }
 

@@ -1,5 +1,5 @@
-//! The second implementation's members against document 01 and Ticket 2 of document 02: soundness field by field, each
-//! row of the member table, and that a refused step changes nothing.
+//! The second implementation's members against document 01 and Tickets 2 and 4 of document 02: soundness field by field,
+//! the quorum of each size, each row of the member table, and that a refused step changes nothing.
 
 use kalebasin::notation::parse;
 use kalebasin::{number_of, Event, Member, Message, Refusal, Round, Vote};

@@ -194,6 +194,31 @@ fn rehearsal_from_standard_input() {
     }
 }
 
+/// A round of each size, decided by a quorum and no more: its words say how many are counted, and which case it is.
+#[test]
+fn quorums_in_words() {
+    for (n, needed) in [(3, 2), (5, 3), (7, 4)] {
+        let to_each = |message: u32| (0..needed).map(|member| format!(" d({message},{member})")).collect::<String>();
+        let to_leader = |from: u32| (from..from + needed).map(|sent| format!(" d({sent},0)")).collect::<String>();
+        let propose = 1 + needed;
+        let round = [to_each(0), to_leader(1), to_each(propose), to_leader(propose + 1)].concat();
+        let list = format!("n={n} s(0,{n},10){round}");
+        for on in IMPLEMENTATIONS {
+            let (status, out, _) = tool_on(on, &["run", "-e", &list], b"");
+            assert_eq!(status, 0, "{list}\n{out}");
+            for (kind, ends) in [("JOIN", "it proposes 10".to_string()), ("VOTE", format!("round {n} decides 10"))] {
+                for counted in 1..=needed {
+                    let is_quorum = format!("; that is a quorum, {needed} of {n}: {ends}");
+                    let end = if counted == needed { &is_quorum } else { "\n" };
+                    let sender = counted - 1;
+                    let words = format!("counts the {kind} of member {sender}, {counted} of the {needed} needed{end}");
+                    assert!(out.contains(&words), "{words}\n{out}");
+                }
+            }
+        }
+    }
+}
+
 /// README's explained rehearsal: the program's own input in words, to the letter.
 #[test]
 fn the_rehearsal_in_words() {
