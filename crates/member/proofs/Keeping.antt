@@ -60,7 +60,7 @@ start-call-kept m r offer s (range, (leader, (higher, end))) =
           ranged = rw (or-right (eqb (r .0) 0) (above-range (r .0)) range);
           leader = not-false (leads (m .who .n) (m .who .me) r) leader;
           lower = omega tests;
-          counted = cleared-short (m .who) COLLECTING;
+          counted = cleared-short (m .who) COLLECTING (s .number);
         });
       });
       seven-after = refl;
@@ -190,7 +190,7 @@ JOIN-kept {m} {r} {t} a =
     (λ h.
     record {
       number-byte = omega arith;
-      sound-after = recounted-sound m PROPOSED no-flags (a .is-sound) (led a) refl refl (cleared-from (m .who .n)) (cleared-short (m .who) PROPOSED);
+      sound-after = recounted-sound m PROPOSED no-flags (a .is-sound) (led a) refl refl (cleared-from (m .who .n)) (cleared-short (m .who) PROPOSED (a .is-sound .number));
       seven-after = refl;
       sent-in-range = one-sent (Propose r (m .who .me) (m .lead .value)) (own-head m r (a .is-sound) (a .range));
     })

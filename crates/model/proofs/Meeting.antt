@@ -6,19 +6,18 @@ use mathlib.Core.List.{List, [], _∷_, _++_, Memᴰ·append-left}
 use Prim.Native.Nat.{ℕ, suc, _+_, _<_, _≤_}
 use native.Mathlib.Omega.{arith}
 use lib.Dec.{ltb, eqb}
-use borrow.Author.Tests.{eqb-true}
-use Rattle.laws.specs.Tests.{tests, by-test, impossible, or-cases, and-left, and-right}
+use Rattle.laws.specs.Tests.{tests, by-test, impossible, and-left, and-right}
 use Rattle.laws.specs.Lists.{_∈_, by-last, every-snoc, none-any}
 use Rattle.ids.specs.Ranges.{out-of-range}
-use Rattle.quorum.specs.Quorum.{quorum, Majority, HasQuorum}
+use Rattle.quorum.specs.Quorum.{HasQuorum}
 use Rattle.quorum.proofs.Meet.{wider, both, exceeds}
-use Rattle.quorum.proofs.Cases.{quorum-cases}
 use Rattle.member_record.specs.Phases.{needed}
 use Rattle.tree_theory.specs.Machine.{Call, add, commit, crosses}
 use Rattle.tree_theory.specs.Properties.{round-of, adds, commits, edge-crosses}
 use Rattle.tree_theory.proofs.Calls.{NextCall, grow, adds-intro, adds-with-intro}
 use Rattle.message.specs.declared.Message.{Message}
 use Rattle.member_record.specs.Record.{allowed}
+use Rattle.member_record.proofs.Quorums.{allowed-majority}
 use Rattle.member.specs.Table.{Named, proposal, decision}
 use Rattle.model.specs.Model.{Sizes, proposals}
 use Rattle.model.specs.Demand.{calls}
@@ -27,19 +26,10 @@ use Rattle.model.proofs.Made.{calls-append, proposals-append, proposal-
 use Rattle.model.proofs.Invariant.{join-quorum, vote-quorum, carried, Joined, Voted, ProposalMade, MadeSo}
 use Rattle.model.proofs.Grows.{added-grows, joined-grows}
 
--- joins and votes needed are more than N together, in every office whose quorum is f+1 of 2f+1
-pub majority-meets : (n f : ℕ) → Majority (quorum n) n f → n < join-quorum n + vote-quorum n
-unfolding needed
-majority-meets n f m = exceeds m
-
--- the sizes allowed are of this kind
+-- joins and votes needed are more than N together, since each is f+1 of 2f+1
 pub allowed-meets : (n : ℕ) → allowed n ≡ true → n < join-quorum n + vote-quorum n
-allowed-meets n h =
-    let (three, five, seven) = quorum-cases in
-    or-cases (eqb n 3) _ h (λ e. rw (eqb-true n 3 e) (majority-meets 3 1 three))
-    (λ h′. or-cases (eqb n 5) (eqb n 7) h′
-    (λ e. rw (eqb-true n 5 e) (majority-meets 5 2 five))
-    (λ e. rw (eqb-true n 7 e) (majority-meets 7 3 seven)))
+unfolding needed
+allowed-meets n h = allowed-majority n h (λ f m. exceeds m)
 
 -- `past` of every member
 abbrev pub Pasts : ℕ → List Message → Type 0

@@ -1,9 +1,6 @@
--- The quorum of each size is f+1 of 2f+1 (02, request 4). Assumes nothing.
+-- The quorum of each size is f+1 of 2f+1 (02, ticket 4). Assumes nothing.
 use mathlib.Core.Path.{refl}
-use Prim.Native.Nat.{ℕ, _+_, _*_, _<_}
-use native.Mathlib.Omega.{arith}
-use lib.Dec.{eqb}
-use Rattle.laws.specs.Tests.{by-test}
+use Prim.Native.Nat.{ℕ, _+_, _*_}
 use Rattle.quorum.specs.Quorum.{quorum, Majority}
 
 majority : (f : ℕ) → Majority (f + 1) (2 * f + 1) f
@@ -13,11 +10,3 @@ majority f = record { asked = refl; members = refl }
 pub quorum-cases : Majority (quorum 3) 3 1 × Majority (quorum 5) 5 2 × Majority (quorum 7) 7 3
 unfolding quorum
 quorum-cases = (majority 1, majority 2, majority 3)
-
--- no office decides without a member
-pub quorum-some : (n : ℕ) → 0 < quorum n
-unfolding quorum
-quorum-some n =
-    by-test (eqb n 3) (λ t. rw t (omega arith))
-    (λ t. by-test (eqb n 5) (λ u. rw (t, u) (omega arith))
-    (λ u. by-test (eqb n 7) (λ v. rw (t, u, v) (omega arith)) (λ v. rw (t, u, v) (omega arith))))

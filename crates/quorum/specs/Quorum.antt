@@ -5,11 +5,11 @@ use Prim.Native.Nat.{ℕ, _+_, _*_, _<_, _≤_}
 use lib.Dec.{eqb}
 use Rattle.quorum.specs.Count.{count}
 
--- more than the flags of a record: in an office of another size no count is a quorum
+-- more than a record has flags: in an office of another size no count of them is a quorum
 abbrev pub NO-QUORUM : ℕ
 NO-QUORUM = 8
 
--- a case for each size (02, request 4): 2 of 3, 3 of 5, 4 of 7
+-- a case for each size (02, ticket 4): 2 of 3, 3 of 5, 4 of 7
 unfoldable pub quorum : ℕ → ℕ
 quorum n =
     cond (eqb n 3) 2

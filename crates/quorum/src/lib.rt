@@ -2,7 +2,7 @@
 ghost use mathlib.Core.Path.{_≡_};
 ghost use Rattle.quorum.specs.Quorum.{quorum};
 
-// More than the flags of a record: in an office of another size no count is a quorum.
+// More than a record has flags: in an office of another size no count of them is a quorum.
 const NO_QUORUM: u32 = 8;
 
 // The quorum of an office of n members, a case for each size.
