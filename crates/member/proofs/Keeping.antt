@@ -190,7 +190,8 @@ JOIN-kept {m} {r} {t} a =
     (λ h.
     record {
       number-byte = omega arith;
-      sound-after = recounted-sound m PROPOSED no-flags (a .is-sound) (led a) refl refl (cleared-from (m .who .n)) (cleared-short (m .who) PROPOSED (a .is-sound .number));
+      sound-after = recounted-sound m PROPOSED no-flags (a .is-sound) (led a) refl refl (cleared-from (m .who .n))
+          (cleared-short (m .who) PROPOSED (a .is-sound .number));
       seven-after = refl;
       sent-in-range = one-sent (Propose r (m .who .me) (m .lead .value)) (own-head m r (a .is-sound) (a .range));
     })
