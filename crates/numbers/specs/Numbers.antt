@@ -1,4 +1,4 @@
--- The numbers of 01's place table, a name and a cause for each, and the rule for a full store or table.
+-- The numbers of 01's place table and of 02, a name and a cause for each, and the rule for a full store or table.
 use mathlib.Core.Bool.{Bool}
 use Prim.Native.Nat.{ℕ}
 use lib.Dec.{leb}
@@ -126,6 +126,10 @@ NO-MEMBER-OR-MESSAGE = 29
 -- a message would be sent, and the messages sent fill the store
 abbrev pub STORE-FULL : ℕ
 STORE-FULL = 30
+
+-- the two tables of a preview differ in length (02, ticket 5)
+abbrev pub LENGTHS-DIFFER : ℕ
+LENGTHS-DIFFER = 31
 
 -- no row is left where so many of so many are used: the cause of 9 and of 30
 abbrev pub no-row-left : ℕ → ℕ → Bool

@@ -1,4 +1,4 @@
-// The numbers of 01's place table, a name and a cause for each. A call that answers nothing else answers its number; else the number is a
+// The numbers of 01's place table and of 02, a name and a cause for each. A call that answers nothing else answers its number; else the number is a
 // field of its answer, or what its refusal holds. 0 is OK.
 ghost use mathlib.Core.Path.{_≡_};
 ghost use Rattle.numbers.specs.Numbers.{no-row-left};
@@ -95,6 +95,9 @@ pub const NO_MEMBER_OR_MESSAGE: u32 = 29;
 
 // 30: a message would be sent, and the messages sent fill the store.
 pub const STORE_FULL: u32 = 30;
+
+// 31: the two tables of a preview differ in length (02, ticket 5).
+pub const LENGTHS_DIFFER: u32 = 31;
 
 // Whether no row is left where so many of so many are used: the cause of 9 and of 30.
 pub fn no_row_left(rows: usize, used: usize) -> bool
