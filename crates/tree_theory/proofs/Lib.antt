@@ -18,3 +18,4 @@ pub mod Checks
 pub mod Steps
 pub mod CallsOnWords
 pub mod Ghosts
+pub mod Preview

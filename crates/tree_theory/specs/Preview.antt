@@ -1,0 +1,46 @@
+-- A preview: what a call would make of a table, made in a second one (02, ticket 5).
+use mathlib.Core.Path.{_≡_}
+use mathlib.Core.Bool.{Bool, cond, not, _&&_}
+use mathlib.Core.List.{List, [], _∷_, _++_}
+use Prim.Native.Nat.{ℕ}
+use lib.ListN.{length}
+use lib.Dec.{eqb}
+use Rattle.laws.specs.First.{Cause, _gives_, first}
+use Rattle.numbers.specs.Numbers.{OK, TABLE-LENGTH, NOT-A-TREE, LENGTHS-DIFFER}
+use Rattle.tree_theory.specs.Machine.{Call, causes}
+use Rattle.tree_theory.specs.Table.{sized, is-tree, rows, nodes, call-number, call-table}
+use Rattle.tree_theory.specs.Ghosts.{table-ghosts}
+
+-- two tables differ in length
+abbrev pub lengths-differ : List ℕ → List ℕ → Bool
+lengths-differ ws us = not (eqb (length us) (length ws))
+
+-- the row "table" for a preview of ws in us: of us only the length is asked
+abbrev pub preview-causes : Bool → List ℕ → List ℕ → List Cause
+preview-causes valued ws us =
+    not (sized ws) gives TABLE-LENGTH ∷ lengths-differ ws us gives LENGTHS-DIFFER ∷ not (is-tree valued ws) gives NOT-A-TREE ∷ []
+
+unfoldable pub preview-number : Bool → List ℕ → List ℕ → Call → ℕ
+unfolding is-tree causes
+preview-number valued ws us c = first (preview-causes valued ws us ++ causes valued (rows ws) (nodes ws) c)
+
+-- how many rounds the call would make GHOST
+unfoldable pub preview-ghosts : Bool → List ℕ → List ℕ → Call → ℕ
+unfolding preview-number table-ghosts
+preview-ghosts valued ws us c = cond (eqb (preview-number valued ws us c) OK) (table-ghosts valued ws c) 0
+
+-- the second table after: what the call makes of the first
+unfoldable pub preview-table : Bool → List ℕ → List ℕ → Call → List ℕ
+unfolding preview-number call-table
+preview-table valued ws us c = cond (eqb (preview-number valued ws us c) OK) (call-table valued ws c) us
+
+-- a preview beside the call on a copy of the first table
+pub record AsOnCopy (valued : Bool) (ws us : List ℕ) (c : Call) : Type 0 where
+  -- 31 comes right after 1; else the number is the call's
+  pub number-is : preview-number valued ws us c ≡ cond (sized ws && lengths-differ ws us) LENGTHS-DIFFER (call-number valued ws c)
+  -- of a second table of equal length: the call's count, and the call's table, or what was there where the call is refused
+  pub ghosts-are : length us ≡ length ws → preview-ghosts valued ws us c ≡ table-ghosts valued ws c
+  pub second-is : length us ≡ length ws → preview-table valued ws us c ≡ cond (eqb (call-number valued ws c) OK) (call-table valued ws c) us
+  -- of one of another length: none, and what was there
+  pub none-counted : (length us ≡ length ws → ⊥) → preview-ghosts valued ws us c ≡ 0
+  pub none-written : (length us ≡ length ws → ⊥) → preview-table valued ws us c ≡ us
