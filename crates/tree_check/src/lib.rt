@@ -8,6 +8,7 @@ ghost use Prim.Native.Nat.{_*_, _≤_, _<_};
 ghost use lib.ListN.{length};
 ghost use Rattle.laws.specs.First.{first};
 ghost use Rattle.tree_theory.specs.Table.{row, sized, is-tree, table-causes};
+ghost use Rattle.tree_theory.specs.Preview.{preview-causes};
 ghost use Rattle.tree_theory.specs.Check.{is-root, fits-to, zeros-to};
 
 // A multiple of 4 from 4 to 1,024.
@@ -100,4 +101,18 @@ pub fn table_number(valued: bool, t: &[u64]) -> u32
         return numbers::NOT_A_TREE;
     }
     numbers::OK
+}
+
+// The row "table" for a preview of t in a second table (02, ticket 5): 1, 31, 2, or OK. Of the second only the length is asked.
+pub fn preview_number(valued: bool, t: &[u64], second: &[u64]) -> u32
+    ensures { λ n. ⌜ n ≡ first (preview-causes valued (now (t .entry)) (now (second .entry))) ⌝ }
+{
+    let number = table_number(valued, t);
+    if number == numbers::TABLE_LENGTH {
+        return number;
+    }
+    if second.len() != t.len() {
+        return numbers::LENGTHS_DIFFER;
+    }
+    number
 }

@@ -1,5 +1,5 @@
-// The rows of a node table, four 64-bit words a row: round, parent, value, status (01, "The tree"). Their words, searches over them, and the test
-// of a value against the parent's.
+// The rows of a node table, four 64-bit words a row: round, parent, value, status (01, "The tree"). Their words, searches over them, copies of
+// them, and the test of a value against the parent's.
 ghost use mathlib.Core.Path.{_≡_};
 ghost use mathlib.Core.Bool.{_&&_, not};
 ghost use mathlib.Core.List.{_∷_, _++_};
@@ -62,6 +62,19 @@ pub fn put_row(t: &mut [u64], i: usize, r: u64, p: u64, v: u64, s: u64)
     t[at + 1] = p;
     t[at + 2] = v;
     t[at + 3] = s;
+}
+
+// Copies the first n rows into another table.
+pub fn copy_rows(t: &[u64], to: &mut [u64], n: usize)
+    requires { ⌜ (4 * n ≤ length (now t)) × (4 * n ≤ length (now to)) ⌝ }
+    ensures { λ _. ⌜ now (to .exit) ≡ take (4 * n) (now (t .entry)) ++ drop (4 * n) (now (to .entry)) ⌝ }
+{
+    let end = 4 * n;
+    let mut word = 0;
+    while word < end {
+        to[word] = t[word];
+        word += 1;
+    }
 }
 
 // How many rows stand before the first free one.
