@@ -6,7 +6,8 @@ use Prim.Native.Nat.{ℕ, _≤_}
 use lib.ListN.{length}
 use native.Mathlib.Omega.{arith}
 use lib.Dec.{eqb}
-use borrow.Author.Tests.{eq-eqb, ne-eqb, not-false}
+use borrow.Author.Tests.{eq-eqb, ne-eqb, eqb-true, eqb-false, not-false}
+use Rattle.laws.specs.Tests.{by-test}
 use Rattle.laws.specs.First.{first, first-front, passed}
 use Rattle.numbers.specs.Numbers.{OK}
 use Rattle.tree_theory.specs.Machine.{Call, answer, causes}
@@ -18,35 +19,43 @@ use Rattle.tree_theory.proofs.Ghosts.{none-refused, table-none, tree-few, tree-
 use Rattle.tree_steps.specs.Planned.{call-written, Planned}
 use Rattle.tree.specs.declared.CallAnswer.{CallAnswer}
 use Rattle.tree.specs.Promises.{stepped-table, CountedOnTable, CountedOnTree, refused-answer}
+use Rattle.tree.specs.Carried.{CanWrite, planned-answer, planned-table}
 
 module _ {valued : Bool} {ws : List ℕ} (h : sized ws ≡ true) (T : Tree valued ws) {c : Call} {number row status strikes : ℕ}
     (P : Planned valued ws c number row status strikes) where
+  -- a plan can be written into its own table, and no more are struck than a table has rows
+  pub can-write : number ≡ OK → CanWrite ws c row strikes
+  can-write z = record { fits = P .fits z; strikes-is = P .strikes-is; few = omega (arith, P .ghosts-are z, tree-few valued ws h T c) }
+
   -- a refused call leaves the table, and makes none GHOST
-  pub call-refused : {a : CallAnswer} → a ≡ refused-answer number → (number ≡ OK → ⊥) → CountedOnTree valued ws c (a .number) (a .ghosts) ws
-  call-refused q z =
+  refused : (number ≡ OK → ⊥) → CountedOnTree valued ws c number 0 ws
+  refused z =
       let t : eqb (answer valued (rows ws) (nodes ws) c) OK ≡ false = ne-eqb _ _ (λ q. z (P .number-is ∙ q)) in
       let w : ws ≡ stepped-table valued ws c =
       tree-held valued ws h T .whole ∙ ap (table (length ws)) (sym (step-refused valued (rows ws) (nodes ws) c t)) in
-      rw q
-      (record {
+      record {
         called = record { number-is = P .number-is; table-is = w; tree = T };
         ghosts-are = sym (none-refused valued (rows ws) (nodes ws) c t);
-      })
+      }
 
   -- an accepted one leaves what was planned
-  pub done : {ws′ : List ℕ} → number ≡ OK → ws′ ≡ call-written ws c row status → CountedOnTree valued ws c OK strikes ws′
-  done {ws′ = ws′} z w =
+  done : number ≡ OK → CountedOnTree valued ws c number strikes (call-written ws c row status)
+  done z =
       let ok : answer valued (rows ws) (nodes ws) c ≡ OK = sym (P .number-is) ∙ z in
-      let w′ : ws′ ≡ stepped-table valued ws c =
-      w ∙ P .makes z ∙ ap (table (length ws)) (sym (step-ok valued (rows ws) (nodes ws) c (eq-eqb _ _ ok))) in
+      let w : call-written ws c row status ≡ stepped-table valued ws c =
+      P .makes z ∙ ap (table (length ws)) (sym (step-ok valued (rows ws) (nodes ws) c (eq-eqb _ _ ok))) in
       record {
-        called = record { number-is = sym ok; table-is = w′; tree = subst (Tree valued) (sym w′) (step-tree valued ws h T c) };
+        called = record { number-is = P .number-is; table-is = w; tree = subst (Tree valued) (sym w) (step-tree valued ws h T c) };
         ghosts-are = P .ghosts-are z;
       }
 
-  -- no more are struck than a table has rows
-  pub ghosts-fit : number ≡ OK → strikes ≤ 256
-  ghosts-fit z = omega (arith, P .ghosts-are z, tree-few valued ws h T c)
+  -- carried out on its own table, a plan comes to the machine's step
+  pub carried : {a : CallAnswer} {ws′ : List ℕ} → a ≡ planned-answer number strikes → ws′ ≡ planned-table ws c number row status →
+      CountedOnTree valued ws c (a .number) (a .ghosts) ws′
+  carried q w =
+      by-test (eqb number OK)
+      (λ t. rw (q, w, t) (done (eqb-true number OK t)))
+      (λ t. rw (q, w, t) (refused (eqb-false number OK t)))
 
 -- what the number of the row "table" says, where 0 is OK
 module _ (valued : Bool) (ws : List ℕ) {number : ℕ} (e : number ≡ first (table-causes valued ws)) where

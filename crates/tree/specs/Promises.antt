@@ -7,6 +7,7 @@ use lib.ListN.{length}
 use Rattle.tree_theory.specs.Machine.{Call, answer, step}
 use Rattle.tree_theory.specs.Table.{rows, nodes, table, Tree, call-number, call-table, path-number, path-count, path-slice}
 use Rattle.tree_theory.specs.Ghosts.{stepped-ghosts, table-ghosts}
+use Rattle.tree_theory.specs.Preview.{preview-number, preview-ghosts, preview-table}
 use Rattle.tree.specs.declared.CallAnswer.{CallAnswer}
 
 -- add or commit of any table: the number, and the table left
@@ -33,6 +34,13 @@ pub record CountedOnTable (valued : Bool) (ws : List ℕ) (c : Call) (number gho
 pub record CountedOnTree (valued : Bool) (ws : List ℕ) (c : Call) (number ghosts : ℕ) (ws′ : List ℕ) : Type 0 where
   pub called : CalledOnTree valued ws c number ws′
   pub ghosts-are : ghosts ≡ stepped-ghosts valued ws c
+
+-- a preview of any table ws in a second one us: the number, how many rounds the call would make GHOST, and both tables left
+pub record Previewed (valued : Bool) (ws us : List ℕ) (c : Call) (number ghosts : ℕ) (ws′ us′ : List ℕ) : Type 0 where
+  pub number-is : number ≡ preview-number valued ws us c
+  pub ghosts-are : ghosts ≡ preview-ghosts valued ws us c
+  pub first-is : ws′ ≡ ws
+  pub second-is : us′ ≡ preview-table valued ws us c
 
 -- with a refusal no round is counted
 abbrev pub refused-answer : ℕ → CallAnswer

@@ -1,13 +1,17 @@
-// The quorum tree in lent memory (01, "The tree"): fresh, add, commit and path over a slice of 64-bit words, four a row. `valued` says which
+// The quorum tree in lent memory (01, "The tree"): fresh, add, preview, commit and path over a slice of 64-bit words, four a row. `valued` says which
 // kind of tree it is: true for a value tree, 01's, whose values are compared; false for a command tree (02, ticket 1), whose aren't.
 use ids::Round;
+use tree_steps::call::Plan;
 use tree_steps::call::TreeCall;
 ghost use mathlib.Core.Path.{_≡_};
 ghost use mathlib.Core.Bool.{true, false};
+ghost use lib.ListN.{length};
+ghost use Rattle.numbers.specs.Numbers.{OK};
 ghost use Rattle.tree_theory.specs.Machine.{add, commit};
 ghost use Rattle.tree_theory.specs.Table.{sized, Tree, fresh-number, fresh-table};
 ghost use Rattle.tree_steps.specs.Planned.{call-of};
-ghost use Rattle.tree.specs.Promises.{CalledOnTable, CalledOnTree, CountedOnTable, CountedOnTree, PathGiven, refused-answer};
+ghost use Rattle.tree.specs.Promises.{CalledOnTable, CalledOnTree, CountedOnTable, CountedOnTree, Previewed, PathGiven, refused-answer};
+ghost use Rattle.tree.specs.Carried.{CanWrite, planned-answer, planned-table, rows-copied};
 
 // An add's or a commit's number, and how many rounds it made GHOST (02, ticket 3): those that were ADDED before it. 0 with a refusal; a commit
 // makes none.
@@ -41,12 +45,12 @@ fn refused_answer(number: u32) -> CallAnswer
     CallAnswer { number, ghosts: 0 }
 }
 
-// add or commit on a tree.
-fn call_on_tree(valued: bool, t: &mut [u64], call: TreeCall) -> CallAnswer
-    requires { ⌜ (sized (now t) ≡ true) × Tree valued (now t) ⌝ }
-    ensures { λ a. ⌜ CountedOnTree valued (now (t .entry)) (call-of call) (a .number) (a .ghosts) (now (t .exit)) ⌝ }
+// Carries out a plan. One for a refused call writes nothing and counts none.
+fn carry_out(t: &mut [u64], call: TreeCall, plan: Plan) -> CallAnswer
+    requires { ⌜ (plan .number ≡ OK → CanWrite (now t) (call-of call) (plan .row) (plan .strikes)) ⌝ }
+    ensures answer { λ a. ⌜ a ≡ planned-answer (plan .number) (plan .strikes) ⌝ }
+    ensures left { λ _. ⌜ now (t .exit) ≡ planned-table (now (t .entry)) (call-of call) (plan .number) (plan .row) (plan .status) ⌝ }
 {
-    let plan = tree_steps::call::plan_call(valued, t, call);
     if plan.number != numbers::OK {
         return refused_answer(plan.number);
     }
@@ -56,6 +60,15 @@ fn call_on_tree(valued: bool, t: &mut [u64], call: TreeCall) -> CallAnswer
         number: numbers::OK,
         ghosts,
     }
+}
+
+// add or commit on a tree.
+fn call_on_tree(valued: bool, t: &mut [u64], call: TreeCall) -> CallAnswer
+    requires { ⌜ (sized (now t) ≡ true) × Tree valued (now t) ⌝ }
+    ensures { λ a. ⌜ CountedOnTree valued (now (t .entry)) (call-of call) (a .number) (a .ghosts) (now (t .exit)) ⌝ }
+{
+    let plan = tree_steps::call::plan_call(valued, t, call);
+    carry_out(t, call, plan)
 }
 
 // add or commit on any table.
@@ -111,6 +124,70 @@ pub fn add_in_tree(t: &mut [u64], r: Round, v: u64, p: Round) -> CallAnswer
             parent: p,
         },
     )
+}
+
+// How many rows of a table a preview copies: all for an accepted call, none for a refused one.
+fn rows_to_copy(number: u32, t: &[u64]) -> usize
+    ensures { λ n. ⌜ n ≡ rows-copied number (now (t .entry)) ⌝ }
+{
+    if number != numbers::OK {
+        return 0;
+    }
+    t.len() / 4
+}
+
+// What a call would make of a tree, made in a second table of its length.
+fn preview_on_tree(valued: bool, t: &[u64], second: &mut [u64], call: TreeCall) -> CallAnswer
+    requires { ⌜ (sized (now t) ≡ true) × Tree valued (now t) × (length (now second) ≡ length (now t)) ⌝ }
+    ensures { λ a. ⌜ Previewed valued (now (t .entry)) (now (second .entry)) (call-of call) (a .number) (a .ghosts)
+        (now (t .exit)) (now (second .exit)) ⌝ }
+{
+    let plan = tree_steps::call::plan_call(valued, t, call);
+    let rows = rows_to_copy(plan.number, t);
+    tree_table::copy_rows(t, second, rows);
+    carry_out(second, call, plan)
+}
+
+// What add would make of any table, made in a second one (02, ticket 5).
+pub fn preview_on_table(
+    valued: bool,
+    t: &[u64],
+    second: &mut [u64],
+    r: Round,
+    v: u64,
+    p: Round,
+) -> CallAnswer
+    ensures { λ a. ⌜ Previewed valued (now (t .entry)) (now (second .entry)) (add (r .0) v (p .0)) (a .number) (a .ghosts)
+        (now (t .exit)) (now (second .exit)) ⌝ }
+{
+    let number = tree_check::preview_number(valued, t, second);
+    if number != numbers::OK {
+        return refused_answer(number);
+    }
+    preview_on_tree(
+        valued,
+        t,
+        second,
+        TreeCall::Add {
+            round: r,
+            value: v,
+            parent: p,
+        },
+    )
+}
+
+pub fn preview(t: &[u64], second: &mut [u64], r: Round, v: u64, p: Round) -> CallAnswer
+    ensures { λ a. ⌜ Previewed true (now (t .entry)) (now (second .entry)) (add (r .0) v (p .0)) (a .number) (a .ghosts)
+        (now (t .exit)) (now (second .exit)) ⌝ }
+{
+    preview_on_table(true, t, second, r, v, p)
+}
+
+pub fn command_preview(t: &[u64], second: &mut [u64], r: Round, v: u64, p: Round) -> CallAnswer
+    ensures { λ a. ⌜ Previewed false (now (t .entry)) (now (second .entry)) (add (r .0) v (p .0)) (a .number) (a .ghosts)
+        (now (t .exit)) (now (second .exit)) ⌝ }
+{
+    preview_on_table(false, t, second, r, v, p)
 }
 
 pub fn commit(t: &mut [u64], r: Round) -> u32

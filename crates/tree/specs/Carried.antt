@@ -1,0 +1,27 @@
+-- What carrying out a plan asks for and leaves, and how many rows a preview copies.
+use mathlib.Core.Path.{_≡_}
+use mathlib.Core.Bool.{cond}
+use mathlib.Core.List.{List}
+use Prim.Native.Nat.{ℕ, _+_, _*_, _≤_}
+use lib.ListN.{length}
+use lib.Dec.{eqb}
+use Rattle.numbers.specs.Numbers.{OK}
+use Rattle.tree_theory.specs.Machine.{Call}
+use Rattle.tree_theory.specs.Table.{rows}
+use Rattle.tree_steps.specs.Planned.{call-written, call-strikes}
+use Rattle.tree.specs.declared.CallAnswer.{CallAnswer}
+
+-- a table that a call can be written into: it has the row, and so many rows before that are struck, a number that fits into an answer
+pub record CanWrite (ws : List ℕ) (c : Call) (row strikes : ℕ) : Type 0 where
+  pub fits : 4 * row + 4 ≤ length ws
+  pub strikes-is : strikes ≡ call-strikes ws c row
+  pub few : strikes ≤ 256
+
+abbrev pub planned-answer : ℕ → ℕ → CallAnswer
+planned-answer number strikes = record { number = number; ghosts = cond (eqb number OK) strikes 0 }
+
+abbrev pub planned-table : List ℕ → Call → ℕ → ℕ → ℕ → List ℕ
+planned-table ws c number row status = cond (eqb number OK) (call-written ws c row status) ws
+
+abbrev pub rows-copied : ℕ → List ℕ → ℕ
+rows-copied number ws = cond (eqb number OK) (rows ws) 0
