@@ -12,18 +12,18 @@ ghost use mathlib.Core.Path.{_≡_};
 ghost use mathlib.Core.Bool.{true, false};
 ghost use Rattle.tree_theory.specs.Machine.{add, commit};
 ghost use Rattle.tree_theory.specs.Table.{fresh-number, fresh-table};
-ghost use Rattle.tree.specs.Promises.{CalledOnTable, CountedOnTable, PathGiven};
+ghost use Rattle.tree.specs.Promises.{CalledOnTable, CountedOnTable, Previewed, PathGiven};
 ghost use Rattle.message.specs.Reading.{reading};
 ghost use Rattle.play_run.specs.Lent.{as-lent};
 ghost use Rattle.play.specs.Promise.{Given};
 ghost use Rattle.exports.specs.Results.{as-play-answer, voteless, message-result, refused-result, read-result};
 
 // The version of the C functions, one number for both archives. It goes up with each change that a caller of either sees.
-const VERSION: u32 = 4;
+const VERSION: u32 = 5;
 
 #[no_mangle]
 pub extern "C" fn kalebasin_version() -> u32
-    ensures { λ v. ⌜ v ≡ 4 ⌝ }
+    ensures { λ v. ⌜ v ≡ 5 ⌝ }
 {
     VERSION
 }
@@ -186,6 +186,39 @@ pub extern "C" fn kalebasin_tree_add(
     add_result(true, nodes, round, value, parent)
 }
 
+// What add(round, value, parent) would make of a table of either kind, made in a second one (02, ticket 5).
+fn preview_result(
+    valued: bool,
+    nodes: &[u64],
+    second: &mut [u64],
+    round: u32,
+    value: u64,
+    parent: u32,
+) -> AddResult
+    ensures { λ r. ⌜ Previewed valued (now (nodes .entry)) (now (second .entry)) (add round value parent) (r .number) (r .ghosts)
+        (now (nodes .exit)) (now (second .exit)) ⌝ }
+{
+    let shown = tree::preview_on_table(valued, nodes, second, Round(round), value, Round(parent));
+    AddResult {
+        number: shown.number,
+        ghosts: shown.ghosts,
+    }
+}
+
+#[no_mangle]
+pub extern "C" fn kalebasin_tree_preview(
+    nodes: &[u64],
+    second: &mut [u64],
+    round: u32,
+    value: u64,
+    parent: u32,
+) -> AddResult
+    ensures { λ r. ⌜ Previewed true (now (nodes .entry)) (now (second .entry)) (add round value parent) (r .number) (r .ghosts)
+        (now (nodes .exit)) (now (second .exit)) ⌝ }
+{
+    preview_result(true, nodes, second, round, value, parent)
+}
+
 #[no_mangle]
 pub extern "C" fn kalebasin_tree_commit(nodes: &mut [u64], round: u32) -> u32
     ensures { λ n. ⌜ CalledOnTable true (now (nodes .entry)) (commit round) n (now (nodes .exit)) ⌝ }
@@ -203,6 +236,20 @@ pub extern "C" fn kalebasin_command_add(
     ensures { λ r. ⌜ CountedOnTable false (now (nodes .entry)) (add round value parent) (r .number) (r .ghosts) (now (nodes .exit)) ⌝ }
 {
     add_result(false, nodes, round, value, parent)
+}
+
+#[no_mangle]
+pub extern "C" fn kalebasin_command_preview(
+    nodes: &[u64],
+    second: &mut [u64],
+    round: u32,
+    value: u64,
+    parent: u32,
+) -> AddResult
+    ensures { λ r. ⌜ Previewed false (now (nodes .entry)) (now (second .entry)) (add round value parent) (r .number) (r .ghosts)
+        (now (nodes .exit)) (now (second .exit)) ⌝ }
+{
+    preview_result(false, nodes, second, round, value, parent)
 }
 
 #[no_mangle]
