@@ -1,8 +1,9 @@
-// Runs the tree's calls as standard input has them: 01's cases P1 to P11, paths, tables that are none, a list that fills 256 rows, and calls of
-// command trees. f(words) is fresh on the first so many words, which then are the table; a(round,value,parent) is add, c(round) is commit,
-// p(round,words) is path into so many words; A, C and P are those of a command tree; w(word,value) writes a word of the table. All that is read
-// is written again: behind each call its number (of an add also how many rounds it made GHOST, of a path how many rounds, and the slice), behind
-// each line each node's round, parent, value and status.
+// Runs the tree's calls as standard input has them: 01's cases P1 to P11, paths, tables that are none, a list that fills 256 rows, calls of command
+// trees, and previews. f(words) is fresh on the first so many words, which then are the table; a(round,value,parent) is add, c(round) is commit,
+// p(round,words) is path into so many words, v(round,value,parent) is preview in a second table of sevens, as long as the table, or of so many words
+// as s(words) says behind the last f; A, C, P and V are those of a command tree; w(word,value) writes a word of the table. All that is read is
+// written again: behind each call its number (of an add also how many rounds it made GHOST, of a path how many rounds, and the slice, of a preview
+// how many rounds would be made GHOST, and the second table), behind each line each node's round, parent, value and status.
 use ids::Round;
 use libc::STDIN_FILENO;
 use libc::STDOUT_FILENO;
@@ -99,14 +100,36 @@ fn path_in(name: u8, t: &[u64], r: u32, words: usize) {
     command_path(t, r, &mut out[0..words]);
 }
 
+fn preview(t: &[u64], second: &mut [u64], r: u32, v: u32, p: u32) {
+    add_answer(tree::preview(t, second, Round(r), v as u64, Round(p)));
+    numbers(second);
+}
+
+fn command_preview(t: &[u64], second: &mut [u64], r: u32, v: u32, p: u32) {
+    add_answer(tree::command_preview(t, second, Round(r), v as u64, Round(p)));
+    numbers(second);
+}
+
+fn preview_in(name: u8, t: &[u64], words: usize, r: u32, v: u32, p: u32) {
+    let mut second = [7u64; 1024];
+    if 1024 < words {
+        return;
+    }
+    if name == b'v' {
+        preview(t, &mut second[0..words], r, v, p);
+        return;
+    }
+    command_preview(t, &mut second[0..words], r, v, p);
+}
+
 fn put(t: &mut [u64], word: usize, x: u32) {
     if word < t.len() {
         t[word] = x as u64;
     }
 }
 
-// Makes the call of that name; a call with fewer than three arguments has them last.
-fn make(t: &mut [u64], name: u8, a: u32, b: u32, c: u32) {
+// Makes the call of that name, a preview in so many words; a call with fewer than three arguments has them last.
+fn make(t: &mut [u64], second: usize, name: u8, a: u32, b: u32, c: u32) {
     if name == b'f' {
         fresh(t);
         return;
@@ -131,12 +154,21 @@ fn make(t: &mut [u64], name: u8, a: u32, b: u32, c: u32) {
         command_commit(t, c);
         return;
     }
+    if name == b'v' {
+        preview_in(name, t, second, a, b, c);
+        return;
+    }
+    if name == b'V' {
+        preview_in(name, t, second, a, b, c);
+        return;
+    }
     path_in(name, t, b, c as usize);
 }
 
-// What was read: the length of the table, the name of a call, and its last three arguments.
+// What was read: the lengths of the table and of the second, the name of a call, and its last three arguments.
 struct Input {
     words: usize,
+    second: usize,
     name: u8,
     a: u32,
     b: u32,
@@ -176,12 +208,24 @@ impl Input {
     // Makes the call that was read.
     fn call(self, t: &mut [u64]) -> Input {
         let mut s = self;
+        if self.name == b's' {
+            s.second = self.c as usize;
+            return s;
+        }
         if self.name == b'f' {
             s.words = self.c as usize;
+            s.second = self.c as usize;
         }
         let words = s.words;
         if words <= t.len() {
-            make(&mut t[0..words], self.name, self.a, self.b, self.c);
+            make(
+                &mut t[0..words],
+                s.second,
+                self.name,
+                self.a,
+                self.b,
+                self.c,
+            );
         }
         s
     }
@@ -210,6 +254,7 @@ impl Input {
 fn run(t: &mut [u64], text: &[u8]) {
     let mut s = Input {
         words: 0,
+        second: 0,
         name: 0,
         a: 0,
         b: 0,

@@ -2,26 +2,30 @@
 //! second implementation gives for its stored input.
 
 use kalebasin::{number_of, Round, TreeKind, TABLE_ROW, TABLE_ROWS};
-use kalebasin_rig::second::tree::{add, commit, fresh, path};
+use kalebasin_rig::second::tree::{add, commit, fresh, path, preview};
 use std::collections::BTreeSet;
 use std::fs;
 
-/// The program's table, how many of its words are lent, and the numbers given by the calls of each kind.
+/// The program's table, how many of its words are lent, how many a preview is lent, and the numbers given by the calls of each kind.
 struct Run {
     words: [u64; TABLE_ROW * TABLE_ROWS],
     lent: usize,
+    second: usize,
     given: [BTreeSet<u32>; 2],
 }
 
 impl Run {
-    /// What the program writes behind a call, `a(1,5,0)`: the number; behind an add and a path also the count of its answer, and behind
-    /// a path the words lent to it.
+    /// What the program writes behind a call, `a(1,5,0)`: the number; behind an add, a path and a preview also the count of its answer,
+    /// and behind a path or a preview the words lent to it.
     fn call(&mut self, text: &str) -> String {
         let (name, arguments) = text.strip_suffix(')').and_then(|call| call.split_once('(')).expect(text);
         let numbers: Vec<u32> = arguments.split(',').map(|number| number.parse().expect(text)).collect();
         let kind = if name.starts_with(char::is_uppercase) { TreeKind::Command } else { TreeKind::Value };
         if let ("f", [words]) = (name, &numbers[..]) {
             self.lent = *words as usize;
+        }
+        if let ("f" | "s", [words]) = (name, &numbers[..]) {
+            self.second = *words as usize;
         }
         let table = &mut self.words[..self.lent];
         let mut out = Vec::new();
@@ -35,6 +39,12 @@ impl Run {
                 out.resize(*room as usize, 0);
                 path(kind, table, Round(*round), &mut out)
             }
+            ("v" | "V", [round, value, parent]) => {
+                out.resize(self.second, 7);
+                let shown = preview(kind, table, &mut out, Round(*round), u64::from(*value), Round(*parent));
+                shown.map(|ghosts| ghosts as usize)
+            }
+            ("s", [_]) => return String::new(),
             ("w", [word, value]) => {
                 table[*word as usize] = u64::from(*value);
                 return String::new();
@@ -43,7 +53,7 @@ impl Run {
         };
         self.given[kind as usize].insert(number_of(&answer));
         let mut written = vec![u64::from(number_of(&answer))];
-        if let "a" | "A" | "p" | "P" = name {
+        if let "a" | "A" | "p" | "P" | "v" | "V" = name {
             written.push(answer.unwrap_or(0) as u64);
         }
         written.extend(out);
@@ -69,7 +79,7 @@ fn file(name: &str) -> String {
 
 /// The output for the stored input, and the numbers given.
 fn worked() -> (String, [BTreeSet<u32>; 2]) {
-    let mut run = Run { words: [0; TABLE_ROW * TABLE_ROWS], lent: 0, given: Default::default() };
+    let mut run = Run { words: [0; TABLE_ROW * TABLE_ROWS], lent: 0, second: 0, given: Default::default() };
     let input = fs::read_to_string(file("stdin")).expect("the program's cases");
     (input.lines().map(|line| run.line(line)).collect(), run.given)
 }
@@ -79,8 +89,8 @@ fn worked() -> (String, [BTreeSet<u32>; 2]) {
 fn the_program_tree_cases() {
     let (output, [values, commands]) = worked();
     assert_eq!(output, fs::read_to_string(file("stdout")).expect("the program's output"));
-    assert!(values.into_iter().eq(0..=13));
-    assert!(commands.into_iter().eq((0..=13).filter(|number| *number != 7)));
+    assert!(values.into_iter().eq((0..=13).chain([31])));
+    assert!(commands.into_iter().eq((0..=13).filter(|number| *number != 7).chain([31])));
 }
 
 #[test]
