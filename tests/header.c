@@ -1,5 +1,5 @@
 /* Calls each function of kalebasin.h and expects what documents 01 and 02 say: its rehearsal, a message, a member, a START that comes again, a tree of
-   each kind of two rounds, rounds made GHOST, and refusals; slices of no elements, also null ones, and bytes at odd addresses. */
+   each kind of two rounds, rounds made GHOST, previews, and refusals; slices of no elements, also null ones, and bytes at odd addresses. */
 #include "kalebasin.h"
 #include <stdio.h>
 #include <string.h>
@@ -167,9 +167,13 @@ static int commands(void) {
     return 0;
 }
 
+/* The calls of a kind. */
+typedef KalebasinAddResult Add(uint64_t *, size_t, uint32_t, uint64_t, uint32_t);
+typedef KalebasinAddResult Preview(const uint64_t *, size_t, uint64_t *, size_t, uint32_t, uint64_t, uint32_t);
+
 /* Rounds 1 and 2 are made GHOST by round 5. Rounds 4 and 6 are GHOST from the first and aren't counted; round 6 makes one round GHOST, 5.
    A copy of the table tells which. A refused add counts none, though its edge crosses round 7, which is ADDED. */
-static int ghosts(KalebasinAddResult (*add)(uint64_t *, size_t, uint32_t, uint64_t, uint32_t)) {
+static int ghosts(Add *add) {
     uint64_t table[28], before[28];
     EXPECT(kalebasin_tree_fresh(table, 28) == 0);
     EXPECT(got(add(table, 28, 1, 5, 0), 0, 0) && got(add(table, 28, 2, 5, 1), 0, 0));
@@ -182,6 +186,65 @@ static int ghosts(KalebasinAddResult (*add)(uint64_t *, size_t, uint32_t, uint64
     EXPECT(got(add(table, 28, 7, 6, 5), 0, 0) && table[12] == 5 && table[15] == KALEBASIN_ADDED);
     EXPECT(got(add(table, 28, 6, 8, 0), 0, 1) && table[15] == KALEBASIN_GHOST && table[27] == KALEBASIN_GHOST);
     EXPECT(got(add(table, 28, 8, 9, 0), KALEBASIN_NO_FREE_ROW, 0) && table[23] == KALEBASIN_ADDED);
+    return 0;
+}
+
+/* The adds of `ghosts`, each behind a preview in a second table of junk: it leaves the table, makes the second what the add then makes of the table, in
+   every word, and has the add's result. The last is refused, and both stay. */
+static int previews(Add *add, Preview *preview) {
+    static const struct {
+        uint32_t round, parent, ghosts;
+        uint64_t value;
+    } adds[] = {{1, 0, 0, 5}, {2, 1, 0, 5}, {5, 0, 2, 6}, {4, 2, 0, 5}, {7, 5, 0, 6}, {6, 0, 1, 8}};
+    uint64_t table[28], before[28], second[28], junk[28];
+    memset(junk, 0xa5, sizeof junk);
+    EXPECT(kalebasin_tree_fresh(table, 28) == 0);
+    for (size_t i = 0; i < sizeof adds / sizeof *adds; i++) {
+        memcpy(before, table, sizeof table), memcpy(second, junk, sizeof junk);
+        EXPECT(got(preview(table, 28, second, 28, adds[i].round, adds[i].value, adds[i].parent), 0, adds[i].ghosts));
+        EXPECT(!memcmp(table, before, sizeof table));
+        EXPECT(got(add(table, 28, adds[i].round, adds[i].value, adds[i].parent), 0, adds[i].ghosts));
+        EXPECT(!memcmp(second, table, sizeof table));
+    }
+    memcpy(before, table, sizeof table), memcpy(second, junk, sizeof junk);
+    EXPECT(got(preview(table, 28, second, 28, 8, 9, 0), KALEBASIN_NO_FREE_ROW, 0));
+    EXPECT(!memcmp(table, before, sizeof table) && !memcmp(second, junk, sizeof junk));
+    return 0;
+}
+
+/* Refused previews count none and leave both tables: 1 comes before 31, 31 before 2, and 2 before what the add gives. The second is a fresh table or junk, as
+   long as the table or of another length. */
+static int refused_previews(Preview *preview) {
+    static const uint64_t full[16] = {0, 0, 0, 3, 2, 0, 5, 1, 4, 2, 5, 3, 6, 4, 5, 1}, no_tree[16] = {0, 0, 0, 3, 2, 0, 5, 9};
+    const uint32_t other_value = preview == kalebasin_tree_preview ? KALEBASIN_VALUE_DIFFERS : KALEBASIN_NO_FREE_ROW;
+    const struct Refused {
+        const uint64_t *table;
+        size_t len, second_len;
+        uint32_t round, parent, number;
+        uint64_t value;
+    } refused[] = {
+        {full, 15, 16, 0, 0, KALEBASIN_TABLE_LENGTH, 5},
+        {full, 15, 15, 0, 0, KALEBASIN_TABLE_LENGTH, 5},
+        {no_tree, 16, 12, 0, 0, KALEBASIN_LENGTHS_DIFFER, 5},
+        {full, 16, 15, 0, 0, KALEBASIN_LENGTHS_DIFFER, 5},
+        {full, 16, 20, 0, 0, KALEBASIN_LENGTHS_DIFFER, 5},
+        {no_tree, 16, 16, 0, 0, KALEBASIN_NOT_A_TREE, 5},
+        {full, 16, 16, 0, 9, KALEBASIN_ROUND_RANGE, 5},
+        {full, 16, 16, 4, 9, KALEBASIN_ROUND_PRESENT, 5},
+        {full, 16, 16, 5, 9, KALEBASIN_PARENT_ABSENT, 5},
+        {full, 16, 16, 3, 4, KALEBASIN_PARENT_NOT_BELOW, 9},
+        {full, 16, 16, 7, 6, other_value, 9},
+        {full, 16, 16, 7, 2, KALEBASIN_CROSSES_COMMITTED, 5},
+        {full, 16, 16, 7, 6, KALEBASIN_NO_FREE_ROW, 5},
+    };
+    uint64_t table[16], second[20], held[2][20] = {{0, 0, 0, 3}};
+    memset(held[1], 0xa5, sizeof held[1]);
+    for (size_t i = 0; i < 2 * (sizeof refused / sizeof *refused); i++) {
+        const struct Refused *one = &refused[i / 2];
+        memcpy(table, one->table, sizeof table), memcpy(second, held[i % 2], sizeof second);
+        EXPECT(got(preview(table, one->len, second, one->second_len, one->round, one->value, one->parent), one->number, 0));
+        EXPECT(!memcmp(table, one->table, sizeof table) && !memcmp(second, held[i % 2], sizeof second));
+    }
     return 0;
 }
 
@@ -224,6 +287,12 @@ static int nothing(uint64_t *nowhere) {
     EXPECT(kalebasin_member_deliver(record, none, 0, reply, 28).number == KALEBASIN_MESSAGE_LENGTH);
     EXPECT(kalebasin_tree_fresh(nowhere, 0) == KALEBASIN_TABLE_LENGTH);
     EXPECT(got(kalebasin_tree_add(nowhere, 0, 1, 5, 0), KALEBASIN_TABLE_LENGTH, 0));
+    for (size_t second = 0; second <= 1; second++) {
+        EXPECT(got(kalebasin_tree_preview(nowhere, 0, second ? out : nowhere, second, 1, 5, 0), KALEBASIN_TABLE_LENGTH, 0));
+        EXPECT(got(kalebasin_command_preview(nowhere, 0, second ? out : nowhere, second, 1, 5, 0), KALEBASIN_TABLE_LENGTH, 0));
+    }
+    EXPECT(got(kalebasin_tree_preview(table, 4, nowhere, 0, 1, 5, 0), KALEBASIN_LENGTHS_DIFFER, 0));
+    EXPECT(got(kalebasin_command_preview(table, 4, nowhere, 0, 1, 5, 0), KALEBASIN_LENGTHS_DIFFER, 0));
     EXPECT(kalebasin_tree_commit(nowhere, 0, 1) == KALEBASIN_TABLE_LENGTH);
     EXPECT(kalebasin_tree_path(nowhere, 0, 0, out, 1).number == KALEBASIN_TABLE_LENGTH);
     EXPECT(kalebasin_tree_path(table, 4, 0, nowhere, 0).number == KALEBASIN_PATH_TOO_LONG);
@@ -250,11 +319,11 @@ static int odd_addresses(void) {
 /* Every number up to the last has words of its own; those behind it share the last. */
 static int causes(void) {
     const char *none = kalebasin_cause(UINT32_MAX);
-    for (uint32_t a = 0; a <= KALEBASIN_STORE_FULL; a++) {
+    for (uint32_t a = 0; a <= KALEBASIN_LENGTHS_DIFFER; a++) {
         EXPECT(strcmp(kalebasin_cause(a), none));
         for (uint32_t b = 0; b < a; b++) EXPECT(strcmp(kalebasin_cause(a), kalebasin_cause(b)));
     }
-    EXPECT(!strcmp(kalebasin_cause(KALEBASIN_STORE_FULL + 1), none));
+    EXPECT(!strcmp(kalebasin_cause(KALEBASIN_LENGTHS_DIFFER + 1), none));
     return 0;
 }
 
@@ -262,5 +331,7 @@ int main(void) {
     EXPECT(kalebasin_version() == KALEBASIN_VERSION);
     EXPECT(kalebasin_member_version() == KALEBASIN_VERSION);
     return play() || read_message() || write_message() || member() || start_again() || tree() || commands() || ghosts(kalebasin_tree_add) ||
-           ghosts(kalebasin_command_add) || nothing(NULL) || nothing((uint64_t *)8) || odd_addresses() || play_ghosts() || causes();
+           ghosts(kalebasin_command_add) || previews(kalebasin_tree_add, kalebasin_tree_preview) ||
+           previews(kalebasin_command_add, kalebasin_command_preview) || refused_previews(kalebasin_tree_preview) ||
+           refused_previews(kalebasin_command_preview) || nothing(NULL) || nothing((uint64_t *)8) || odd_addresses() || play_ghosts() || causes();
 }

@@ -20,17 +20,18 @@ other_version_told() {
         cd "$work/other" && ar x "lib$crate.a" && objcopy --redefine-sym "$function=own_version" "$crate.o" &&
             echo "unsigned $function(void) { return 99; }" | cc -x c -c -o version.o - && ar rc "lib$crate.a" "$crate.o" version.o
     ) && ! (cd host && KALEBASIN_LIB=$work/other cargo run --offline --quiet --example office) 2>"$work/told" &&
-        grep -q "^lib$crate.a has the calls of version 99, the crate kalebasin those of version 4\$" "$work/told"
+        grep -q "^lib$crate.a has the calls of version 99, the crate kalebasin those of version 5\$" "$work/told"
 }
 
-# An archive whose two adds are exchanged: the tool says of a tree call what the second implementation does otherwise, and has the status of that.
+# An archive whose two calls of this name are exchanged: the tool says of a tree call what the second implementation does otherwise, and has the status of that.
 difference_told() {
+    local call=$1
     rm -rf "$work/other" && mkdir "$work/other" && cp "${archives[@]}" "$work/other" && (
         cd "$work/other" && ar x libexports.a &&
-            objcopy --redefine-sym kalebasin_tree_add=exchanged --redefine-sym kalebasin_command_add=kalebasin_tree_add exports.o &&
-            objcopy --redefine-sym exchanged=kalebasin_command_add exports.o && ar rc libexports.a exports.o
+            objcopy --redefine-sym "kalebasin_tree_$call=exchanged" --redefine-sym "kalebasin_command_$call=kalebasin_tree_$call" exports.o &&
+            objcopy --redefine-sym "exchanged=kalebasin_command_$call" exports.o && ar rc libexports.a exports.o
     ) || return
-    (cd host && KALEBASIN_LIB=$work/other cargo run --offline --quiet -- tree -e 'add(1,5,0) add(2,6,1)') >"$work/told"
+    (cd host && KALEBASIN_LIB=$work/other cargo run --offline --quiet -- tree -e "add(1,5,0) $call(2,6,1)") >"$work/told"
     [ $? -eq 1 ] && [ "$(grep -c '[A-Z] IMPLEMENTATION' "$work/told")" -eq 1 ] && grep -qx ' *THE SECOND IMPLEMENTATION ANSWERS 7' "$work/told"
 }
 
@@ -97,7 +98,8 @@ check "the example machines doesn't tell that it can't write" unwritten_told "$e
 check "the example machines takes other arguments than its own" arguments_told "$examples/machines"
 check "an archive of another version isn't told" other_version_told exports kalebasin_version
 check "an archive of another version with one member isn't told" other_version_told exports_member kalebasin_member_version
-check "a tree call that the core answers otherwise isn't told" difference_told
+check "an add that the core answers otherwise isn't told" difference_told add
+check "a preview that the core answers otherwise isn't told" difference_told preview
 check "a sum that play counts otherwise isn't told" sum_told
 
 cargo_tests --no-fail-fast

@@ -8,11 +8,11 @@
  *
  * and a program needs only the one that it calls. They ask for functions of <string.h> that copy, fill or compare memory, and for nothing else.
  *
- * A slice is a pointer and a count of elements (bytes or 64-bit words). Bytes may start at any address; table and out
- * start at a multiple of 8. Where the count is 0 the pointer isn't followed and may be null. The call then answers as it
- * does to any slice of no elements: 26 to a list, 28 to a store, 1 to a table, 14 to a message, 13 to out, 18 to a reply
- * or buffer; and no answer bytes are enough for a list of no events. What is lent for writing overlaps nothing else.
- * Nothing is kept after a call, and nothing is allocated.
+ * A slice is a pointer and a count of elements (bytes or 64-bit words). Bytes may start at any address; table, second
+ * and out start at a multiple of 8. Where the count is 0 the pointer isn't followed and may be null. The call then
+ * answers as it does to any slice of no elements: 26 to a list, 28 to a store, 1 to a table, 31 to second, 14 to a
+ * message, 13 to out, 18 to a reply or buffer; and no answer bytes are enough for a list of no events. What is lent for
+ * writing overlaps nothing else. Nothing is kept after a call, and nothing is allocated.
  *
  * Each number is 0 for OK, or a refusal. A call gives the first refusal that applies, in the order noted at the call; it
  * then changes nothing, and every other field of its result is 0, but for a record, which comes back as it came.
@@ -58,7 +58,8 @@ enum KalebasinNumber {
     KALEBASIN_OFFICE_SIZE = 27,
     KALEBASIN_STORE_OR_ANSWERS = 28,
     KALEBASIN_NO_MEMBER_OR_MESSAGE = 29,
-    KALEBASIN_STORE_FULL = 30
+    KALEBASIN_STORE_FULL = 30,
+    KALEBASIN_LENGTHS_DIFFER = 31
 };
 
 /* The cause of a number in words; never null. */
@@ -95,13 +96,14 @@ static inline const char *kalebasin_cause(uint32_t number) {
     case KALEBASIN_STORE_OR_ANSWERS: return "the store isn't 1 to 2,000 whole rows of 28 bytes, or there are too few answer bytes";
     case KALEBASIN_NO_MEMBER_OR_MESSAGE: return "there is no such member or no such message";
     case KALEBASIN_STORE_FULL: return "the store is full";
+    case KALEBASIN_LENGTHS_DIFFER: return "the two tables differ in length";
     default: return "no refusal has this number";
     }
 }
 
 /* The version of the functions that this header declares, and that which each archive has. A program that starts asks that they
  * be equal: the version goes up with each change that a caller sees. */
-enum { KALEBASIN_VERSION = 4 };
+enum { KALEBASIN_VERSION = 5 };
 uint32_t kalebasin_version(void);
 uint32_t kalebasin_member_version(void);
 
@@ -204,7 +206,7 @@ KalebasinMemberResult kalebasin_member_deliver(KalebasinMemberRecord record, con
 /* Makes a table fresh: the root 0, 0, 0, 3 and zeros. It is then a tree of either kind. 1. */
 uint32_t kalebasin_tree_fresh(uint64_t *table, size_t len);
 
-/* The next three are the calls of a tree of values, as play leaves one: a node has its parent's value, unless that is the root. A
+/* The next four are the calls of a tree of values, as play leaves one: a node has its parent's value, unless that is the root. A
  * table is such a tree if they can leave it, from a fresh one; else it gets 2. */
 
 typedef struct {
@@ -215,6 +217,12 @@ typedef struct {
 /* Adds a round. 1 to 9 in that order. Which rounds it made GHOST, a copy of the table from before the call tells: rows keep their
  * places, and those rounds are in the rows whose status is KALEBASIN_ADDED there and KALEBASIN_GHOST here. */
 KalebasinAddResult kalebasin_tree_add(uint64_t *table, size_t len, uint32_t round, uint64_t value, uint32_t parent);
+
+/* Makes second what kalebasin_tree_add would make of table, which stays, with the result of the add. Which rounds it would make
+ * GHOST, the two tables then tell as above. second may hold anything; with a refusal it stays as well. 1, 31 (second_len isn't
+ * len), then 2 to 9 in that order; 1 and 2 are of table alone. */
+KalebasinAddResult kalebasin_tree_preview(const uint64_t *table, size_t len, uint64_t *second, size_t second_len,
+                                          uint32_t round, uint64_t value, uint32_t parent);
 
 /* Commits a round. 1, 2, 3, 10, 11, 12. */
 uint32_t kalebasin_tree_commit(uint64_t *table, size_t len, uint32_t round);
@@ -229,11 +237,15 @@ typedef struct {
 KalebasinPathResult kalebasin_tree_path(const uint64_t *table, size_t len, uint32_t round,
                                         uint64_t *out, size_t out_len);
 
-/* The last three are the calls of a tree of commands, each after a named earlier one: the same table, but a node has any value. A
+/* The last four are the calls of a tree of commands, each after a named earlier one: the same table, but a node has any value. A
  * table is such a tree if they can leave it, from a fresh one; else it gets 2. Every tree of values is a tree of commands. */
 
 /* Adds a round; ghosts is as above. 1 to 6, 8, 9 in that order. */
 KalebasinAddResult kalebasin_command_add(uint64_t *table, size_t len, uint32_t round, uint64_t value, uint32_t parent);
+
+/* Makes second what kalebasin_command_add would make of table; all else is as above. 1, 31, 2 to 6, 8, 9 in that order. */
+KalebasinAddResult kalebasin_command_preview(const uint64_t *table, size_t len, uint64_t *second, size_t second_len,
+                                             uint32_t round, uint64_t value, uint32_t parent);
 
 /* Commits a round. 1, 2, 3, 10, 11, 12. */
 uint32_t kalebasin_command_commit(uint64_t *table, size_t len, uint32_t round);

@@ -50,7 +50,8 @@ pub struct MessageResult {
     pub value: u64,
 }
 
-/// What [`kalebasin_tree_add`] and [`kalebasin_command_add`] return: on a refusal `ghosts` is 0.
+/// What [`kalebasin_tree_add`] and [`kalebasin_command_add`] return, and [`kalebasin_tree_preview`] and
+/// [`kalebasin_command_preview`] of the call that they show: on a refusal `ghosts` is 0.
 #[repr(C)]
 #[derive(Clone, Copy, Debug, Default, PartialEq, Eq, Hash)]
 pub struct AddResult {
@@ -129,7 +130,7 @@ pub struct WriteResult {
 
 /// The version of the C functions that this crate is written for. A call of the front of this crate panics
 /// where an archive's version ([`kalebasin_version`], [`kalebasin_member_version`]) is another.
-pub const API_VERSION: u32 = 4;
+pub const API_VERSION: u32 = 5;
 
 extern "C" {
     /// The version of these functions that `libexports.a` has.
@@ -177,6 +178,20 @@ extern "C" {
     /// What [the module](self) says of slices.
     pub fn kalebasin_tree_add(table: *mut u64, len: usize, round: u32, value: u64, parent: u32) -> AddResult;
 
+    /// [`Tree::preview`](crate::tree::Tree::preview) of a [`ValueTree`](crate::ValueTree).
+    ///
+    /// # Safety
+    /// What [the module](self) says of slices.
+    pub fn kalebasin_tree_preview(
+        table: *const u64,
+        len: usize,
+        second: *mut u64,
+        second_len: usize,
+        round: u32,
+        value: u64,
+        parent: u32,
+    ) -> AddResult;
+
     /// [`Tree::commit`](crate::tree::Tree::commit) of a [`ValueTree`](crate::ValueTree).
     ///
     /// # Safety
@@ -194,6 +209,20 @@ extern "C" {
     /// # Safety
     /// What [the module](self) says of slices.
     pub fn kalebasin_command_add(table: *mut u64, len: usize, round: u32, value: u64, parent: u32) -> AddResult;
+
+    /// [`Tree::preview`](crate::tree::Tree::preview) of a [`CommandTree`](crate::CommandTree).
+    ///
+    /// # Safety
+    /// What [the module](self) says of slices.
+    pub fn kalebasin_command_preview(
+        table: *const u64,
+        len: usize,
+        second: *mut u64,
+        second_len: usize,
+        round: u32,
+        value: u64,
+        parent: u32,
+    ) -> AddResult;
 
     /// [`Tree::commit`](crate::tree::Tree::commit) of a [`CommandTree`](crate::CommandTree).
     ///

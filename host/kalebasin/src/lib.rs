@@ -20,7 +20,8 @@
 //! A [`ValueTree`] takes the calls that play makes of proposals and decisions. A [`CommandTree`] is for commands that each follow
 //! a named earlier one: the same tree, in which a node has any value. Each is a type of its own, so that neither is handed to
 //! the other's calls. An add returns how many rounds it made GHOST; with a copy of the table from before it, [`made_ghost`] tells
-//! which.
+//! which. What an add would do is seen before: [`Tree::preview`](tree::Tree::preview) makes it in a second table, and
+//! [`Tree::would_make_ghost`](tree::Tree::would_make_ghost) tells the rounds.
 //!
 //! The functions of the core need the feature `core` (on by default) and its two archives; without the
 //! feature the rest of this crate is still there.

@@ -1,6 +1,7 @@
 //! The rig's notation: events `s(member,round,offer)` and `d(message,member)`, with the number of members in front as
-//! `n=5`, or 3 members where that is left out; and calls of a tree, `add(round,value,parent)`, `commit(round)`,
-//! `path(round)` and `fresh`, with the kind of tree in front as `kind=command`, or a tree of values where that is left out.
+//! `n=5`, or 3 members where that is left out; and calls of a tree, `add(round,value,parent)`,
+//! `preview(round,value,parent)`, `commit(round)`, `path(round)` and `fresh`, with the kind of tree in front as
+//! `kind=command`, or a tree of values where that is left out.
 //! Blanks and line feeds may stand between any two parts; `#` starts a comment that runs to the end of its line.
 //!
 //! ```
@@ -143,14 +144,12 @@ fn tree_call(reader: &mut Reader) -> Result<Option<TreeCall>, Mistake> {
     let before = reader.clone();
     match reader.word() {
         "add" => {
-            reader.expect('(', "after add")?;
-            let round = Round(reader.number("round number")?);
-            reader.expect(',', "after the round number")?;
-            let value = reader.number("value")?;
-            reader.expect(',', "after the value")?;
-            let parent = Round(reader.number("parent")?);
-            reader.expect(')', "after the parent")?;
+            let (round, value, parent) = add_arguments(reader, "after add")?;
             Ok(Some(TreeCall::Add { round, value, parent }))
+        }
+        "preview" => {
+            let (round, value, parent) = add_arguments(reader, "after preview")?;
+            Ok(Some(TreeCall::Preview { round, value, parent }))
         }
         "commit" => Ok(Some(TreeCall::Commit(round_alone(reader, "after commit")?))),
         "path" => Ok(Some(TreeCall::Path(round_alone(reader, "after path")?))),
@@ -160,10 +159,24 @@ fn tree_call(reader: &mut Reader) -> Result<Option<TreeCall>, Mistake> {
             None => Ok(None),
             Some(first) => {
                 let other = &before.rest[..word.len().max(first.len_utf8())];
-                Err(before.mistake(&format!("a call starts with add(, commit(, path( or fresh, not with {other:?}")))
+                Err(before.mistake(&format!(
+                    "a call starts with add(, preview(, commit(, path( or fresh, not with {other:?}"
+                )))
             }
         },
     }
+}
+
+/// `(2,80,1)`.
+fn add_arguments(reader: &mut Reader, place: &str) -> Result<(Round, u64, Round), Mistake> {
+    reader.expect('(', place)?;
+    let round = Round(reader.number("round number")?);
+    reader.expect(',', "after the round number")?;
+    let value = reader.number("value")?;
+    reader.expect(',', "after the value")?;
+    let parent = Round(reader.number("parent")?);
+    reader.expect(')', "after the parent")?;
+    Ok((round, value, parent))
 }
 
 /// `(2)`.

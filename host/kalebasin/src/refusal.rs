@@ -4,7 +4,8 @@ use std::fmt;
 
 macro_rules! refusals {
     ($($number:literal $name:ident $cause:literal)*) => {
-        /// Why a call or an event was refused: a variant for each number of document 01's place table.
+        /// Why a call or an event was refused: a variant for each number of document 01's place table
+        /// and of document 02.
         ///
         /// ```
         /// use kalebasin::Refusal;
@@ -74,10 +75,11 @@ refusals! {
     28 StoreOrAnswers "the store isn't 1 to 2,000 whole rows of 28 bytes, or there are too few answer bytes"
     29 NoMemberOrMessage "there is no such member or no such message"
     30 StoreFull "the store is full"
+    31 LengthsDiffer "the two tables differ in length"
 }
 
 impl Refusal {
-    /// Document 01's number.
+    /// Its number.
     pub const fn number(self) -> u32 {
         self as u32
     }
@@ -118,7 +120,7 @@ impl fmt::Display for NoRefusal {
 
 impl std::error::Error for NoRefusal {}
 
-/// Document 01's number of a result: 0 for OK.
+/// The number of a result: 0 for OK.
 pub fn number_of<T>(result: &Result<T, Refusal>) -> u32 {
     match result {
         Ok(_) => 0,

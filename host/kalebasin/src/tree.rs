@@ -58,7 +58,7 @@
 
 use crate::ffi;
 use crate::proved::{accepted, compare_versions};
-use crate::{nodes, Node, Refusal, Round};
+use crate::{made_ghost, nodes, Node, Refusal, Round};
 use std::marker::PhantomData;
 
 /// A tree of values: a node has its parent's, unless that is the root. Its calls are those of [`Tree`].
@@ -91,6 +91,15 @@ mod sealed {
     use super::{ffi, Command, Value};
 
     type Add = unsafe extern "C" fn(table: *mut u64, len: usize, round: u32, value: u64, parent: u32) -> ffi::AddResult;
+    type Preview = unsafe extern "C" fn(
+        table: *const u64,
+        len: usize,
+        second: *mut u64,
+        second_len: usize,
+        round: u32,
+        value: u64,
+        parent: u32,
+    ) -> ffi::AddResult;
     type Commit = unsafe extern "C" fn(table: *mut u64, len: usize, round: u32) -> u32;
     type Path = unsafe extern "C" fn(
         table: *const u64,
@@ -103,18 +112,21 @@ mod sealed {
     /// The C functions of a kind.
     pub trait Functions {
         const ADD: Add;
+        const PREVIEW: Preview;
         const COMMIT: Commit;
         const PATH: Path;
     }
 
     impl Functions for Value {
         const ADD: Add = ffi::kalebasin_tree_add;
+        const PREVIEW: Preview = ffi::kalebasin_tree_preview;
         const COMMIT: Commit = ffi::kalebasin_tree_commit;
         const PATH: Path = ffi::kalebasin_tree_path;
     }
 
     impl Functions for Command {
         const ADD: Add = ffi::kalebasin_command_add;
+        const PREVIEW: Preview = ffi::kalebasin_command_preview;
         const COMMIT: Commit = ffi::kalebasin_command_commit;
         const PATH: Path = ffi::kalebasin_command_path;
     }
@@ -154,8 +166,8 @@ impl<K: Kind, T: AsMut<[u64]>> Tree<K, T> {
     }
 
     /// Adds a round with its value below its parent, and returns how many rounds that makes GHOST: those that were ADDED before and are
-    /// GHOST after. The new round isn't among them, though it may be GHOST itself. Which rounds they are, [`made_ghost`](crate::made_ghost)
-    /// tells of a copy of the table from before.
+    /// GHOST after. The new round isn't among them, though it may be GHOST itself. Which rounds they are, [`made_ghost`] tells of a copy of
+    /// the table from before, and [`would_make_ghost`](Tree::would_make_ghost) before the add is done.
     ///
     /// ```
     /// use kalebasin::{made_ghost, Refusal, Round, Status, ValueTree};
@@ -197,6 +209,58 @@ impl<K: Kind, T: AsMut<[u64]>> Tree<K, T> {
 }
 
 impl<K: Kind, T: AsRef<[u64]>> Tree<K, T> {
+    /// Makes `second` what [`add`](Tree::add) would make of this tree's table, which stays as it is, and returns what add would: how many
+    /// rounds it would make GHOST. `second` is as long as the table and may hold anything; where the preview is refused, it stays as well.
+    ///
+    /// ```
+    /// use kalebasin::{Refusal, Round, ValueTree};
+    ///
+    /// let mut tree = ValueTree::fresh(vec![0; 16])?;
+    /// tree.add(Round(1), 70, Round::ROOT)?;
+    /// let (before, mut second) = (tree.clone(), vec![u64::MAX; 16]);
+    /// assert_eq!(tree.preview(&mut second, Round(2), 80, Round::ROOT), Ok(1));
+    /// assert_eq!(tree, before);
+    /// tree.add(Round(2), 80, Round::ROOT)?;
+    /// assert_eq!(tree.table(), second);
+    /// assert_eq!(tree.preview(&mut [0; 12], Round(3), 80, Round(2)), Err(Refusal::LengthsDiffer));
+    /// # Ok::<(), Refusal>(())
+    /// ```
+    ///
+    /// # Errors
+    /// 1, 31, then 2 to 9 as add has them; 1 and 2 are of this tree's table alone.
+    pub fn preview(&self, second: &mut [u64], round: Round, value: u64, parent: Round) -> Result<u32, Refusal> {
+        compare_versions();
+        let words = self.table();
+        // SAFETY: each pointer and length come from one slice; the mutable one is exclusive.
+        let result = unsafe {
+            K::PREVIEW(words.as_ptr(), words.len(), second.as_mut_ptr(), second.len(), round.0, value, parent.0)
+        };
+        accepted(result.number)?;
+        Ok(result.ghosts)
+    }
+
+    /// The rounds that [`add`](Tree::add) would make GHOST, in order of adding: those that are ADDED and whose node it would strike out.
+    ///
+    /// ```
+    /// use kalebasin::{CommandTree, Refusal, Round};
+    ///
+    /// let mut tree = CommandTree::fresh(vec![0; 16])?;
+    /// tree.add(Round(1), 70, Round::ROOT)?;
+    /// tree.add(Round(2), 80, Round(1))?;
+    /// assert_eq!(tree.would_make_ghost(Round(3), 90, Round(1))?, [Round(2)]);
+    /// assert_eq!(tree.would_make_ghost(Round(3), 90, Round(2))?, []);
+    /// assert_eq!(tree.would_make_ghost(Round(2), 90, Round(1)), Err(Refusal::RoundPresent));
+    /// # Ok::<(), Refusal>(())
+    /// ```
+    ///
+    /// # Errors
+    /// As add.
+    pub fn would_make_ghost(&self, round: Round, value: u64, parent: Round) -> Result<Vec<Round>, Refusal> {
+        let mut after = vec![0; self.table().len()];
+        self.preview(&mut after, round, value, parent)?;
+        Ok(made_ghost(self.table(), &after).collect())
+    }
+
     /// Writes the rounds from the root to this one to the front of `out` and returns how many; words behind them stay.
     ///
     /// # Errors

@@ -47,6 +47,15 @@ pub enum TreeCall {
         /// The round that it is added below.
         parent: Round,
     },
+    /// Shows what an add would do, in a second table.
+    Preview {
+        /// The round to add.
+        round: Round,
+        /// Its value.
+        value: u64,
+        /// The round that it would be added below.
+        parent: Round,
+    },
     /// Commits a round.
     Commit(Round),
     /// Asks for the path of a round.
@@ -54,11 +63,12 @@ pub enum TreeCall {
 }
 
 impl fmt::Display for TreeCall {
-    /// The rig's notation: `add(2,80,1)`, `commit(2)`, `path(2)` or `fresh`.
+    /// The rig's notation: `add(2,80,1)`, `preview(2,80,1)`, `commit(2)`, `path(2)` or `fresh`.
     fn fmt(&self, f: &mut fmt::Formatter) -> fmt::Result {
         match self {
             TreeCall::Fresh => write!(f, "fresh"),
             TreeCall::Add { round, value, parent } => write!(f, "add({round},{value},{parent})"),
+            TreeCall::Preview { round, value, parent } => write!(f, "preview({round},{value},{parent})"),
             TreeCall::Commit(round) => write!(f, "commit({round})"),
             TreeCall::Path(round) => write!(f, "path({round})"),
         }

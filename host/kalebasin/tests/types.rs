@@ -1,5 +1,5 @@
 //! The types that a host sees: lists from notation and from events, refusals from numbers, trees in lent and owned words, rounds made
-//! GHOST, and numbers of every size.
+//! GHOST, previews, and numbers of every size.
 
 use kalebasin::{made_ghost, nodes, notation, sent};
 use kalebasin::{Event, EventList, Member, Message, MessageNumber, NoRefusal, Refusal, Round};
@@ -16,15 +16,18 @@ fn lists_from_notation() {
 
 #[test]
 fn tree_calls_from_notation() {
-    let text = "kind=command add(1,70,0) commit(1) path(1) fresh";
+    let text = "kind=command add(1,70,0) preview(2,80,1) commit(1) path(1) fresh";
     assert_eq!(text.parse(), notation::parse_tree(text, None));
     let calls = [
         TreeCall::Add { round: Round(1), value: 70, parent: Round::ROOT },
+        TreeCall::Preview { round: Round(2), value: 80, parent: Round(1) },
         TreeCall::Commit(Round(1)),
         TreeCall::Path(Round(1)),
         TreeCall::Fresh,
     ];
-    assert_eq!(text.parse(), Ok(TreeCallList { kind: TreeKind::Command, calls: calls.into() }));
+    let list = TreeCallList { kind: TreeKind::Command, calls: calls.into() };
+    assert_eq!(list.to_string(), text);
+    assert_eq!(text.parse(), Ok(list));
     assert_eq!("fresh".parse::<TreeCallList>().map(|list| list.kind), Ok(notation::KIND));
     let mistake = "kind=value\nadd(1;70,0)".parse::<TreeCallList>().unwrap_err();
     assert_eq!((mistake.line, mistake.column), (2, 6));
@@ -54,7 +57,7 @@ fn refusals_from_numbers() {
     }
     assert_eq!(Refusal::try_from(19), Ok(Refusal::NotLeader));
     assert_eq!(Refusal::try_from(0), Err(NoRefusal(0)));
-    assert_eq!(NoRefusal(31).to_string(), "31 isn't the number of a refusal");
+    assert_eq!(NoRefusal(32).to_string(), "32 isn't the number of a refusal");
 }
 
 /// What is equal counts once in a set.
@@ -84,6 +87,7 @@ fn numbers_of_every_size() {
             let (round, parent) = (Round(number), Round(n));
             let calls = vec![
                 TreeCall::Add { round, value: u64::MAX, parent },
+                TreeCall::Preview { round, value: u64::MAX, parent },
                 TreeCall::Commit(round),
                 TreeCall::Fresh,
                 TreeCall::Path(parent),
@@ -149,8 +153,16 @@ fn tree_calls_with_numbers_of_every_size<K: kalebasin::tree::Kind>() {
             let tree = || Tree::<K, _>::from_table(table.clone());
             for round in NUMBERS.map(Round) {
                 for parent in NUMBERS.map(Round) {
-                    let added = tree().add(round, u64::MAX, parent).is_ok();
-                    assert_eq!(added, is_tree && length > 4 && round.in_range() && parent == Round::ROOT);
+                    let added = tree().add(round, u64::MAX, parent);
+                    let in_order = round.in_range() && parent == Round::ROOT;
+                    assert_eq!(added.is_ok(), is_tree && length > 4 && in_order);
+                    for room in 0..=13 {
+                        let shown = tree().preview(&mut vec![u64::MAX; room], round, u64::MAX, parent);
+                        let lengths_differ = is_table && room != length;
+                        assert_eq!(shown, if lengths_differ { Err(Refusal::LengthsDiffer) } else { added });
+                    }
+                    let ghosts = tree().would_make_ghost(round, u64::MAX, parent);
+                    assert_eq!(ghosts.map(|rounds| rounds.len() as u32), added);
                 }
                 assert!(tree().commit(round).is_err());
                 assert_eq!(tree().path(round, &mut [0; 2]).is_ok(), is_tree && round == Round::ROOT);
@@ -186,7 +198,8 @@ fn trees_in_words_lent_and_owned() {
 }
 
 /// An add answers how many rounds were ADDED before it and are GHOST after it; a copy of the table tells which. Those that were GHOST
-/// before aren't counted, nor is the new one, though it may be GHOST from the first, as rounds 4 and 6 here.
+/// before aren't counted, nor is the new one, though it may be GHOST from the first, as rounds 4 and 6 here. A preview answers the
+/// same before the add, in a second table that held anything, and leaves the tree.
 #[cfg(feature = "core")]
 #[test]
 fn rounds_made_ghost() {
@@ -202,16 +215,24 @@ fn rounds_made_ghost() {
             (6, 8, 0, &[5]),
             (8, 9, 0, &[7]),
         ] {
+            let (round, parent, mut second) = (Round(round), Round(parent), [u64::MAX; 32]);
+            let ghosts: Vec<Round> = ghosts.iter().copied().map(Round).collect();
             let before = tree.clone();
-            assert_eq!(tree.add(Round(round), value, Round(parent)), Ok(ghosts.len() as u32));
-            assert!(made_ghost(before.table(), tree.table()).eq(ghosts.iter().copied().map(Round)), "{round}");
+            assert_eq!(tree.would_make_ghost(round, value, parent).as_ref(), Ok(&ghosts));
+            assert_eq!(tree.preview(&mut second, round, value, parent), Ok(ghosts.len() as u32));
+            assert_eq!(tree.table(), before.table());
+            assert_eq!(tree.add(round, value, parent), Ok(ghosts.len() as u32));
+            assert_eq!(tree.table(), second);
+            assert_eq!(made_ghost(before.table(), tree.table()).collect::<Vec<_>>(), ghosts);
         }
         let ghosts: Vec<Round> =
             tree.nodes().filter(|node| node.status == Status::Ghost).map(|node| node.round).collect();
         assert_eq!(ghosts, [1, 2, 5, 4, 7, 6].map(Round));
-        let before = tree.clone();
+        let (before, mut second) = (tree.clone(), [u64::MAX; 32]);
+        assert_eq!(tree.preview(&mut second, Round(9), 9, Round(8)), Err(Refusal::NoFreeRow));
+        assert_eq!(tree.would_make_ghost(Round(9), 9, Round(8)), Err(Refusal::NoFreeRow));
         assert_eq!(tree.add(Round(9), 9, Round(8)), Err(Refusal::NoFreeRow));
-        assert_eq!(made_ghost(before.table(), tree.table()).next(), None);
+        assert_eq!((tree.table(), second), (before.table(), [u64::MAX; 32]));
     }
     grow::<Value>();
     grow::<Command>();
@@ -237,7 +258,7 @@ fn rounds_made_ghost_in_play() {
 #[test]
 fn trees_of_both_kinds() {
     use kalebasin::{CommandTree, ValueTree};
-    let mut words = [0; 16];
+    let (mut words, mut second) = ([0; 16], [9; 16]);
     let (mut path, whole) = ([0; 4], [0, 1, 2, 0]);
     let mut edits = CommandTree::from(ValueTree::fresh(&mut words).unwrap());
     edits.add(Round(1), 70, Round::ROOT).unwrap();
@@ -245,9 +266,18 @@ fn trees_of_both_kinds() {
     assert_eq!((edits.path(Round(2), &mut path), path), (Ok(3), whole));
     let mut values = ValueTree::from_table(words);
     assert_eq!(values.add(Round(3), 80, Round(2)), Err(Refusal::NotATree));
+    assert_eq!(values.preview(&mut second, Round(3), 80, Round(2)), Err(Refusal::NotATree));
+    assert_eq!(values.would_make_ghost(Round(3), 80, Round(2)), Err(Refusal::NotATree));
+    assert_eq!(values.preview(&mut second[1..], Round(3), 80, Round(2)), Err(Refusal::LengthsDiffer));
+    assert_eq!(second, [9; 16]);
     assert_eq!(values.commit(Round(2)), Err(Refusal::NotATree));
     assert_eq!(values.path(Round(2), &mut path), Err(Refusal::NotATree));
     assert_eq!((values.into_table(), path), (words, whole));
+    let edits = CommandTree::from_table(&words[..]);
+    assert_eq!(edits.preview(&mut second, Round(3), 90, Round(1)), Ok(1));
+    assert_eq!(second, [0, 0, 0, 3, 1, 0, 70, 1, 2, 1, 80, 2, 3, 1, 90, 1]);
+    assert_eq!(edits.preview(&mut [], Round(3), 90, Round(1)), Err(Refusal::LengthsDiffer));
+    assert_eq!(edits.would_make_ghost(Round(3), 90, Round(1)), Ok(vec![Round(2)]));
     CommandTree::from_table(&mut words).commit(Round(2)).unwrap();
     assert_eq!(CommandTree::from_table(words).add(Round(3), 80, Round(1)), Err(Refusal::CrossesCommitted));
 }
