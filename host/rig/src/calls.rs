@@ -24,6 +24,8 @@ pub struct Calls {
     pub tree_fresh: fn(&mut [u64]) -> Result<(), Refusal>,
     /// `ValueTree::add` or `CommandTree::add`.
     pub tree_add: fn(TreeKind, &mut [u64], Round, u64, Round) -> Result<u32, Refusal>,
+    /// `ValueTree::preview` or `CommandTree::preview`.
+    pub tree_preview: fn(TreeKind, &[u64], &mut [u64], Round, u64, Round) -> Result<u32, Refusal>,
     /// `ValueTree::commit` or `CommandTree::commit`.
     pub tree_commit: fn(TreeKind, &mut [u64], Round) -> Result<(), Refusal>,
     /// `ValueTree::path` or `CommandTree::path`.
@@ -31,7 +33,8 @@ pub struct Calls {
 }
 
 impl Calls {
-    /// Makes a call of a tree: how many rounds an add made GHOST, or a path wrote to `out`; else 0.
+    /// Makes a call of a tree: how many rounds an add made GHOST or a preview would make so, or how many a path wrote; else 0. A path is
+    /// written to `out`, and a preview's second table is `out`.
     pub fn tree_call(
         &self,
         kind: TreeKind,
@@ -43,6 +46,9 @@ impl Calls {
             TreeCall::Fresh => (self.tree_fresh)(table).map(|()| 0),
             TreeCall::Add { round, value, parent } => {
                 (self.tree_add)(kind, table, round, value, parent).map(|ghosts| ghosts as usize)
+            }
+            TreeCall::Preview { round, value, parent } => {
+                (self.tree_preview)(kind, table, out, round, value, parent).map(|ghosts| ghosts as usize)
             }
             TreeCall::Commit(round) => (self.tree_commit)(kind, table, round).map(|()| 0),
             TreeCall::Path(round) => (self.tree_path)(kind, table, round, out),

@@ -1,10 +1,10 @@
 //! The second implementation's tree against documents 01 and 02, for both kinds of trees: cases P1 to P11, the four
 //! properties and history statuses on every short list of calls, trees as the tables that calls leave, how many rounds an
-//! add made GHOST, and what the kinds have to do with one another.
+//! add made GHOST, previews beside adds, and what the kinds have to do with one another.
 
 use kalebasin::{nodes, number_of, Node, Round, Status, TreeKind};
 use kalebasin_rig::random::Random;
-use kalebasin_rig::second::tree::{add, commit, fresh, is_tree, made_ghost, path};
+use kalebasin_rig::second::tree::{add, commit, fresh, is_tree, made_ghost, path, preview};
 use std::collections::{BTreeMap, HashSet};
 
 #[derive(Clone, Copy, Debug)]
@@ -36,6 +36,12 @@ fn run(kind: TreeKind, rows: usize, calls: &[Call]) -> (Vec<u32>, Vec<u64>) {
 fn path_of(kind: TreeKind, table: &[u64], round: u32, room: usize) -> (Result<usize, u32>, Vec<u64>) {
     let mut out = vec![99; room];
     (path(kind, table, Round(round), &mut out).map_err(|refusal| refusal.number()), out)
+}
+
+/// The answer of a preview and the second table, which held these words.
+fn preview_of(kind: TreeKind, table: &[u64], held: &[u64], (r, v, p): (u32, u64, u32)) -> (Result<u32, u32>, Vec<u64>) {
+    let mut second = held.to_vec();
+    (preview(kind, table, &mut second, Round(r), v, Round(p)).map_err(|refusal| refusal.number()), second)
 }
 
 fn status(table: &[u64], round: u32) -> Status {
@@ -77,6 +83,7 @@ fn cases_p1_to_p11() {
     }
 }
 
+/// A preview of an add that is refused gets its number, and leaves the second table.
 #[test]
 fn refusals_in_order() {
     for kind in TreeKind::ALL {
@@ -101,6 +108,10 @@ fn refusals_in_order() {
         for (one, number) in cases {
             assert_eq!(call(kind, &mut table, one), number, "{one:?}, {kind}");
             assert_eq!(table, whole, "{one:?}, {kind}");
+            if let Add(r, v, p) = one {
+                let shown = preview_of(kind, &table, &[99; 16], (r, v, p));
+                assert_eq!(shown, (Err(number), vec![99; 16]), "{one:?}, {kind}");
+            }
         }
         let (answers, _) = run(kind, 8, &[Add(1, 5, 0), Add(2, 5, 0), Commit(1), Commit(2)]);
         assert_eq!(answers, [0, 0, 12, 0], "{kind}");
@@ -329,6 +340,104 @@ fn rounds_made_ghost_by_history_statuses() {
             numbers.insert(expected);
         });
         assert_eq!(numbers, HashSet::from([0, 1, 2]), "{kind}");
+    }
+}
+
+/// Each case is the same for both kinds: how many rounds the add would make GHOST, and the second table whole.
+#[test]
+fn previews_by_hand() {
+    for kind in TreeKind::ALL {
+        let table = run(kind, 5, &[Add(1, 5, 0), Add(3, 5, 1)]).1;
+        let second = |one, three, row: [u64; 4]| [[0, 0, 0, 3], [1, 0, 5, one], [3, 1, 5, three], row, [0; 4]].concat();
+        for (name, (r, v, p), ghosts, expected) in [
+            ("none", (4, 5, 3), 0, second(1, 1, [4, 3, 5, 1])),
+            ("one", (4, 5, 1), 1, second(1, 2, [4, 1, 5, 1])),
+            ("several", (4, 6, 0), 2, second(2, 2, [4, 0, 6, 1])),
+            ("born GHOST", (2, 5, 1), 0, second(1, 1, [2, 1, 5, 2])),
+            ("born GHOST, one struck", (2, 6, 0), 1, second(2, 1, [2, 0, 6, 2])),
+        ] {
+            for held in [&[99; 20][..], &[0; 20], &table, &expected] {
+                let shown = preview_of(kind, &table, held, (r, v, p));
+                assert_eq!(shown, (Ok(ghosts), expected.clone()), "{name}, {kind}");
+            }
+        }
+    }
+    let table = run(TreeKind::Value, 5, &[Add(1, 5, 0)]).1;
+    assert_eq!(preview_of(TreeKind::Value, &table, &[99; 20], (2, 6, 1)), (Err(7), vec![99; 20]));
+    assert_eq!(preview_of(TreeKind::Command, &table, &[99; 20], (2, 6, 1)).0, Ok(0));
+}
+
+/// 1 of the first table, then 31, then 2 of the first, then 3, for tables of any lengths and whatever the second holds.
+#[test]
+fn previews_of_any_lengths() {
+    for kind in TreeKind::ALL {
+        let tree = run(kind, 5, &[Add(2, 5, 0), Add(4, 5, 2), Commit(4), Add(6, 5, 4)]).1;
+        for (table, number) in [(&tree[..], 3), (&[9; 20], 2)] {
+            for (length, room) in (0..=16).flat_map(|length| (0..=20).map(move |room| (length, room))) {
+                let number = match () {
+                    () if ![4, 8, 12, 16].contains(&length) => 1,
+                    () if room != length => 31,
+                    () => number,
+                };
+                for held in [&tree[..room], &[0; 20][..room], &[99; 20][..room]] {
+                    let shown = preview_of(kind, &table[..length], held, (0, 5, 0));
+                    assert_eq!(shown, (Err(number), held.to_vec()), "{length} and {room} words, {kind}");
+                }
+            }
+        }
+        let mut long = fresh_table(256);
+        long.resize(1_028, 0);
+        for (length, room, number) in [(1_024, 1_024, 3), (1_024, 1_028, 31), (1_025, 1_025, 1), (1_028, 1_028, 1)] {
+            let shown = preview_of(kind, &long[..length], &vec![99; room], (0, 5, 0));
+            assert_eq!(shown, (Err(number), vec![99; room]), "{length} and {room} words, {kind}");
+        }
+    }
+}
+
+/// Every short list that ends in an add: a preview of it, on the table before, has its number, and makes of the second table
+/// what the add leaves; where it is refused, the second stays.
+#[test]
+fn previews_are_adds_on_a_copy() {
+    for kind in TreeKind::ALL {
+        // of each length that of the list seen last: a list is seen right before those that it begins
+        let mut tables = vec![Vec::new(); 5];
+        let mut numbers = HashSet::new();
+        each_short_run(kind, |calls, answers, table| {
+            tables[calls.len()] = table.to_vec();
+            let Some((&Add(r, v, p), before)) = calls.split_last() else { return };
+            let first = &tables[before.len()];
+            let expected = match answers[before.len()] {
+                0 => (Ok(made_ghost(first, table)), table.to_vec()),
+                number => (Err(number), vec![99; 24]),
+            };
+            assert_eq!(preview_of(kind, first, &[99; 24], (r, v, p)), expected, "{calls:?}, {kind}");
+            numbers.insert(answers[before.len()]);
+        });
+        assert_eq!(numbers, HashSet::from([0, 4, 5, 6, behind_7(kind, 8), 8]), "{kind}");
+    }
+}
+
+/// Every add on every tree of commands in four rows, those of values among them, with anything in the second table.
+#[test]
+fn previews_in_any_table() {
+    let mut random = Random::new(2);
+    let mut trees: Vec<Vec<u64>> = reachable(TreeKind::Command, 4).into_iter().collect();
+    trees.sort_unstable();
+    for kind in TreeKind::ALL {
+        for table in &trees {
+            for one in alphabet(4) {
+                let Add(r, v, p) = one else { continue };
+                let held: Vec<u64> = match random.below(3) {
+                    0 => random.pick(&trees).clone(),
+                    1 => (0..16).map(|_| random.below(5) as u64).collect(),
+                    _ => vec![u64::MAX; 16],
+                };
+                let mut after = table.clone();
+                let answer = add(kind, &mut after, Round(r), v, Round(p)).map_err(|refusal| refusal.number());
+                let second = if answer.is_ok() { after } else { held.clone() };
+                assert_eq!(preview_of(kind, table, &held, (r, v, p)), (answer, second), "{one:?} on {table:?}, {kind}");
+            }
+        }
     }
 }
 

@@ -1,4 +1,4 @@
-//! The second implementation: document 01, and Tickets 1 to 4 of document 02, in plain Rust, written from the
+//! The second implementation: document 01, and Tickets 1 to 5 of document 02, in plain Rust, written from the
 //! documents alone.
 //!
 //! It is the reference for tests: the proved core is compared with it call for call, lent memory included. It has no
@@ -29,6 +29,7 @@ pub const CALLS: Calls = Calls {
     member_deliver: member::deliver_fields,
     tree_fresh: tree::fresh,
     tree_add: tree::add,
+    tree_preview: tree::preview,
     tree_commit: tree::commit,
     tree_path: tree::path,
 };

@@ -35,6 +35,27 @@ pub fn add(kind: TreeKind, table: &mut [u64], round: Round, value: u64, parent: 
     machine_add(kind, table, round.0.into(), value, parent.0.into())
 }
 
+/// What add(r, v, p) would do: the second table becomes what the first would, and the answer is that of add. The second
+/// is as long as the first and may hold anything.
+pub fn preview(
+    kind: TreeKind,
+    table: &[u64],
+    second: &mut [u64],
+    round: Round,
+    value: u64,
+    parent: Round,
+) -> Result<u32, Refusal> {
+    check_length(table)?;
+    if second.len() != table.len() {
+        return Err(Refusal::LengthsDiffer);
+    }
+    let mut memory = copy_of(table);
+    let copy = &mut memory[..table.len()];
+    let ghosts = add(kind, copy, round, value, parent)?;
+    second.copy_from_slice(copy);
+    Ok(ghosts)
+}
+
 /// commit(r). The kind says which tables are trees.
 pub fn commit(kind: TreeKind, table: &mut [u64], round: Round) -> Result<(), Refusal> {
     check_table(kind, table)?;
@@ -118,11 +139,16 @@ fn check_round(round: Round) -> Result<(), Refusal> {
 /// # Panics
 /// May, where the table's length isn't one of a tree.
 pub fn machine_add(kind: TreeKind, table: &mut [u64], r: u64, v: u64, p: u64) -> Result<u32, Refusal> {
-    let mut memory = [0; TABLE_ROW * TABLE_ROWS];
-    let before = &mut memory[..table.len()];
-    before.copy_from_slice(table);
+    let before = copy_of(table);
     enter(kind, table, r, v, p)?;
-    Ok(made_ghost(before, table))
+    Ok(made_ghost(&before[..table.len()], table))
+}
+
+/// The words of a table that is no longer than a tree's can be, zeros after.
+fn copy_of(table: &[u64]) -> [u64; TABLE_ROW * TABLE_ROWS] {
+    let mut memory = [0; TABLE_ROW * TABLE_ROWS];
+    memory[..table.len()].copy_from_slice(table);
+    memory
 }
 
 /// The number of rounds that are ADDED before an add and GHOST after it. A node keeps its row, and that of the new one is
