@@ -1,4 +1,4 @@
-//! A tree as text, as DOT and as SVG.
+//! A tree, or the trees before and after an add side by side, as text, as DOT and as SVG.
 
 use kalebasin::{nodes, Node, Round, Status};
 use std::fmt::Write;
@@ -30,6 +30,32 @@ fn text_below(nodes: &[Node], round: Round, indent: &str, out: &mut String) {
     }
 }
 
+/// Two trees side by side as text, each below its heading.
+///
+/// ```
+/// let (before, after) = ([0, 0, 0, 3, 1, 0, 70, 1, 0, 0, 0, 0], [0, 0, 0, 3, 1, 0, 70, 2, 2, 0, 80, 1]);
+/// assert_eq!(kalebasin_rig::draw::text_beside(&before, &after), "\
+/// before                          after
+/// root                            root
+/// └─ round 1, value 70, ADDED     ├─ round 1, value 70, GHOST
+///                                 └─ round 2, value 80, ADDED
+/// ");
+/// ```
+pub fn text_beside(before: &[u64], after: &[u64]) -> String {
+    let [left, right] = [format!("before\n{}", text(before)), format!("after\n{}", text(after))];
+    let width = left.lines().map(|line| line.chars().count()).max().unwrap_or(0) + BETWEEN;
+    let (mut left_lines, mut right_lines) = (left.lines(), right.lines());
+    let mut out = String::new();
+    for _ in 0..left.lines().count().max(right.lines().count()) {
+        let line = format!("{:<width$}{}", left_lines.next().unwrap_or(""), right_lines.next().unwrap_or(""));
+        let _ = writeln!(out, "{}", line.trim_end());
+    }
+    out
+}
+
+/// The blanks between two trees.
+const BETWEEN: usize = 5;
+
 /// The children of a round, lowest first. A child's round is above its parent's, so the root is nobody's child, and nobody its
 /// own.
 fn children(nodes: &[Node], parent: Round) -> Vec<Node> {
@@ -41,15 +67,31 @@ fn children(nodes: &[Node], parent: Round) -> Vec<Node> {
 
 /// The tree in the DOT language, edges from child to parent.
 pub fn dot(table: &[u64]) -> String {
-    let mut out = String::from("digraph tree {\n  rankdir = BT;\n  node [shape = box, style = filled];\n");
+    format!("{DOT_HEAD}{}}}\n", dot_nodes(table, "  r"))
+}
+
+/// Two trees side by side in the DOT language, each in a box with its heading.
+pub fn dot_beside(before: &[u64], after: &[u64]) -> String {
+    let mut out = String::from(DOT_HEAD);
+    for (heading, table) in [("before", before), ("after", after)] {
+        let nodes = dot_nodes(table, &format!("    {heading}"));
+        let _ = write!(out, "  subgraph cluster_{heading} {{\n    label = \"{heading}\";\n{nodes}  }}\n");
+    }
+    out + "}\n"
+}
+
+const DOT_HEAD: &str = "digraph tree {\n  rankdir = BT;\n  node [shape = box, style = filled];\n";
+
+/// The nodes and edges of a tree, a line for each; `name` stands in front of a round.
+fn dot_nodes(table: &[u64], name: &str) -> String {
+    let mut out = String::new();
     for node in nodes(table) {
         let label = label(&node).join("\\n");
-        let _ = writeln!(out, "  r{} [label = \"{label}\", fillcolor = \"{}\"];", node.round, colour(node.status));
+        let _ = writeln!(out, "{name}{} [label = \"{label}\", fillcolor = \"{}\"];", node.round, colour(node.status));
         if node.round != Round::ROOT {
-            let _ = writeln!(out, "  r{} -> r{};", node.round, node.parent);
+            let _ = writeln!(out, "{name}{} -> {}{};", node.round, name.trim_start(), node.parent);
         }
     }
-    out.push_str("}\n");
     out
 }
 
@@ -73,6 +115,8 @@ const BOX_WIDTH: usize = 226;
 const BOX_HEIGHT: usize = 58;
 const GAP: usize = 24;
 const LINE: usize = 16;
+/// The height of a heading.
+const HEADING: usize = 32;
 
 /// A node with its place: columns count leaves from the left in half steps, rows count from the root.
 struct Placed {
@@ -97,21 +141,56 @@ impl Placed {
 
 /// The tree as an SVG picture: the root at the top, each parent in the middle above its children.
 pub fn svg(table: &[u64]) -> String {
-    let placed = place(table);
-    let width = placed.iter().map(|place| place.left() + BOX_WIDTH).max().unwrap_or(0) + GAP;
-    let height = placed.iter().map(|place| place.top() + BOX_HEIGHT).max().unwrap_or(0) + GAP;
-    let mut out = format!(
+    let tree = SvgTree::new(table);
+    svg_picture(tree.width, tree.height, &tree.drawn)
+}
+
+/// Two trees side by side as an SVG picture, each below its heading.
+pub fn svg_beside(before: &[u64], after: &[u64]) -> String {
+    let [left, right] = [before, after].map(SvgTree::new);
+    let mut drawn = String::new();
+    for (heading, tree, at) in [("before", &left, 0), ("after", &right, left.width)] {
+        let (middle, line) = (at + tree.width / 2, HEADING - LINE / 2);
+        let _ = write!(
+            drawn,
+            "<text x=\"{middle}\" y=\"{line}\" text-anchor=\"middle\" font-weight=\"bold\">{heading}</text>\n\
+             <g transform=\"translate({at} {HEADING})\">\n{}</g>\n",
+            tree.drawn
+        );
+    }
+    svg_picture(left.width + right.width, HEADING + left.height.max(right.height), &drawn)
+}
+
+fn svg_picture(width: usize, height: usize, drawn: &str) -> String {
+    format!(
         "<svg xmlns=\"http://www.w3.org/2000/svg\" width=\"{width}\" height=\"{height}\" \
-         viewBox=\"0 0 {width} {height}\" font-family=\"sans-serif\" font-size=\"13\">\n"
-    );
-    for child in &placed {
-        if let Some(parent) = placed.iter().find(|place| place.node.round == child.node.parent) {
-            svg_edge(parent, child, &mut out);
+         viewBox=\"0 0 {width} {height}\" font-family=\"sans-serif\" font-size=\"13\">\n{drawn}</svg>\n"
+    )
+}
+
+/// A tree drawn, with a gap around it.
+struct SvgTree {
+    width: usize,
+    height: usize,
+    drawn: String,
+}
+
+impl SvgTree {
+    fn new(table: &[u64]) -> SvgTree {
+        let placed = place(table);
+        let mut drawn = String::new();
+        for child in &placed {
+            if let Some(parent) = placed.iter().find(|place| place.node.round == child.node.parent) {
+                svg_edge(parent, child, &mut drawn);
+            }
+        }
+        placed.iter().for_each(|place| svg_node(place, &mut drawn));
+        SvgTree {
+            width: placed.iter().map(|place| place.left() + BOX_WIDTH).max().unwrap_or(0) + GAP,
+            height: placed.iter().map(|place| place.top() + BOX_HEIGHT).max().unwrap_or(0) + GAP,
+            drawn,
         }
     }
-    placed.iter().for_each(|place| svg_node(place, &mut out));
-    out.push_str("</svg>\n");
-    out
 }
 
 fn svg_edge(parent: &Placed, child: &Placed, out: &mut String) {

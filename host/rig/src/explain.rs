@@ -124,7 +124,7 @@ fn counted_join(before: &Model, sender: Member, is: &Record, step: &Step, sent: 
     if let Some(proposal) = step.proposal {
         let source =
             if proposal.parent.0 == 0 { "its own offer".into() } else { format!("from round {}", proposal.parent) };
-        let ghosts = ghosts_in_words(", which", first_crossed(before, proposal));
+        let ghosts = ghosts_in_words(", which makes", first_crossed(before, proposal));
         words += &format!(
             "; that is a quorum, {needed} of {}: it proposes {} ({source}), add({},{},{}){ghosts}, and sends {sent}",
             is.n, proposal.value, proposal.round, proposal.value, proposal.parent

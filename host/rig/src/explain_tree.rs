@@ -14,12 +14,15 @@ pub struct Called {
     pub ghosts: usize,
     /// The call in words, with the second implementation's answer.
     pub explained: Explained,
+    /// Of an accepted preview the tables before and after the add that it shows.
+    pub previewed: Option<[Vec<u64>; 2]>,
     /// What the second implementation does otherwise.
     pub difference: Option<String>,
 }
 
 /// Makes a list of calls on a fresh table of so many rows, by an implementation and by the second one: each call, and the table
-/// that the implementation leaves. A path is lent as many words as the table has rows, which is enough for any.
+/// that the implementation leaves. A path is lent as many words as the table has rows, which is enough for any; a preview a second
+/// table of zeros.
 ///
 /// ```
 /// use kalebasin_rig::{explain_tree::explain, second};
@@ -49,6 +52,7 @@ pub fn explain(calls: &Calls, list: &TreeCallList, table_rows: usize) -> Result<
         called.push(Called {
             answer: number_of(&answers[0]),
             ghosts: ghosts_answered(*call, answers[0]),
+            previewed: previewed(&own, *call, answers[0]),
             explained: Explained { notation: call.to_string(), answer: number_of(&answers[1]), words },
             difference: difference([&own, &reference], *call, answers),
         });
@@ -56,25 +60,28 @@ pub fn explain(calls: &Calls, list: &TreeCallList, table_rows: usize) -> Result<
     Ok((called, own.table))
 }
 
-/// The table of an implementation, and the words lent for a path.
+/// The table of an implementation, and the words lent for a path or as a second table.
 struct Run<'a> {
     calls: &'a Calls,
     table: Vec<u64>,
-    path: Vec<u64>,
+    out: Vec<u64>,
 }
 
 impl Run<'_> {
     fn fresh(calls: &Calls, table_rows: usize) -> Result<Run<'_>, Refusal> {
         // One row more than a tree has is enough to be refused.
         let rows = table_rows.min(TABLE_ROWS + 1);
-        let mut run = Run { calls, table: vec![0; rows * TABLE_ROW], path: vec![0; rows] };
+        let mut run = Run { calls, table: vec![0; rows * TABLE_ROW], out: Vec::new() };
         (calls.tree_fresh)(&mut run.table)?;
         Ok(run)
     }
 
     fn call(&mut self, kind: TreeKind, call: TreeCall) -> Result<usize, Refusal> {
-        self.path.fill(0);
-        self.calls.tree_call(kind, &mut self.table, call, &mut self.path)
+        self.out = match call {
+            TreeCall::Preview { .. } => vec![0; self.table.len()],
+            _ => vec![0; self.table.len() / TABLE_ROW],
+        };
+        self.calls.tree_call(kind, &mut self.table, call, &mut self.out)
     }
 }
 
@@ -86,20 +93,29 @@ fn ghosts_answered(call: TreeCall, answer: Result<usize, Refusal>) -> usize {
     }
 }
 
+/// The tables before and after the add that a preview shows which was answered so.
+fn previewed(run: &Run, call: TreeCall, answer: Result<usize, Refusal>) -> Option<[Vec<u64>; 2]> {
+    match (call, answer) {
+        (TreeCall::Preview { .. }, Ok(_)) => Some([run.table.clone(), run.out.clone()]),
+        _ => None,
+    }
+}
+
 /// What the second of two does otherwise than the first, after a call that they answered so.
 fn difference([one, other]: [&Run; 2], call: TreeCall, answers: [Result<usize, Refusal>; 2]) -> Option<String> {
     let numbers = answers.map(|answer| number_of(&answer));
-    let ghosts = answers.map(|answer| ghosts_answered(call, answer));
     if numbers[0] != numbers[1] {
-        Some(format!("ANSWERS {}", numbers[1]))
-    } else if ghosts[0] != ghosts[1] {
-        Some(format!("MAKES {} GHOST, NOT {}", ghosts[1], ghosts[0]))
-    } else if answers[0] != answers[1] || one.path != other.path {
-        Some("WRITES ANOTHER PATH".into())
-    } else if one.table != other.table {
-        Some("LEAVES ANOTHER TABLE".into())
-    } else {
-        None
+        return Some(format!("ANSWERS {}", numbers[1]));
+    }
+    let counts = answers.map(|answer| answer.unwrap_or(0));
+    let same_count = counts[0] == counts[1];
+    match call {
+        TreeCall::Add { .. } if !same_count => Some(format!("MAKES {} GHOST, NOT {}", counts[1], counts[0])),
+        TreeCall::Preview { .. } if !same_count => Some(format!("WOULD MAKE {} GHOST, NOT {}", counts[1], counts[0])),
+        TreeCall::Preview { .. } if one.out != other.out => Some("SHOWS ANOTHER ADD".into()),
+        _ if !same_count || one.out != other.out => Some("WRITES ANOTHER PATH".into()),
+        _ if one.table != other.table => Some("LEAVES ANOTHER TABLE".into()),
+        _ => None,
     }
 }
 
@@ -107,28 +123,37 @@ fn accepted(before: &[u64], after: &Run, call: TreeCall, count: usize) -> String
     match call {
         TreeCall::Fresh => "the table has the root alone".into(),
         TreeCall::Add { round, value, parent } => {
-            let place = format!("below {}, with the value {value}", named(parent));
-            let words = match nodes(before).map(|node| node.round).find(|other| *other > round) {
-                Some(higher) => format!("round {round} is GHOST {place}: round {higher} is there already"),
-                None => format!("round {round} is ADDED {place}"),
-            };
-            words + &ghosts_in_words("; the add", made_ghost(before, &after.table).collect())
+            let ghosts = ghosts_in_words("; the add makes", made_ghost(before, &after.table).collect());
+            added(before, "is", round, value, parent) + &ghosts
+        }
+        TreeCall::Preview { round, value, parent } => {
+            let ghosts = ghosts_in_words("; the add would make", made_ghost(before, &after.out).collect());
+            added(before, "would be", round, value, parent) + &ghosts
         }
         TreeCall::Commit(round) => format!("round {round} becomes COMMITTED"),
         TreeCall::Path(round) => {
-            let rounds: Vec<String> = after.path[..count].iter().map(u64::to_string).collect();
+            let rounds: Vec<String> = after.out[..count].iter().map(u64::to_string).collect();
             format!("the path of {} is {}", named(round), rounds.join(", "))
         }
     }
 }
 
-/// What stands behind an add that made these rounds GHOST, from the words that name it on: `; the add makes 2 rounds GHOST: rounds 1
-/// and 3`.
-pub(crate) fn ghosts_in_words(the_add: &str, rounds: Vec<Round>) -> String {
+/// What becomes of an added round; `is` says whether it is so or would be so.
+fn added(before: &[u64], is: &str, round: Round, value: u64, parent: Round) -> String {
+    let place = format!("below {}, with the value {value}", named(parent));
+    match nodes(before).map(|node| node.round).find(|other| *other > round) {
+        Some(higher) => format!("round {round} {is} GHOST {place}: round {higher} is there already"),
+        None => format!("round {round} {is} ADDED {place}"),
+    }
+}
+
+/// What stands behind an add that made these rounds GHOST, from the words that say that it does: `; the add makes 2 rounds GHOST:
+/// rounds 1 and 3`.
+pub(crate) fn ghosts_in_words(the_add_makes: &str, rounds: Vec<Round>) -> String {
     match rounds.len() {
         0 => String::new(),
-        1 => format!("{the_add} makes 1 round GHOST: {}", all_named(rounds)),
-        count => format!("{the_add} makes {count} rounds GHOST: {}", all_named(rounds)),
+        1 => format!("{the_add_makes} 1 round GHOST: {}", all_named(rounds)),
+        count => format!("{the_add_makes} {count} rounds GHOST: {}", all_named(rounds)),
     }
 }
 
@@ -137,6 +162,9 @@ fn refused(before: &[Node], call: TreeCall, refusal: Refusal) -> String {
         TreeCall::Fresh => "the table can't be made fresh".into(),
         TreeCall::Add { round, value, parent } => {
             format!("round {round} can't be added below {} with the value {value}", named(parent))
+        }
+        TreeCall::Preview { round, value, parent } => {
+            format!("round {round} couldn't be added below {} with the value {value}", named(parent))
         }
         TreeCall::Commit(round) => format!("round {round} can't be committed"),
         TreeCall::Path(round) => format!("round {round} has no path"),
@@ -148,6 +176,11 @@ fn refused(before: &[Node], call: TreeCall, refusal: Refusal) -> String {
 /// The cause in particular, where there is more to say than the refusal's own words.
 fn why(before: &[Node], call: TreeCall, refusal: Refusal) -> Option<String> {
     let node = |round| before.iter().find(|node| node.round == round);
+    // a preview is refused as its add is
+    let call = match call {
+        TreeCall::Preview { round, value, parent } => TreeCall::Add { round, value, parent },
+        call => call,
+    };
     Some(match (refusal, call) {
         (Refusal::RoundRange, _) => "rounds run from 1 to 1,000,000".into(),
         (Refusal::RoundPresent, TreeCall::Add { round, .. }) => {

@@ -15,6 +15,7 @@ pub const CALLS: Calls = Calls {
     member_deliver,
     tree_fresh,
     tree_add,
+    tree_preview,
     tree_commit,
     tree_path,
 };
@@ -50,6 +51,20 @@ fn tree_add(kind: TreeKind, table: &mut [u64], round: Round, value: u64, parent:
     match kind {
         TreeKind::Value => ValueTree::from_table(table).add(round, value, parent),
         TreeKind::Command => CommandTree::from_table(table).add(round, value, parent),
+    }
+}
+
+fn tree_preview(
+    kind: TreeKind,
+    table: &[u64],
+    second: &mut [u64],
+    round: Round,
+    value: u64,
+    parent: Round,
+) -> Result<u32, Refusal> {
+    match kind {
+        TreeKind::Value => ValueTree::from_table(table).preview(second, round, value, parent),
+        TreeKind::Command => CommandTree::from_table(table).preview(second, round, value, parent),
     }
 }
 

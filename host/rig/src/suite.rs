@@ -525,7 +525,7 @@ pub fn each_damage(bytes: &[u8], look: &mut Look) -> Result<(), String> {
     (0..=255).try_for_each(|last| look(&[bytes, &[last]].concat()))
 }
 
-/// What a tree call left: its answer, the table and the words lent for a path, with guards on both sides.
+/// What a tree call left: its answer, the table, and the words lent for a path or as a second table, with guards on both sides.
 #[derive(Clone, Debug, PartialEq, Eq)]
 struct TreeLeft {
     answer: Result<usize, Refusal>,
@@ -536,30 +536,39 @@ struct TreeLeft {
 const GUARD: usize = 3;
 const MARK: u64 = 77_777;
 
-fn tree_call(calls: &Calls, kind: TreeKind, table: &[u64], call: TreeCall, room: usize) -> TreeLeft {
+fn tree_call(calls: &Calls, kind: TreeKind, table: &[u64], call: TreeCall, out: &[u64]) -> TreeLeft {
     let guarded = |words: &[u64]| [&[MARK; GUARD], words, &[MARK; GUARD]].concat();
-    let mut left = TreeLeft { answer: Ok(0), table: guarded(table), out: vec![MARK; room + 2 * GUARD] };
-    let (lent, out) = (&mut left.table[GUARD..GUARD + table.len()], &mut left.out[GUARD..GUARD + room]);
+    let mut left = TreeLeft { answer: Ok(0), table: guarded(table), out: guarded(out) };
+    let (lent, out) = (&mut left.table[GUARD..GUARD + table.len()], &mut left.out[GUARD..GUARD + out.len()]);
     left.answer = calls.tree_call(kind, lent, call, out);
     left
 }
 
-/// Makes a call by both, with so many words for a path.
-fn compare_tree(calls: Pair, kind: TreeKind, table: &[u64], call: TreeCall, room: usize) -> Result<(), String> {
-    let left = calls.map(|calls| tree_call(calls, kind, table, call, room));
+/// Makes a call by both, with these words for a path or as a second table.
+fn compare_tree(calls: Pair, kind: TreeKind, table: &[u64], call: TreeCall, out: &[u64]) -> Result<(), String> {
+    let left = calls.map(|calls| tree_call(calls, kind, table, call, out));
     if left[0] == left[1] {
         return Ok(());
     }
-    let smaller = |at: usize| [&table[..at * TABLE_ROW], &table[(at + 1) * TABLE_ROW..]].concat();
+    let smaller = |words: &[u64], at: usize| [&words[..at * TABLE_ROW], &words[(at + 1) * TABLE_ROW..]].concat();
     for at in 0..table.len() / TABLE_ROW {
-        compare_tree(calls, kind, &smaller(at), call, room)?;
+        // a second table stays as long as the first
+        let out = if out.len() == table.len() { smaller(out, at) } else { out.to_vec() };
+        compare_tree(calls, kind, &smaller(table, at), call, &out)?;
+    }
+    for at in 0..out.len() / TABLE_ROW {
+        compare_tree(calls, kind, table, call, &smaller(out, at))?;
     }
     let names = calls.map(|calls| calls.name);
     let of = |at: usize| {
-        format!("{}: {:?}, table {:?}, path {:?}", names[at], left[at].answer, left[at].table, left[at].out)
+        format!("{}: {:?}, table {:?}, lent {:?}", names[at], left[at].answer, left[at].table, left[at].out)
     };
-    let room = if let TreeCall::Path(_) = call { format!(" with {room} words lent") } else { String::new() };
-    Err(format!("kind={kind} {call}{room} on the table {table:?}\n{}\n{}", of(0), of(1)))
+    let lent = match call {
+        TreeCall::Path(_) => format!(" with {} words lent", out.len()),
+        TreeCall::Preview { .. } => format!(" in the table {out:?}"),
+        _ => String::new(),
+    };
+    Err(format!("kind={kind} {call}{lent} on the table {table:?}\n{}\n{}", of(0), of(1)))
 }
 
 /// Every table of three rows with small words, and every call of either kind with small numbers on it.
@@ -569,6 +578,7 @@ pub fn small_tables(calls: Pair) -> Compared {
         tree_calls.extend([(TreeCall::Commit(round), 0), (TreeCall::Path(round), 2), (TreeCall::Path(round), 4)]);
         for parent in (0..=4).map(Round) {
             tree_calls.extend([0, 5].map(|value| (TreeCall::Add { round, value, parent }, 0)));
+            tree_calls.extend([12, 16].map(|room| (TreeCall::Preview { round, value: 5, parent }, room)));
         }
     }
     let row = |code: u64| [code % 4, code / 4 % 4, code / 16 % 2 * 5, code / 32];
@@ -579,7 +589,7 @@ pub fn small_tables(calls: Pair) -> Compared {
             table.resize(12 + spare, 0);
             for (call, room) in &tree_calls {
                 for kind in TreeKind::ALL {
-                    compare_tree(calls, kind, &table, *call, *room)?;
+                    compare_tree(calls, kind, &table, *call, &[MARK; 16][..*room])?;
                     compared += 1;
                 }
             }
@@ -606,9 +616,14 @@ pub fn random_trees(calls: Pair, seed: u64, trees: usize) -> Compared {
         for _ in 0..random.between(1, 2 * rows.min(60)) {
             let (call, few) = (random_call(&mut random, &table, highest), random.below(8));
             let room = *random.pick(&[few, rows]);
-            for table in [&table, &damaged(&table, &mut random)] {
+            let damage = damaged(&table, &mut random);
+            for table in [&table, &damage] {
+                let out = match call {
+                    TreeCall::Preview { .. } => second_table(table, &damage, &mut random),
+                    _ => vec![MARK; room],
+                };
                 for kind in TreeKind::ALL {
-                    compare_tree(calls, kind, table, call, room)?;
+                    compare_tree(calls, kind, table, call, &out)?;
                     compared += 1;
                 }
             }
@@ -621,23 +636,47 @@ pub fn random_trees(calls: Pair, seed: u64, trees: usize) -> Compared {
     Ok(compared)
 }
 
+/// What a preview of a table may find in the second: marks, the same table, or other words, of its length or now and then of another.
+fn second_table(table: &[u64], other: &[u64], random: &mut Random) -> Vec<u64> {
+    let marks = vec![MARK; table.len()];
+    let mut second = random.pick(&[&marks[..], table, other]).to_vec();
+    let few = random.below(10);
+    let length = if random.chance(85) { table.len() } else { (table.len() + 5).saturating_sub(few) };
+    second.resize(length, MARK);
+    second
+}
+
 /// A call about a round up to `highest`, or about one of the last nodes that are there: adds below those make long paths.
 fn random_call(random: &mut Random, table: &[u64], highest: usize) -> TreeCall {
     let there: Vec<Node> = nodes(table).collect();
     let node = random.chance(50).then(|| *random.pick(&there[there.len().saturating_sub(3)..]));
     let round = node.map_or(Round(random.between(0, highest) as u32), |node| node.round);
-    match (random.below(100), node) {
-        (0..=1, _) => TreeCall::Fresh,
-        (2..=70, Some(Node { round: parent, value, .. })) => {
+    match random.below(120) {
+        0..=1 => TreeCall::Fresh,
+        2..=70 => {
+            let (round, value, parent) = random_add(random, node, round);
+            TreeCall::Add { round, value, parent }
+        }
+        71..=85 => TreeCall::Commit(round),
+        86..=99 => TreeCall::Path(round),
+        _ => {
+            let (round, value, parent) = random_add(random, node, round);
+            TreeCall::Preview { round, value, parent }
+        }
+    }
+}
+
+/// The arguments of an add below this node, or else of this round.
+fn random_add(random: &mut Random, node: Option<Node>, round: Round) -> (Round, u64, Round) {
+    match node {
+        Some(Node { round: parent, value, .. }) => {
             let round = Round(parent.0 + random.between(1, 3) as u32);
-            TreeCall::Add { round, value: *random.pick(&[value, value, value, 6]), parent }
+            (round, *random.pick(&[value, value, value, 6]), parent)
         }
-        (2..=70, None) => {
+        None => {
             let parent = if random.chance(50) { 0 } else { random.below(round.0 as usize + 2) };
-            TreeCall::Add { round, value: *random.pick(&[5, 5, 5, 6]), parent: Round(parent as u32) }
+            (round, *random.pick(&[5, 5, 5, 6]), Round(parent as u32))
         }
-        (71..=85, _) => TreeCall::Commit(round),
-        _ => TreeCall::Path(round),
     }
 }
 

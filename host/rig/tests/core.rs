@@ -192,13 +192,14 @@ fn refused_members_field_by_field() {
     assert_eq!(reply, [0xaa; 28]);
 }
 
-/// A refused play, add or path has 0 in every other field.
+/// A refused play, add, preview or path has 0 in every other field.
 #[test]
 fn refused_results_field_by_field() {
-    let (mut store, mut table, mut answers, mut out) = ([0u8; 28], [0u64; 8], [0u8; 4], [0u64; 4]);
+    let (mut store, mut table, mut answers) = ([0u8; 28], [0u64; 8], [0u8; 4]);
+    let (mut second, mut out) = ([0u64; 8], [0u64; 4]);
     let list = notation::parse("n=4 s(1,1,70)", None).unwrap().to_bytes();
     // SAFETY: each pointer and length come from one slice.
-    let (played, adds, paths) = unsafe {
+    let (played, adds, previews, paths) = unsafe {
         let played = ffi::kalebasin_play(
             list.as_ptr(),
             list.len(),
@@ -210,42 +211,80 @@ fn refused_results_field_by_field() {
             answers.len(),
         );
         let (words, length, rounds, room) = (table.as_mut_ptr(), table.len(), out.as_mut_ptr(), out.len());
+        let shown = second.as_mut_ptr();
         let adds =
             [ffi::kalebasin_tree_add(words, length, 1, 70, 0), ffi::kalebasin_command_add(words, length, 1, 70, 0)];
+        let previews = [
+            ffi::kalebasin_tree_preview(words, length, shown, length, 1, 70, 0),
+            ffi::kalebasin_command_preview(words, length, shown, length, 1, 70, 0),
+        ];
         let paths = [
             ffi::kalebasin_tree_path(words, length, 0, rounds, room),
             ffi::kalebasin_command_path(words, length, 0, rounds, room),
         ];
-        (played, adds, paths)
+        (played, adds, previews, paths)
     };
     let counts = [played.accepted, played.messages, played.proposals, played.decisions, played.ghosts];
     assert_eq!((played.number, counts), (27, [0; 5]));
-    assert_eq!(adds, [ffi::AddResult { number: 2, ghosts: 0 }; 2]);
+    assert_eq!([adds, previews], [[ffi::AddResult { number: 2, ghosts: 0 }; 2]; 2]);
     assert_eq!(paths, [ffi::PathResult { number: 2, count: 0 }; 2]);
 }
 
-/// A refused add counts none and changes nothing, though its edge crosses a round that is ADDED. Of three full tables the second has
-/// a COMMITTED round, and the third is a tree of commands alone.
+/// A full table, with the value and the status of its last round.
+const fn full(value: u64, status: u64) -> [u64; 12] {
+    [0, 0, 0, 3, 2, 0, 70, 1, 4, 2, value, status]
+}
+
+/// An add that is refused: the table, the round, the value, the parent, and the number of each kind.
+struct Refused([u64; 12], u32, u64, u32, [u32; 2]);
+
+/// But for the one with 6, each one's edge crosses a round that is ADDED. One table is a tree of commands alone, and one has a
+/// COMMITTED round.
+const REFUSED: [Refused; 8] = [
+    Refused(full(80, 1), 5, 80, 0, [2, 9]),
+    Refused(full(70, 1), 1_000_001, 70, 0, [3, 3]),
+    Refused(full(70, 1), 4, 70, 0, [4, 4]),
+    Refused(full(70, 1), 5, 70, 1, [5, 5]),
+    Refused(full(70, 1), 3, 70, 4, [6, 6]),
+    Refused(full(70, 1), 5, 80, 2, [7, 9]),
+    Refused(full(70, 3), 5, 80, 0, [8, 8]),
+    Refused(full(70, 1), 5, 80, 0, [9, 9]),
+];
+
+/// A refused add counts none and changes nothing.
 #[test]
 fn refused_adds_count_none() {
     type Add = unsafe extern "C" fn(*mut u64, usize, u32, u64, u32) -> ffi::AddResult;
     let adds: [Add; 2] = [ffi::kalebasin_tree_add, ffi::kalebasin_command_add];
-    let table = |value, status| [0, 0, 0, 3, 2, 0, 70, 1, 4, 2, value, status];
-    let [added, committed, commands] = [table(70, 1), table(70, 3), table(80, 1)];
-    for (before, round, value, parent, numbers) in [
-        (commands, 5, 80, 0, [2, 9]),
-        (added, 1_000_001, 70, 0, [3, 3]),
-        (added, 4, 70, 0, [4, 4]),
-        (added, 5, 70, 1, [5, 5]),
-        (added, 5, 80, 2, [7, 9]),
-        (committed, 5, 80, 0, [8, 8]),
-        (added, 5, 80, 0, [9, 9]),
-    ] {
+    for Refused(before, round, value, parent, numbers) in REFUSED {
         for (add, number) in adds.into_iter().zip(numbers) {
             let mut table = before;
             // SAFETY: pointer and length come from one array.
             let result = unsafe { add(table.as_mut_ptr(), table.len(), round, value, parent) };
             assert_eq!((result, table), (ffi::AddResult { number, ghosts: 0 }, before));
+        }
+    }
+}
+
+/// A refused preview counts none and leaves both tables, whatever the second holds: 1 for the length of the first, 31 where the
+/// second has another, then what the add gets.
+#[test]
+fn refused_previews_count_none() {
+    type Preview = unsafe extern "C" fn(*const u64, usize, *mut u64, usize, u32, u64, u32) -> ffi::AddResult;
+    let previews: [Preview; 2] = [ffi::kalebasin_tree_preview, ffi::kalebasin_command_preview];
+    let fresh: [u64; 16] = std::array::from_fn(|word| if word == 3 { 3 } else { 0 });
+    let lengths = [(12, 0, 31), (12, 8, 31), (12, 11, 31), (12, 16, 31), (11, 11, 1), (11, 12, 1), (0, 0, 1)];
+    for Refused(before, round, value, parent, numbers) in REFUSED {
+        for (preview, number) in previews.into_iter().zip(numbers) {
+            for (length, room, number) in lengths.into_iter().chain([(12, 12, number)]) {
+                for held in [fresh, [u64::MAX; 16]] {
+                    let (mut table, mut second) = (before, held);
+                    let (words, shown) = (table.as_mut_ptr(), second.as_mut_ptr());
+                    // SAFETY: the arrays have at least so many words each.
+                    let result = unsafe { preview(words, length, shown, room, round, value, parent) };
+                    assert_eq!((result, table, second), (ffi::AddResult { number, ghosts: 0 }, before, held));
+                }
+            }
         }
     }
 }
@@ -291,6 +330,27 @@ fn longest_path<K: Kind>() {
     });
     assert_eq!(count, Ok(TABLE_ROWS));
     assert!(path.iter().copied().eq(0..TABLE_ROWS as u64));
+}
+
+/// The largest preview: in a table of 256 rows with one free, of an add that makes all rounds GHOST. The add then does the same.
+#[test]
+fn the_largest_preview_on_a_stack_of_64_kib() {
+    largest_preview::<Value>();
+    largest_preview::<Command>();
+}
+
+fn largest_preview<K: Kind>() {
+    let (mut table, mut second) = (vec![1; TABLE_ROWS * TABLE_ROW], vec![u64::MAX; TABLE_ROWS * TABLE_ROW]);
+    let last = TABLE_ROWS as u32 - 1;
+    let ghosts = on_a_small_stack(|| {
+        let mut tree = Tree::<K, _>::fresh(&mut table)?;
+        for round in 1..last {
+            tree.add(Round(round), 70, Round(round - 1))?;
+        }
+        Ok([tree.preview(&mut second, Round(last), 80, Round::ROOT)?, tree.add(Round(last), 80, Round::ROOT)?])
+    });
+    assert_eq!(ghosts, Ok::<_, Refusal>([last - 1; 2]));
+    assert_eq!(second, table);
 }
 
 #[test]

@@ -106,6 +106,11 @@ fn tables_that_are_no_trees() {
         let table = [0, 0, 0, 3, a, b, 7, 1, c, d, 7, 1];
         assert!(draw::text(&table).starts_with("root\n") && draw::svg(&table).ends_with("</svg>\n"));
         assert!(draw::dot(&table).ends_with("}\n"));
+        for [before, after] in [[&table[..], &[]], [&[], &table]] {
+            assert!(draw::text_beside(before, after).starts_with("before "));
+            assert!(draw::svg_beside(before, after).ends_with("</svg>\n"));
+            assert!(draw::dot_beside(before, after).ends_with("}\n"));
+        }
     }
 }
 

@@ -173,6 +173,63 @@ const FAULTS: &[Fault] = &[
         "matches!(before[STATUS], ADDED | GHOST) && after",
     ),
     Fault("all GHOST rounds are counted", "tree.rs", "before[STATUS] == ADDED && after", "after"),
+    Fault(
+        "31 after 2",
+        "tree.rs",
+        "if second.len() != table.len() {",
+        "check_table(kind, table)?;
+    if second.len() != table.len() {",
+    ),
+    Fault(
+        "31 before 1",
+        "tree.rs",
+        "check_length(table)?;
+    if second.len() != table.len() {
+        return Err(Refusal::LengthsDiffer);
+    }",
+        "if second.len() != table.len() {
+        return Err(Refusal::LengthsDiffer);
+    }
+    check_length(table)?;",
+    ),
+    Fault(
+        "a refused preview copies",
+        "tree.rs",
+        "let ghosts = add(kind, copy,",
+        "second.copy_from_slice(copy);
+    let ghosts = add(kind, copy,",
+    ),
+    Fault(
+        "the second table has to be a tree",
+        "tree.rs",
+        "let mut memory = copy_of(table);",
+        "check_table(kind, second)?;
+    let mut memory = copy_of(table);",
+    ),
+    Fault(
+        "free rows of the second table are left",
+        "tree.rs",
+        "second.copy_from_slice(copy);",
+        "let used = count(copy) * TABLE_ROW;
+    second[..used].copy_from_slice(&copy[..used]);",
+    ),
+    Fault(
+        "check 7 is kept in a command tree's preview",
+        "tree.rs",
+        "let ghosts = add(kind, copy, round, value, parent)?;",
+        "check_table(kind, copy)?;
+    check_round(round)?;
+    let ghosts = machine_add(TreeKind::Value, copy, round.0.into(), value, parent.0.into())?;",
+    ),
+    Fault(
+        "check 7 is dropped in a value tree's preview",
+        "tree.rs",
+        "let ghosts = add(kind, copy, round, value, parent)?;",
+        "check_table(kind, copy)?;
+    check_round(round)?;
+    let ghosts = machine_add(TreeKind::Command, copy, round.0.into(), value, parent.0.into())?;",
+    ),
+    Fault("a preview counts none", "tree.rs", "Ok(ghosts)", "Ok(0)"),
     // The first add of a play has one node before it.
     Fault(
         "play's sum lacks its last add",
@@ -194,10 +251,10 @@ fn main() {
     let pair = [&calls, &kalebasin_rig::second::CALLS];
     let compared = suite::random_lists(pair, 1, 5_000, &mut |_| ())
         .and_then(|_| suite::random_trees(pair, 1, 2_000))
-        .and_then(|_| suite::small_tables(pair))
         .and_then(|_| suite::random_members(pair, 1, 2_000))
         .and_then(|_| suite::written_messages(pair))
-        .and_then(|_| suite::messages(pair));
+        .and_then(|_| suite::messages(pair))
+        .and_then(|_| suite::small_tables(pair));
     if let Err(report) = compared {
         println!("{report}");
     }

@@ -11,6 +11,7 @@ use kalebasin_rig::explain::ghosts_otherwise;
 use kalebasin_rig::explain_tree::explain;
 use kalebasin_rig::random::Random;
 use kalebasin_rig::second::model::Made;
+use kalebasin_rig::second::tree::preview;
 use kalebasin_rig::suite::{LOST_JOIN, MADE_GHOST, REHEARSAL};
 use kalebasin_rig::trace::trace;
 use kalebasin_rig::{draw, generate, json, second, Calls};
@@ -18,7 +19,7 @@ use std::ffi::OsStr;
 use std::io::{BufRead, BufReader, Write};
 use std::os::unix::ffi::OsStrExt;
 use std::process::{Command, Stdio};
-use svg::elements;
+use svg::{elements, Element};
 
 /// An implementation: the option that chooses it, if one is needed, and its name.
 struct On(Option<&'static str>, &'static str);
@@ -103,12 +104,12 @@ fn mistakes_in_tree_calls_have_line_and_column() {
         (" kind= commands", 1, 8, "the kind is value or command"),
         ("kind=value kind=value", 1, 12, "kind= stands once, in front of the calls"),
         ("add(1,70,0) kind=command", 1, 13, "kind= stands once, in front of the calls"),
-        ("adds(1,70,0)", 1, 1, "a call starts with add(, commit(, path( or fresh, not with \"adds\""),
-        ("fresh fréch", 1, 7, "a call starts with add(, commit(, path( or fresh, not with \"fr\""),
-        ("# \n (1)", 2, 2, "a call starts with add(, commit(, path( or fresh, not with \"(\""),
-        ("fresh é", 1, 7, "a call starts with add(, commit(, path( or fresh, not with \"é\""),
-        ("freshfresh", 1, 1, "a call starts with add(, commit(, path( or fresh, not with \"freshfresh\""),
-        ("fresh()", 1, 6, "a call starts with add(, commit(, path( or fresh, not with \"(\""),
+        ("adds(1,70,0)", 1, 1, "a call starts with add(, preview(, commit(, path( or fresh, not with \"adds\""),
+        ("fresh fréch", 1, 7, "a call starts with add(, preview(, commit(, path( or fresh, not with \"fr\""),
+        ("# \n (1)", 2, 2, "a call starts with add(, preview(, commit(, path( or fresh, not with \"(\""),
+        ("fresh é", 1, 7, "a call starts with add(, preview(, commit(, path( or fresh, not with \"é\""),
+        ("freshfresh", 1, 1, "a call starts with add(, preview(, commit(, path( or fresh, not with \"freshfresh\""),
+        ("fresh()", 1, 6, "a call starts with add(, preview(, commit(, path( or fresh, not with \"(\""),
         ("add 1", 1, 5, "( is missing after add"),
         ("add(,70,0)", 1, 5, "a round number is missing here"),
         ("add(1)", 1, 6, ", is missing after the round number"),
@@ -116,6 +117,17 @@ fn mistakes_in_tree_calls_have_line_and_column() {
         ("add(1,70)", 1, 9, ", is missing after the value"),
         ("add(1,70,)", 1, 10, "a parent is missing here"),
         ("add(1,70,0,0)", 1, 11, ") is missing after the parent"),
+        ("previews(1,70,0)", 1, 1, "a call starts with add(, preview(, commit(, path( or fresh, not with \"previews\""),
+        ("preview 1", 1, 9, "( is missing after preview"),
+        ("preview()", 1, 9, "a round number is missing here"),
+        ("preview(1)", 1, 10, ", is missing after the round number"),
+        ("preview(1,,0)", 1, 11, "a value is missing here"),
+        ("preview(1,70)", 1, 13, ", is missing after the value"),
+        ("preview(1,70,-1)", 1, 14, "a parent is missing here"),
+        ("preview(1,70,0", 1, 15, ") is missing after the parent"),
+        ("preview(4294967296,70,0)", 1, 9, "the round number 4294967296 doesn't fit into 32 bits"),
+        ("preview(1,18446744073709551616,0)", 1, 11, "the value 18446744073709551616 doesn't fit into 64 bits"),
+        ("preview(1,70,4294967296)", 1, 14, "the parent 4294967296 doesn't fit into 32 bits"),
         ("commit", 1, 7, "( is missing after commit"),
         ("path[1)", 1, 5, "( is missing after path"),
         ("path(1,2)", 1, 7, ") is missing after the round number"),
@@ -129,7 +141,7 @@ fn mistakes_in_tree_calls_have_line_and_column() {
     }
     let error = "kalebasin: standard input: line 2, column 8: , is missing after the round number\n";
     assert_eq!(tool(&["tree"], b"kind=value\n  add(1;70,0)"), (2, String::new(), error.into()));
-    is_mistake(&["tree", "-e", "s(1,1,70)"], b"", "-e: line 1, column 1: a call starts with add(, commit(, path( or");
+    is_mistake(&["tree", "-e", "s(1,1,70)"], b"", "-e: line 1, column 1: a call starts with add(, preview(, commit(");
     is_mistake(&["tree", "-e", "00000003"], b"", "path( or fresh, not with \"0\"\n");
     is_mistake(&["tree", "-"], &[0, 0, 0, 3], "standard input: these are bytes, not notation\n");
 }
@@ -269,12 +281,14 @@ fn shown_in_the_notes(heading: &str) -> (&'static str, String) {
     (text, shown.lines().map(|line| format!("{}\n", line.strip_prefix("    ").unwrap_or(line))).collect())
 }
 
-/// The list with a lost JOIN and the tree calls that docs/host-notes.md shows, to the letter.
+/// The list with a lost JOIN, the tree calls and the preview that docs/host-notes.md shows, to the letter.
 #[test]
 fn the_notes_in_words() {
     let (list, _) = shown_in_the_notes("A run in words");
     assert_eq!(parse(list, None).unwrap().to_string(), LOST_JOIN);
-    for (command, heading) in [("run", "A run in words"), ("tree", "Tree calls in words")] {
+    for (command, heading) in
+        [("run", "A run in words"), ("tree", "Tree calls in words"), ("tree", "A preview in words")]
+    {
         let (text, shown) = shown_in_the_notes(heading);
         for on in IMPLEMENTATIONS {
             let shown = shown.replace("the proved core", on.1);
@@ -329,7 +343,17 @@ fn starts_that_come_again_in_words() {
     }
 }
 
-/// Each number that a call in a list can get, with its cause in particular, from calls of both kinds. Only 7 is of one kind.
+/// The numbers and words of tree calls, with 5 table rows, and the whole output.
+fn numbers_and_words(on: &On, kind: TreeKind, calls: &str) -> (Vec<String>, String) {
+    let (status, out, _) = tool_on(on, &["tree", "--table-rows", "5", "--kind", &kind.to_string(), "-e", calls], b"");
+    assert_eq!(status, 0, "{out}");
+    let notation = calls.split_whitespace().map(str::len).max().unwrap();
+    let lines = out.lines().skip(2).take_while(|line| !line.is_empty());
+    (lines.map(|line| line[notation + "   0    ".len()..].to_string()).collect(), out)
+}
+
+/// Each number that a call in a list can get, with its cause in particular, from calls of both kinds. Only 7 is of one kind. A preview
+/// in place of each add that is refused gets its number, in words that ask what would be.
 #[test]
 fn refused_tree_calls_in_words() {
     let calls = "add(2,5,0) add(4,5,2) commit(4) add(3,5,2) add(3,6,2) add(0,5,0) add(1000001,5,0) commit(0) path(1000001) add(4,5,0) \
@@ -363,16 +387,51 @@ fn refused_tree_calls_in_words() {
     ];
     for on in IMPLEMENTATIONS {
         for kind in TreeKind::ALL {
-            let kind = kind.to_string();
-            let (status, out, _) = tool_on(on, &["tree", "--table-rows", "5", "--kind", &kind, "-e", calls], b"");
-            let number = "   0  add(5,5,4294967295)  ".len();
-            let lines: Vec<&str> = out.lines().skip(2).take(values.len()).map(|line| &line[number..]).collect();
             let mut expected = values.to_vec();
-            if kind == "command" {
+            if kind == TreeKind::Command {
                 expected[14] = " 0  round 9 is ADDED below round 4, with the value 6";
                 expected[15] = " 4  round 9 can't be added below round 4 with the value 5: it is there already, ADDED below round 4 with the value 6";
             }
-            assert_eq!((status, lines), (0, expected), "{out}");
+            assert_eq!(numbers_and_words(on, kind, calls).0, expected);
+            let to_preview = |(call, line): (&str, &&str)| match line.starts_with(" 0  ") {
+                true => call.to_string(),
+                false => call.replace("add(", "preview("),
+            };
+            let previews: Vec<String> = calls.split_whitespace().zip(&expected).map(to_preview).collect();
+            let expected: Vec<String> =
+                expected.iter().map(|line| line.replace("can't be added", "couldn't be added")).collect();
+            assert_eq!(numbers_and_words(on, kind, &previews.join(" ")).0, expected);
+        }
+    }
+}
+
+/// What an add would do, in the words of the add, but for the mood: its round ADDED or GHOST, and how many rounds it would make GHOST,
+/// and which. Nothing is done, and nothing counted in the sum.
+#[test]
+fn previews_in_words() {
+    let calls = "add(1,5,0) add(3,5,1) preview(4,5,3) preview(4,5,1) preview(5,6,0) preview(2,5,1) preview(2,7,0) preview(1000000,5,1) \
+                 commit(1) preview(4,5,1) path(3)";
+    let expected = [
+        " 0  round 1 is ADDED below the root, with the value 5",
+        " 0  round 3 is ADDED below round 1, with the value 5",
+        " 0  round 4 would be ADDED below round 3, with the value 5",
+        " 0  round 4 would be ADDED below round 1, with the value 5; the add would make 1 round GHOST: round 3",
+        " 0  round 5 would be ADDED below the root, with the value 6; the add would make 2 rounds GHOST: rounds 1 and 3",
+        " 0  round 2 would be GHOST below round 1, with the value 5: round 3 is there already",
+        " 0  round 2 would be GHOST below the root, with the value 7: round 3 is there already; the add would make 1 round GHOST: \
+         round 1",
+        " 0  round 1000000 would be ADDED below round 1, with the value 5; the add would make 1 round GHOST: round 3",
+        " 0  round 1 becomes COMMITTED",
+        " 0  round 4 would be ADDED below round 1, with the value 5; the add would make 1 round GHOST: round 3",
+        " 0  the path of round 3 is 0, 1, 3",
+    ];
+    for on in IMPLEMENTATIONS {
+        for kind in TreeKind::ALL {
+            let (lines, out) = numbers_and_words(on, kind, calls);
+            assert_eq!(lines, expected, "{out}");
+            let counts = "\n11 of 11 calls accepted, 0 rounds made GHOST, 2 nodes beside the root: 1 ADDED, 0 GHOST, 1 COMMITTED\n";
+            let tree = "\n\nroot\n└─ round 1, value 5, COMMITTED\n   └─ round 3, value 5, ADDED\n";
+            assert!(out.contains(counts) && out.ends_with(tree), "{out}");
         }
     }
 }
@@ -468,7 +527,7 @@ fn rounds_made_ghost_in_words() {
     assert!(several > 20, "{several}");
 }
 
-/// What the second implementation does otherwise is told call by call.
+/// What the second implementation does otherwise is told call by call. A preview shows an add: its count, and the second table.
 #[test]
 fn tree_calls_answered_otherwise() {
     fn add(_: TreeKind, table: &mut [u64], round: Round, value: u64, parent: Round) -> Result<u32, Refusal> {
@@ -483,19 +542,33 @@ fn tree_calls_answered_otherwise() {
     fn path_of_root(kind: TreeKind, table: &[u64], _: Round, out: &mut [u64]) -> Result<usize, Refusal> {
         second::tree::path(kind, table, Round::ROOT, out)
     }
-    let calls = "add(1,5,0) add(2,6,1) path(1) commit(1) path(0)";
+    let [answers_0, another_table] = ["ANSWERS 0", "LEAVES ANOTHER TABLE"].map(Some);
+    let [another_path, another_add] = ["WRITES ANOTHER PATH", "SHOWS ANOTHER ADD"].map(Some);
+    let calls = "add(1,5,0) add(2,6,1) path(1) preview(3,6,0) preview(3,7,1) commit(1) path(0)";
     for (faulty, told) in [
-        (second::CALLS, [None; 5]),
+        (second::CALLS, [None; 7]),
         (
             Calls { tree_add: add, ..second::CALLS },
-            [None, Some("ANSWERS 7"), Some("ANSWERS 0"), Some("ANSWERS 0"), Some("ANSWERS 0")],
+            [None, Some("ANSWERS 7"), answers_0, answers_0, Some("ANSWERS 7"), answers_0, answers_0],
+        ),
+        (Calls { tree_commit: commit, ..second::CALLS }, [None, None, None, None, None, another_table, another_table]),
+        (Calls { tree_path: path, ..second::CALLS }, [None, None, another_path, None, None, None, None]),
+        (Calls { tree_path: path_of_root, ..second::CALLS }, [None, None, another_path, None, None, None, None]),
+        (
+            Calls { tree_preview: |_, t, lent, r, v, p| preview(TreeKind::Command, t, lent, r, v, p), ..second::CALLS },
+            [None, None, None, None, Some("ANSWERS 7"), None, None],
         ),
         (
-            Calls { tree_commit: commit, ..second::CALLS },
-            [None, None, None, Some("LEAVES ANOTHER TABLE"), Some("LEAVES ANOTHER TABLE")],
+            Calls {
+                tree_preview: |kind, t, lent, r, v, p| preview(kind, t, lent, r, v, p).map(|_| 0),
+                ..second::CALLS
+            },
+            [None, None, None, Some("WOULD MAKE 1 GHOST, NOT 0"), None, None, None],
         ),
-        (Calls { tree_path: path, ..second::CALLS }, [None, None, Some("WRITES ANOTHER PATH"), None, None]),
-        (Calls { tree_path: path_of_root, ..second::CALLS }, [None, None, Some("WRITES ANOTHER PATH"), None, None]),
+        (
+            Calls { tree_preview: |kind, t, _, r, v, p| preview(kind, t, &mut t.to_vec(), r, v, p), ..second::CALLS },
+            [None, None, None, another_add, None, None, None],
+        ),
     ] {
         let (calls, _) = explain(&faulty, &calls.parse().unwrap(), 8).unwrap();
         assert_eq!(calls.iter().map(|call| call.difference.as_deref()).collect::<Vec<_>>(), told);
@@ -606,6 +679,123 @@ fn drawings_of_tree_calls() {
             let drawn = tool_on(on, &["draw", "--format", format, "-e", REHEARSAL], b"").1;
             assert_eq!(std::fs::read_to_string(file).unwrap(), drawn);
         }
+    }
+}
+
+/// The trees of each accepted preview side by side, behind the counts and before the tree; in the files where such a preview is the last
+/// call, which have the tree alone else.
+#[test]
+fn drawings_of_previews() {
+    let beside = "
+   2  preview(4,80,0)
+before                             after
+root                               root
+└─ round 1, value 70, ADDED        ├─ round 1, value 70, GHOST
+   └─ round 2, value 70, ADDED     │  └─ round 2, value 70, GHOST
+                                   └─ round 4, value 80, ADDED
+";
+    let dot_beside = "\
+digraph tree {
+  rankdir = BT;
+  node [shape = box, style = filled];
+  subgraph cluster_before {
+    label = \"before\";
+    before0 [label = \"root\", fillcolor = \"#a8d8a8\"];
+    before1 [label = \"round 1\\nvalue 70\\nADDED\", fillcolor = \"#ffffff\"];
+    before1 -> before0;
+    before2 [label = \"round 2\\nvalue 70\\nADDED\", fillcolor = \"#ffffff\"];
+    before2 -> before1;
+  }
+  subgraph cluster_after {
+    label = \"after\";
+    after0 [label = \"root\", fillcolor = \"#a8d8a8\"];
+    after1 [label = \"round 1\\nvalue 70\\nGHOST\", fillcolor = \"#d0d0d0\"];
+    after1 -> after0;
+    after2 [label = \"round 2\\nvalue 70\\nGHOST\", fillcolor = \"#d0d0d0\"];
+    after2 -> after1;
+    after4 [label = \"round 4\\nvalue 80\\nADDED\", fillcolor = \"#ffffff\"];
+    after4 -> after0;
+  }
+}
+";
+    let before = [[0, 0, 0, 3], [1, 0, 70, 1], [2, 1, 70, 1], [0; 4]].concat();
+    let after = [[0, 0, 0, 3], [1, 0, 70, 2], [2, 1, 70, 2], [4, 0, 80, 1]].concat();
+    let folder = env!("CARGO_TARGET_TMPDIR");
+    for (on, number) in IMPLEMENTATIONS.iter().zip(0..) {
+        let [dot, svg] = ["dot", "svg"].map(|kind| format!("{folder}/previews-{number}.{kind}"));
+        let drawn = |behind: &str| {
+            let calls = format!("add(1,70,0) add(2,70,1) preview(4,80,0) {behind}");
+            let (status, out, _) = tool_on(on, &["tree", "--dot", &dot, "--svg", &svg, "-e", &calls], b"");
+            assert_eq!(status, 0);
+            let [dot, svg] = [&dot, &svg].map(|file| std::fs::read_to_string(file).unwrap());
+            (out, dot, svg)
+        };
+        let alone = format!("\n{}", draw::text(&before));
+        let (out, dot, svg) = drawn("");
+        assert!(out.ends_with(&format!(" 0 COMMITTED\n{beside}{alone}")), "{out}");
+        assert_eq!((dot.as_str(), svg), (dot_beside, draw::svg_beside(&before, &after)));
+        // a refused preview shows nothing, and another call may come last
+        for behind in ["preview(2,80,0)", "path(2)"] {
+            let (out, dot, svg) = drawn(behind);
+            assert!(out.ends_with(&format!(" 0 COMMITTED\n{beside}{alone}")), "{out}");
+            assert_eq!((dot, svg), (draw::dot(&before), draw::svg(&before)));
+        }
+        // each is drawn by the table at its time
+        let (out, dot, svg) = drawn("add(4,80,0) preview(3,70,2)");
+        let born = [&after[..], &[3, 2, 70, 2]].concat();
+        let second = format!("\n   4  preview(3,70,2)\n{}", draw::text_beside(&after, &born));
+        assert!(out.ends_with(&format!(" 0 COMMITTED\n{beside}{second}\n{}", draw::text(&after))), "{out}");
+        assert_eq!((dot, svg), (draw::dot_beside(&after, &born), draw::svg_beside(&after, &born)));
+    }
+}
+
+/// Left, top, right and bottom of an element, of a text the point where it stands.
+fn edges(one: &Element) -> [i32; 4] {
+    let [x, y] = match one.name.as_str() {
+        "line" => return ["x1", "y1", "x2", "y2"].map(|name| one.number(name)),
+        _ => ["x", "y"].map(|name| one.number(name)),
+    };
+    match one.name.as_str() {
+        "rect" => [x, y, x + one.number("width"), y + one.number("height")],
+        _ => [x, y, x, y],
+    }
+}
+
+/// Two trees side by side: each is drawn as it is alone, below its heading and beside the other, and nothing is outside of the picture.
+#[test]
+fn trees_side_by_side() {
+    let row: String = (1..12).map(|round| format!("add({round},5,0) ")).collect();
+    let chain: String = (1..12).map(|round| format!("add({round},5,{}) ", round - 1)).collect();
+    let widest = "add(999999,18446744073709551615,0) preview(1000000,18446744073709551615,999999)".to_string();
+    for calls in ["preview(1,70,0)".into(), widest, row + "preview(12,5,0)", chain + "preview(12,6,0)"] {
+        let (called, _) = explain(&second::CALLS, &calls.parse().unwrap(), 64).unwrap();
+        let tables = called.last().and_then(|last| last.previewed.as_ref()).unwrap();
+        let picture = elements(&draw::svg_beside(&tables[0], &tables[1]));
+        let [width, height] = ["width", "height"].map(|name| picture[0].number(name));
+        let mut rest = &picture[1..];
+        let (mut left, mut lowest) = (0, 0);
+        for (table, name) in tables.iter().zip(["before", "after"]) {
+            let alone = elements(&draw::svg(table));
+            let (head, behind) = rest.split_at(2);
+            let (tree, behind) = behind.split_at(alone.len() - 1);
+            let place = head[1].get("transform").strip_prefix("translate(").and_then(|text| text.strip_suffix(')'));
+            let (x, y) = place.and_then(|place| place.split_once(' ')).unwrap();
+            let [x, y] = [x, y].map(|number| number.parse::<i32>().unwrap());
+            let right = x + alone[0].number("width");
+            assert_eq!((head[0].name.as_str(), head[0].text.as_str(), head[1].name.as_str()), ("text", name, "g"));
+            assert_eq!(format!("{tree:?}"), format!("{:?}", &alone[1..]), "{calls}");
+            let highest = tree.iter().map(|one| y + edges(one)[1]).min().unwrap();
+            let [middle, line, ..] = edges(&head[0]);
+            assert!(x < middle && middle < right && 0 < line && line < highest, "{calls}");
+            for one in tree {
+                let [from, top, to, bottom] = edges(one);
+                assert!(left <= x + from.min(to) && x + from.max(to) <= right, "{one:?} of {calls}");
+                assert!(0 <= y + top && y + bottom <= height, "{one:?} of {calls}");
+            }
+            (left, lowest, rest) = (right, lowest.max(y + alone[0].number("height")), behind);
+        }
+        assert_eq!((width, height, rest.len()), (left, lowest, 0), "{calls}");
+        assert_eq!(picture[0].get("viewBox"), format!("0 0 {width} {height}"));
     }
 }
 
@@ -1096,7 +1286,7 @@ fn header_name(refusal: &Refusal) -> String {
     name
 }
 
-/// The numbers of refusals are 1 to 30 in order, and the C header has the same causes.
+/// The numbers of refusals are 1 to 31 in order, and the C header has the same causes.
 #[test]
 fn refusals_and_the_header() {
     let header = include_str!("../../include/kalebasin.h");
@@ -1107,6 +1297,6 @@ fn refusals_and_the_header() {
         assert!(header.contains(&format!("    {name} = {}", refusal.number())), "{refusal}");
         assert!(header.contains(&format!("case {name}: return \"{}\";", refusal.cause())), "{refusal}");
     }
-    assert_eq!(Refusal::ALL.len(), 30);
-    assert_eq!([0, 31].map(Refusal::from_number), [None, None]);
+    assert_eq!(Refusal::ALL.len(), 31);
+    assert_eq!([0, 32].map(Refusal::from_number), [None, None]);
 }

@@ -22,8 +22,9 @@ A list is written  s(1,1,70) d(0,0)  : s(member,round,offer) starts a round, and
 sent earlier, counted from 0. The office has 3 members; n=5 or n=7 in front gives it more. # starts a comment.
 ";
 const TREE_NOTATION: &str = "\
-Tree calls are written  add(1,70,0) commit(1)  : add(round,value,parent), commit(round), path(round) and fresh. The tree
-is one of values; kind=command in front makes it one of commands, in which a node has any value. # starts a comment.
+Tree calls are written  add(1,70,0) commit(1)  : add(round,value,parent), preview(round,value,parent), commit(round),
+path(round) and fresh. The tree is one of values; kind=command in front makes it one of commands, in which a node has any
+value. # starts a comment.
 ";
 const FILE_OR_INPUT: &str = "Without FILE, or where it is -, standard input is read.\n";
 
@@ -72,7 +73,9 @@ const COMMANDS: &[Command] = &[
         name: "tree",
         operand: Some("[FILE]"),
         about: "makes tree calls on a fresh table, explains them one by one and draws the tree",
-        more: "Without FILE, or where it is -, standard input is read. Standard output has the calls themselves, so --dot and --svg\n\
+        more: "A preview shows what an add would do, and does nothing: the trees before and after it are drawn side by side, also in the\n\
+               files of --dot and --svg where it is the last call.\n\
+               Without FILE, or where it is -, standard input is read. Standard output has the calls themselves, so --dot and --svg\n\
                don't take -. A path is lent a word for each row of the table.\n",
     },
     Command {
@@ -278,6 +281,7 @@ Try
   kalebasin run -e 's(1,1,70) d(0,0) d(0,1) d(1,1) d(2,1) d(3,0) d(3,1) d(4,1) d(5,1)'
   kalebasin search --property no-late-decision
   kalebasin tree --kind command -e 'add(1,70,0) add(2,80,1) commit(2) path(2)'
+  kalebasin tree -e 'add(1,70,0) add(2,70,1) preview(4,80,0)'
 ";
     text
 }

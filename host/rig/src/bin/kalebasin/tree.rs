@@ -10,7 +10,7 @@ use kalebasin_rig::explain_tree::{explain, Called};
 use kalebasin_rig::rehearsal::REHEARSAL_TABLE_ROWS;
 use std::io::Write;
 
-/// Makes the calls on a fresh table: each in words, the counts and the tree.
+/// Makes the calls on a fresh table: each in words, the counts, what each preview shows and the tree.
 pub fn tree(options: &Options, out: &mut dyn Write) -> Outcome {
     let list = tree_calls(options)?;
     let (calls, rows) = (calls(options), options.table_rows.unwrap_or(REHEARSAL_TABLE_ROWS));
@@ -18,19 +18,27 @@ pub fn tree(options: &Options, out: &mut dyn Write) -> Outcome {
     writeln!(out, "{} tree, {}, on {}\n", list.kind, count(rows, "table row"), calls.name)?;
     let accepted = called.iter().filter(|one| one.answer == 0).count();
     let ghosts = called.iter().map(|one| one.ghosts).sum();
-    let lines: Vec<Line> = called.into_iter().map(line).collect();
-    let as_the_second = print_lines(&lines, out)?;
-    print_counts(accepted, lines.len(), ghosts, &table, out)?;
+    let as_the_second = print_lines(&called.iter().map(line).collect::<Vec<_>>(), out)?;
+    print_counts(accepted, called.len(), ghosts, &table, out)?;
+    for (at, one) in called.iter().enumerate() {
+        if let Some([before, after]) = &one.previewed {
+            write!(out, "\n{at:>4}  {}\n{}", one.explained.notation, draw::text_beside(before, after))?;
+        }
+    }
     write!(out, "\n{}", draw::text(&table))?;
-    write_file(options.dot.as_deref(), || Ok(draw::dot(&table)))?;
-    write_file(options.svg.as_deref(), || Ok(draw::svg(&table)))?;
+    let shown = called.last().and_then(|last| last.previewed.as_ref());
+    let drawn = |alone: fn(&[u64]) -> String, beside: fn(&[u64], &[u64]) -> String| match shown {
+        Some([before, after]) => beside(before, after),
+        None => alone(&table),
+    };
+    write_file(options.dot.as_deref(), || Ok(drawn(draw::dot, draw::dot_beside)))?;
+    write_file(options.svg.as_deref(), || Ok(drawn(draw::svg, draw::svg_beside)))?;
     status(as_the_second)
 }
 
-fn line(called: Called) -> Line {
-    let Called { answer, explained, difference, .. } = called;
-    let otherwise = difference.map(|difference| format!("THE SECOND IMPLEMENTATION {difference}"));
-    Line { explained, number: answer, otherwise }
+fn line(called: &Called) -> Line {
+    let otherwise = called.difference.as_ref().map(|difference| format!("THE SECOND IMPLEMENTATION {difference}"));
+    Line { explained: called.explained.clone(), number: called.answer, otherwise }
 }
 
 /// How many calls were accepted, how many rounds their adds made GHOST, and how many nodes beside the root have each status.
