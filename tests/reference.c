@@ -1,6 +1,7 @@
 /* Asks the archive what the examples of docs/REFERENCE.md ask. A line is a question, and gets a line of answer, an accepted list three:
      message HEX, list HEX, cause NUMBER; fresh(ROWS), add(ROUND,VALUE,PARENT), commit(ROUND), path(ROUND), path(ROUND) into COUNT words and
-     nodes of one table, a call with "command " in front by the functions of a tree of commands; fresh(NUMBER,N), start(ROUND,OFFER), deliver HEX and
+     nodes of one table, preview(ROUND,VALUE,PARENT) in a second one of its length, preview(ROUND,VALUE,PARENT) into COUNT words of that one and second,
+     its nodes, a call with "command " in front by the functions of a tree of commands; fresh(NUMBER,N), start(ROUND,OFFER), deliver HEX and
      record of one member; write(KIND,ROUND,SENDER,PRESENT,VOTED,VALUE). */
 #include "hex.h"
 #include "words.h"
@@ -10,12 +11,14 @@ enum { ROOM = 8 + 20 * 1000 + 100, STORE_ROWS = 1000, TABLE_ROWS = 64 };
 
 static char line[2 * ROOM + 20], data[ROOM];
 static uint8_t store[STORE_ROWS * KALEBASIN_STORE_ROW], answers[1000];
-static uint64_t table[TABLE_ROWS * KALEBASIN_TABLE_ROW], before[TABLE_ROWS * KALEBASIN_TABLE_ROW], rounds[TABLE_ROWS];
+typedef uint64_t Table[TABLE_ROWS * KALEBASIN_TABLE_ROW];
+static Table table, before, second;
+static uint64_t rounds[TABLE_ROWS];
 
-static void put_nodes(size_t rows) {
-    for (size_t i = 0; i < rows && table[4 * i + 3]; i++) {
+static void put_nodes(const uint64_t *words, size_t rows) {
+    for (size_t i = 0; i < rows && words[4 * i + 3]; i++) {
         if (i) printf(", ");
-        for (size_t k = 0; k < 4; k++) printf("%s%llu", k ? " " : "", (unsigned long long)table[4 * i + k]);
+        for (size_t k = 0; k < 4; k++) printf("%s%llu", k ? " " : "", (unsigned long long)words[4 * i + k]);
     }
 }
 
@@ -28,28 +31,36 @@ static void put_played(size_t n) {
     printf("answers:");
     for (int i = 0; i < data[7]; i++) printf(" %u", answers[i]); /* the count's low byte: an example has fewer events than 128 */
     printf("\nnodes: ");
-    put_nodes(TABLE_ROWS);
+    put_nodes(table, TABLE_ROWS);
     printf("\nghosts: %u", r.ghosts);
 }
 
 /* The calls of a kind of tree. */
 typedef struct {
     KalebasinAddResult (*add)(uint64_t *, size_t, uint32_t, uint64_t, uint32_t);
+    KalebasinAddResult (*preview)(const uint64_t *, size_t, uint64_t *, size_t, uint32_t, uint64_t, uint32_t);
     uint32_t (*commit)(uint64_t *, size_t, uint32_t);
     KalebasinPathResult (*path)(const uint64_t *, size_t, uint32_t, uint64_t *, size_t);
 } Tree;
 
-static const Tree of_values = {kalebasin_tree_add, kalebasin_tree_commit, kalebasin_tree_path};
-static const Tree of_commands = {kalebasin_command_add, kalebasin_command_commit, kalebasin_command_path};
+static const Tree of_values = {kalebasin_tree_add, kalebasin_tree_preview, kalebasin_tree_commit, kalebasin_tree_path};
+static const Tree of_commands = {kalebasin_command_add, kalebasin_command_preview, kalebasin_command_commit, kalebasin_command_path};
 
-/* The number, how many rounds were made GHOST, and which: those that were ADDED in a copy of the table. */
+/* The number; if it is 0, how many rounds the add makes GHOST, or would make so, and which: those that are ADDED before and GHOST after. */
+static void put_ghosts(KalebasinAddResult r, const char *makes, const uint64_t *was, const uint64_t *is, size_t rows) {
+    printf("%u", r.number);
+    if (r.ghosts) printf(", %s %u GHOST:", makes, r.ghosts);
+    for (size_t i = 0; i < rows && !r.number; i++)
+        if (was[4 * i + 3] == KALEBASIN_ADDED && is[4 * i + 3] == KALEBASIN_GHOST) printf(" %llu", (unsigned long long)is[4 * i]);
+}
+
 static void put_added(const Tree *tree, size_t rows, uint32_t round, uint64_t value, uint32_t parent) {
     memcpy(before, table, sizeof table);
-    KalebasinAddResult r = tree->add(table, 4 * rows, round, value, parent);
-    printf("%u", r.number);
-    if (r.ghosts) printf(", makes %u GHOST:", r.ghosts);
-    for (size_t i = 0; i < rows; i++)
-        if (before[4 * i + 3] == KALEBASIN_ADDED && table[4 * i + 3] == KALEBASIN_GHOST) printf(" %llu", (unsigned long long)table[4 * i]);
+    put_ghosts(tree->add(table, 4 * rows, round, value, parent), "makes", before, table, rows);
+}
+
+static void put_previewed(const Tree *tree, size_t rows, size_t words, uint32_t round, uint64_t value, uint32_t parent) {
+    put_ghosts(tree->preview(table, 4 * rows, second, words, round, value, parent), "would make", table, second, rows);
 }
 
 static void put_path(KalebasinPathResult r) {
@@ -85,6 +96,7 @@ static void put_written(uint32_t kind, uint32_t round, uint32_t sender, uint32_t
 
 int main(void) {
     size_t rows = 0;
+    memset(second, 99, sizeof second);
     while (fgets(line, sizeof line, stdin)) {
         unsigned a, b, c, d, p;
         unsigned long long v;
@@ -102,10 +114,14 @@ int main(void) {
         else if (sscanf(line, "write(%u,%u,%u,%u,%u,%llu)", &a, &b, &c, &d, &p, &v) == 6) put_written(a, b, c, d, p, v);
         else if (sscanf(line, "fresh(%u)", &a) == 1 && a <= TABLE_ROWS) printf("%u", kalebasin_tree_fresh(table, 4 * (rows = a)));
         else if (sscanf(call, "add(%u,%llu,%u)", &a, &v, &p) == 3) put_added(tree, rows, a, v, p);
+        else if (sscanf(call, "preview(%u,%llu,%u) into %u words", &a, &v, &p, &b) == 4 && b <= sizeof second / 8)
+            put_previewed(tree, rows, b, a, v, p);
+        else if (sscanf(call, "preview(%u,%llu,%u)", &a, &v, &p) == 3) put_previewed(tree, rows, 4 * rows, a, v, p);
+        else if (!strncmp(line, "second", 6)) put_nodes(second, rows);
         else if (sscanf(call, "commit(%u)", &a) == 1) printf("%u", tree->commit(table, 4 * rows, a));
         else if (sscanf(call, "path(%u) into %u words", &a, &p) == 2 && p <= TABLE_ROWS) put_path(tree->path(table, 4 * rows, a, rounds, p));
         else if (sscanf(call, "path(%u)", &a) == 1) put_path(tree->path(table, 4 * rows, a, rounds, TABLE_ROWS));
-        else if (!strncmp(line, "nodes", 5)) put_nodes(rows);
+        else if (!strncmp(line, "nodes", 5)) put_nodes(table, rows);
         else printf("no question: %s", line);
         putchar('\n');
     }
