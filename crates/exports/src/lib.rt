@@ -1,5 +1,5 @@
 // The C functions that the host calls: play, the message reader and the calls of both kinds of trees, thin over the proved crates. A slice passes as
-// a pointer and a count of elements. A number is 0 for OK, else 01's refusal.
+// a pointer and a count of elements. A number is 0 for OK, else a refusal.
 use ids::Member;
 use ids::Round;
 use message::JOIN_KIND;
@@ -156,7 +156,7 @@ pub extern "C" fn kalebasin_tree_fresh(nodes: &mut [u64]) -> u32
     tree::fresh(nodes)
 }
 
-// How many rounds were ADDED before an add and are GHOST after it; 0 with a refusal.
+// How many rounds are ADDED before an add and GHOST after it, of a preview before and after the add that it shows; 0 with a refusal.
 #[repr(C)]
 pub struct AddResult {
     pub number: u32,

@@ -1,2 +1,2 @@
--- 01's numbers.
+-- The numbers of 01 and 02.
 pub mod Numbers

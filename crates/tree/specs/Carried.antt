@@ -1,17 +1,17 @@
--- What carrying out a plan asks for and leaves, and how many rows a preview copies.
+-- What carrying out a plan asks for and leaves, what can be previewed, and how many rows a preview copies.
 use mathlib.Core.Path.{_≡_}
-use mathlib.Core.Bool.{cond}
+use mathlib.Core.Bool.{Bool, true, cond}
 use mathlib.Core.List.{List}
 use Prim.Native.Nat.{ℕ, _+_, _*_, _≤_}
 use lib.ListN.{length}
 use lib.Dec.{eqb}
 use Rattle.numbers.specs.Numbers.{OK}
 use Rattle.tree_theory.specs.Machine.{Call}
-use Rattle.tree_theory.specs.Table.{rows}
+use Rattle.tree_theory.specs.Table.{rows, sized, Tree}
 use Rattle.tree_steps.specs.Planned.{call-written, call-strikes}
 use Rattle.tree.specs.declared.CallAnswer.{CallAnswer}
 
--- a table that a call can be written into: it has the row, and so many rows before that are struck, a number that fits into an answer
+-- a call can be written into a table: its row is there, and of the rows before so many are struck, few enough for an answer
 pub record CanWrite (ws : List ℕ) (c : Call) (row strikes : ℕ) : Type 0 where
   pub fits : 4 * row + 4 ≤ length ws
   pub strikes-is : strikes ≡ call-strikes ws c row
@@ -25,3 +25,9 @@ planned-table ws c number row status = cond (eqb number OK) (call-written ws c r
 
 abbrev pub rows-copied : ℕ → List ℕ → ℕ
 rows-copied number ws = cond (eqb number OK) (rows ws) 0
+
+-- what can be previewed: a tree, in a second table of its length
+pub record CanShow (valued : Bool) (ws us : List ℕ) : Type 0 where
+  pub long : sized ws ≡ true
+  pub tree : Tree valued ws
+  pub alike : length us ≡ length ws

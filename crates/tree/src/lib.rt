@@ -5,16 +5,15 @@ use tree_steps::call::Plan;
 use tree_steps::call::TreeCall;
 ghost use mathlib.Core.Path.{_≡_};
 ghost use mathlib.Core.Bool.{true, false};
-ghost use lib.ListN.{length};
 ghost use Rattle.numbers.specs.Numbers.{OK};
 ghost use Rattle.tree_theory.specs.Machine.{add, commit};
 ghost use Rattle.tree_theory.specs.Table.{sized, Tree, fresh-number, fresh-table};
 ghost use Rattle.tree_steps.specs.Planned.{call-of};
 ghost use Rattle.tree.specs.Promises.{CalledOnTable, CalledOnTree, CountedOnTable, CountedOnTree, Previewed, PathGiven, refused-answer};
-ghost use Rattle.tree.specs.Carried.{CanWrite, planned-answer, planned-table, rows-copied};
+ghost use Rattle.tree.specs.Carried.{CanWrite, CanShow, planned-answer, planned-table, rows-copied};
 
-// An add's or a commit's number, and how many rounds it made GHOST (02, ticket 3): those that were ADDED before it. 0 with a refusal; a commit
-// makes none.
+// The number of an add, a preview or a commit, and how many rounds it made GHOST, or a preview's add would (02, ticket 3): those that were ADDED
+// before it. 0 with a refusal; a commit makes none.
 pub struct CallAnswer {
     pub number: u32,
     pub ghosts: u32,
@@ -138,7 +137,7 @@ fn rows_to_copy(number: u32, t: &[u64]) -> usize
 
 // What a call would make of a tree, made in a second table of its length.
 fn preview_on_tree(valued: bool, t: &[u64], second: &mut [u64], call: TreeCall) -> CallAnswer
-    requires { ⌜ (sized (now t) ≡ true) × Tree valued (now t) × (length (now second) ≡ length (now t)) ⌝ }
+    requires { ⌜ CanShow valued (now t) (now second) ⌝ }
     ensures { λ a. ⌜ Previewed valued (now (t .entry)) (now (second .entry)) (call-of call) (a .number) (a .ghosts)
         (now (t .exit)) (now (second .exit)) ⌝ }
 {
@@ -160,7 +159,7 @@ pub fn preview_on_table(
     ensures { λ a. ⌜ Previewed valued (now (t .entry)) (now (second .entry)) (add (r .0) v (p .0)) (a .number) (a .ghosts)
         (now (t .exit)) (now (second .exit)) ⌝ }
 {
-    let number = tree_check::preview_number(valued, t, second);
+    let number = tree_check::tables_number(valued, t, second);
     if number != numbers::OK {
         return refused_answer(number);
     }

@@ -88,6 +88,7 @@ fn command_path(t: &[u64], r: u32, out: &mut [u64]) {
     path_answer(a, out);
 }
 
+// Makes a path of that name into so many words; none of another name.
 fn path_in(name: u8, t: &[u64], r: u32, words: usize) {
     let mut out = [0u64; 256];
     if 256 < words {
@@ -97,19 +98,29 @@ fn path_in(name: u8, t: &[u64], r: u32, words: usize) {
         path(t, r, &mut out[0..words]);
         return;
     }
-    command_path(t, r, &mut out[0..words]);
+    if name == b'P' {
+        command_path(t, r, &mut out[0..words]);
+        return;
+    }
+}
+
+// Writes a preview's answer, and the second table.
+fn preview_answer(a: CallAnswer, second: &[u64]) {
+    add_answer(a);
+    numbers(second);
 }
 
 fn preview(t: &[u64], second: &mut [u64], r: u32, v: u32, p: u32) {
-    add_answer(tree::preview(t, second, Round(r), v as u64, Round(p)));
-    numbers(second);
+    let a = tree::preview(t, second, Round(r), v as u64, Round(p));
+    preview_answer(a, second);
 }
 
 fn command_preview(t: &[u64], second: &mut [u64], r: u32, v: u32, p: u32) {
-    add_answer(tree::command_preview(t, second, Round(r), v as u64, Round(p)));
-    numbers(second);
+    let a = tree::command_preview(t, second, Round(r), v as u64, Round(p));
+    preview_answer(a, second);
 }
 
+// Makes a preview of that name in so many words; none of another name.
 fn preview_in(name: u8, t: &[u64], words: usize, r: u32, v: u32, p: u32) {
     let mut second = [7u64; 1024];
     if 1024 < words {
@@ -119,7 +130,10 @@ fn preview_in(name: u8, t: &[u64], words: usize, r: u32, v: u32, p: u32) {
         preview(t, &mut second[0..words], r, v, p);
         return;
     }
-    command_preview(t, &mut second[0..words], r, v, p);
+    if name == b'V' {
+        command_preview(t, &mut second[0..words], r, v, p);
+        return;
+    }
 }
 
 fn put(t: &mut [u64], word: usize, x: u32) {
@@ -154,15 +168,8 @@ fn make(t: &mut [u64], second: usize, name: u8, a: u32, b: u32, c: u32) {
         command_commit(t, c);
         return;
     }
-    if name == b'v' {
-        preview_in(name, t, second, a, b, c);
-        return;
-    }
-    if name == b'V' {
-        preview_in(name, t, second, a, b, c);
-        return;
-    }
     path_in(name, t, b, c as usize);
+    preview_in(name, t, second, a, b, c);
 }
 
 // What was read: the lengths of the table and of the second, the name of a call, and its last three arguments.

@@ -1,5 +1,5 @@
 // Whether a lent slice of 64-bit words is a node table that some list of calls leaves (01, "The tree"; numbers 1 and 2 of the place
-// table). `valued` says whether the tree's values are compared. The check takes time in the square of the used rows.
+// table), and whether one can be previewed in another. `valued` says whether the tree's values are compared. The check takes time in the square of the used rows.
 mod rows;
 
 ghost use mathlib.Core.Path.{_≡_};
@@ -8,7 +8,7 @@ ghost use Prim.Native.Nat.{_*_, _≤_, _<_};
 ghost use lib.ListN.{length};
 ghost use Rattle.laws.specs.First.{first};
 ghost use Rattle.tree_theory.specs.Table.{row, sized, is-tree, table-causes};
-ghost use Rattle.tree_theory.specs.Preview.{preview-causes};
+ghost use Rattle.tree_theory.specs.Preview.{tables-causes};
 ghost use Rattle.tree_theory.specs.Check.{is-root, fits-to, zeros-to};
 
 // A multiple of 4 from 4 to 1,024.
@@ -103,9 +103,9 @@ pub fn table_number(valued: bool, t: &[u64]) -> u32
     numbers::OK
 }
 
-// The row "table" for a preview of t in a second table (02, ticket 5): 1, 31, 2, or OK. Of the second only the length is asked.
-pub fn preview_number(valued: bool, t: &[u64], second: &[u64]) -> u32
-    ensures { λ n. ⌜ n ≡ first (preview-causes valued (now (t .entry)) (now (second .entry))) ⌝ }
+// The row "table" of a table to be previewed in a second one (02, ticket 5): 1, 31, 2, or OK. Of the second only the length is asked.
+pub fn tables_number(valued: bool, t: &[u64], second: &[u64]) -> u32
+    ensures { λ n. ⌜ n ≡ first (tables-causes valued (now (t .entry)) (now (second .entry))) ⌝ }
 {
     let number = table_number(valued, t);
     if number == numbers::TABLE_LENGTH {

@@ -1,6 +1,6 @@
--- A preview is the call on a copy of the first table; 31 comes right after 1 (02, ticket 5). Assumes nothing.
+-- A preview is the call on a copy of the first table, and 31 comes right after 1 (02, ticket 5). Assumes nothing.
 use mathlib.Core.Path.{_≡_, refl}
-use mathlib.Core.Bool.{Bool, false, cond, _&&_}
+use mathlib.Core.Bool.{Bool, true, false, cond}
 use mathlib.Core.List.{List}
 use Prim.Native.Nat.{ℕ}
 use lib.ListN.{length}
@@ -12,34 +12,30 @@ use Rattle.numbers.specs.Numbers.{OK, TABLE-LENGTH, LENGTHS-DIFFER}
 use Rattle.tree_theory.specs.Machine.{Call}
 use Rattle.tree_theory.specs.Table.{sized, is-tree, table-causes, call-number, call-table}
 use Rattle.tree_theory.specs.Ghosts.{table-ghosts}
-use Rattle.tree_theory.specs.Preview.{lengths-differ, preview-causes, preview-number, preview-ghosts, preview-table, AsOnCopy}
+use Rattle.tree_theory.specs.Preview.{lengths-differ, tables-causes, preview-number, preview-ghosts, preview-table, AsOnCopy}
 use Rattle.tree_theory.proofs.Ghosts.{table-none}
 
--- the row "table" of a preview, from the number that the first table gets alone and the two lengths
-pub preview-first : (valued : Bool) (ws us : List ℕ) {number : ℕ} → number ≡ first (table-causes valued ws) →
-    first (preview-causes valued ws us) ≡ cond (eqb number TABLE-LENGTH) number (cond (lengths-differ ws us) LENGTHS-DIFFER number)
-preview-first valued ws us e =
+-- the row "table" of two tables, from the number that the first gets alone and the two lengths
+pub tables-first : (valued : Bool) (ws us : List ℕ) {number : ℕ} → number ≡ first (table-causes valued ws) →
+    first (tables-causes valued ws us) ≡ cond (eqb number TABLE-LENGTH) number (cond (lengths-differ ws us) LENGTHS-DIFFER number)
+tables-first valued ws us e =
     by-test (sized ws)
     (λ s. by-test (is-tree valued ws) (λ t. rw (e, s, t) refl) (λ t. rw (e, s, t) refl))
     (λ s. rw (e, s) refl)
 
 module _ (valued : Bool) (ws us : List ℕ) (c : Call) where
-  number-is : preview-number valued ws us c ≡ cond (sized ws && lengths-differ ws us) LENGTHS-DIFFER (call-number valued ws c)
-  unfolding preview-number call-number
-  number-is =
-      by-test (sized ws)
-      (λ s. by-test (eqb (length us) (length ws)) (λ t. rw (s, t) refl) (λ t. rw (s, t) refl))
-      (λ s. rw s refl)
+  one-first : sized ws ≡ false → preview-number valued ws us c ≡ TABLE-LENGTH
+  unfolding preview-number
+  one-first s = rw s refl
 
-  -- of a table of equal length the number is the call's
+  thirty-one-next : sized ws ≡ true → (length us ≡ length ws → ⊥) → preview-number valued ws us c ≡ LENGTHS-DIFFER
+  unfolding preview-number
+  thirty-one-next s z = rw (s, ne-eqb (length us) (length ws) z) refl
+
+  -- of a second table of equal length the number is the call's
   pub number-alike : length us ≡ length ws → preview-number valued ws us c ≡ call-number valued ws c
   unfolding preview-number call-number
   number-alike e = by-test (sized ws) (λ s. rw (s, eq-eqb (length us) (length ws) e) refl) (λ s. rw s refl)
-
-  -- of one of another length it isn't OK
-  not-ok : (length us ≡ length ws → ⊥) → eqb (preview-number valued ws us c) OK ≡ false
-  unfolding preview-number
-  not-ok z = by-test (sized ws) (λ s. rw (s, ne-eqb (length us) (length ws) z) refl) (λ s. rw s refl)
 
   ghosts-are : length us ≡ length ws → preview-ghosts valued ws us c ≡ table-ghosts valued ws c
   unfolding preview-ghosts
@@ -52,6 +48,10 @@ module _ (valued : Bool) (ws us : List ℕ) (c : Call) where
   unfolding preview-table
   second-is e = rw (number-alike e) refl
 
+  -- of one of another length it isn't OK
+  not-ok : (length us ≡ length ws → ⊥) → eqb (preview-number valued ws us c) OK ≡ false
+  not-ok z = by-test (sized ws) (λ s. rw (thirty-one-next s z) refl) (λ s. rw (one-first s) refl)
+
   none-counted : (length us ≡ length ws → ⊥) → preview-ghosts valued ws us c ≡ 0
   unfolding preview-ghosts
   none-counted z = rw (not-ok z) refl
@@ -61,4 +61,12 @@ module _ (valued : Bool) (ws us : List ℕ) (c : Call) where
   none-written z = rw (not-ok z) refl
 
   pub as-on-copy : AsOnCopy valued ws us c
-  as-on-copy = record { number-is = number-is; ghosts-are = ghosts-are; second-is = second-is; none-counted = none-counted; none-written = none-written }
+  as-on-copy = record {
+    one-first = one-first;
+    thirty-one-next = thirty-one-next;
+    number-is = number-alike;
+    ghosts-are = ghosts-are;
+    second-is = second-is;
+    none-counted = none-counted;
+    none-written = none-written;
+  }

@@ -2,16 +2,16 @@
 use borrow.Author.Needs.{needs}
 use denote.Ref.{now}
 use Rattle.tree_theory.specs.Machine.{add}
-use Rattle.tree.proofs.Previewing.{tables-passed, tables-refused}
+use Rattle.tree.proofs.Previewing.{tables-passed, tables-refuse}
 use Rattle.tree.proofs.preview_on_table.Statement.{statement}
 use Rattle.tree.proofs.preview_on_table.Tie as tie
 
 -- where the code began, seen from the number of the tables
-abbrev begun : tie.After-preview-number → tie.Start
+abbrev begun : tie.After-tables-number → tie.Start
 begun c = c .before .before .before .before
 
-preview-number-requires : tie.Need-preview-number-requires
-preview-number-requires c κs = search needs
+tables-number-requires : tie.Need-tables-number-requires
+tables-number-requires c κs = search needs
 
 refused-answer-requires : tie.Need-refused-answer-requires
 refused-answer-requires c κs = search needs
@@ -25,14 +25,14 @@ returns c =
     let n = b .before in
     let a = begun n .args in
     let call = add (a .r .0) (a .v) (a .p .0) in
-    tables-refused (a .valued) (now (a .t)) (now (a .second)) (n .preview-number .ensures) call (c .refused-answer .ensures) (b .if1 .taken)
+    tables-refuse (a .valued) (now (a .t)) (now (a .second)) (n .tables-number .ensures) call (c .refused-answer .ensures) (b .if1 .taken)
 
 preview-on-tree-requires : tie.Need-preview-on-tree-requires
 preview-on-tree-requires c κs =
     let b = c .before in
     let n = b .before in
     let a = begun n .args in
-    tables-passed (a .valued) (now (a .t)) (now (a .second)) (n .preview-number .ensures) (b .if1 .left)
+    tables-passed (a .valued) (now (a .t)) (now (a .second)) (n .tables-number .ensures) (b .if1 .left)
 
 same-length-2 : tie.Need-same-length-2
 same-length-2 c = search needs
@@ -44,7 +44,7 @@ pub preview-on-table-spec : {M : Type 1} → statement M
 preview-on-table-spec =
     tie.close
     (tie.spec
-    preview-number-requires
+    tables-number-requires
     refused-answer-requires
     same-length
     returns
