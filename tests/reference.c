@@ -1,8 +1,23 @@
 /* Asks the archive what the examples of docs/REFERENCE.md ask. A line is a question, and gets a line of answer, an accepted list three:
-     message HEX, list HEX, cause NUMBER; fresh(ROWS), add(ROUND,VALUE,PARENT), commit(ROUND), path(ROUND), path(ROUND) into COUNT words and
-     nodes of one table, preview(ROUND,VALUE,PARENT) in a second one of its length, preview(ROUND,VALUE,PARENT) into COUNT words of that one and second,
-     its nodes, a call with "command " in front by the functions of a tree of commands; fresh(NUMBER,N), start(ROUND,OFFER), deliver HEX and
-     record of one member; write(KIND,ROUND,SENDER,PRESENT,VOTED,VALUE). */
+     message HEX
+     list HEX
+     cause NUMBER
+     write(KIND,ROUND,SENDER,PRESENT,VOTED,VALUE)
+   of one table, add, preview, commit and path by the functions of a tree of commands where "command " stands in front:
+     fresh(ROWS)
+     add(ROUND,VALUE,PARENT)
+     preview(ROUND,VALUE,PARENT)                     in a second table of its length
+     preview(ROUND,VALUE,PARENT) into COUNT words    of the second table
+     commit(ROUND)
+     path(ROUND)
+     path(ROUND) into COUNT words
+     nodes
+     second                                          the nodes of the second table
+   of one member:
+     fresh(NUMBER,N)
+     start(ROUND,OFFER)
+     deliver HEX
+     record */
 #include "hex.h"
 #include "words.h"
 #include <string.h>
@@ -46,11 +61,11 @@ typedef struct {
 static const Tree of_values = {kalebasin_tree_add, kalebasin_tree_preview, kalebasin_tree_commit, kalebasin_tree_path};
 static const Tree of_commands = {kalebasin_command_add, kalebasin_command_preview, kalebasin_command_commit, kalebasin_command_path};
 
-/* The number; if it is 0, how many rounds the add makes GHOST, or would make so, and which: those that are ADDED before and GHOST after. */
+/* The number, how many rounds the add makes GHOST, or would make so, and which: those that are ADDED before and GHOST after. */
 static void put_ghosts(KalebasinAddResult r, const char *makes, const uint64_t *was, const uint64_t *is, size_t rows) {
     printf("%u", r.number);
     if (r.ghosts) printf(", %s %u GHOST:", makes, r.ghosts);
-    for (size_t i = 0; i < rows && !r.number; i++)
+    for (size_t i = 0; i < rows; i++)
         if (was[4 * i + 3] == KALEBASIN_ADDED && is[4 * i + 3] == KALEBASIN_GHOST) printf(" %llu", (unsigned long long)is[4 * i]);
 }
 
@@ -60,7 +75,8 @@ static void put_added(const Tree *tree, size_t rows, uint32_t round, uint64_t va
 }
 
 static void put_previewed(const Tree *tree, size_t rows, size_t words, uint32_t round, uint64_t value, uint32_t parent) {
-    put_ghosts(tree->preview(table, 4 * rows, second, words, round, value, parent), "would make", table, second, rows);
+    KalebasinAddResult r = tree->preview(table, 4 * rows, second, words, round, value, parent);
+    put_ghosts(r, "would make", table, r.number ? table : second, rows); /* with a refusal second says nothing of this add */
 }
 
 static void put_path(KalebasinPathResult r) {
@@ -98,7 +114,7 @@ int main(void) {
     size_t rows = 0;
     memset(second, 99, sizeof second);
     while (fgets(line, sizeof line, stdin)) {
-        unsigned a, b, c, d, p;
+        unsigned a, b, c, d, p, words = 4 * rows, room = TABLE_ROWS;
         unsigned long long v;
         const int commands = !strncmp(line, "command ", 8);
         const Tree *tree = commands ? &of_commands : &of_values;
@@ -114,13 +130,12 @@ int main(void) {
         else if (sscanf(line, "write(%u,%u,%u,%u,%u,%llu)", &a, &b, &c, &d, &p, &v) == 6) put_written(a, b, c, d, p, v);
         else if (sscanf(line, "fresh(%u)", &a) == 1 && a <= TABLE_ROWS) printf("%u", kalebasin_tree_fresh(table, 4 * (rows = a)));
         else if (sscanf(call, "add(%u,%llu,%u)", &a, &v, &p) == 3) put_added(tree, rows, a, v, p);
-        else if (sscanf(call, "preview(%u,%llu,%u) into %u words", &a, &v, &p, &b) == 4 && b <= sizeof second / 8)
-            put_previewed(tree, rows, b, a, v, p);
-        else if (sscanf(call, "preview(%u,%llu,%u)", &a, &v, &p) == 3) put_previewed(tree, rows, 4 * rows, a, v, p);
+        else if (sscanf(call, "preview(%u,%llu,%u) into %u words", &a, &v, &p, &words) >= 3 && words <= sizeof second / 8)
+            put_previewed(tree, rows, words, a, v, p);
         else if (!strncmp(line, "second", 6)) put_nodes(second, rows);
         else if (sscanf(call, "commit(%u)", &a) == 1) printf("%u", tree->commit(table, 4 * rows, a));
-        else if (sscanf(call, "path(%u) into %u words", &a, &p) == 2 && p <= TABLE_ROWS) put_path(tree->path(table, 4 * rows, a, rounds, p));
-        else if (sscanf(call, "path(%u)", &a) == 1) put_path(tree->path(table, 4 * rows, a, rounds, TABLE_ROWS));
+        else if (sscanf(call, "path(%u) into %u words", &a, &room) >= 1 && room <= TABLE_ROWS)
+            put_path(tree->path(table, 4 * rows, a, rounds, room));
         else if (!strncmp(line, "nodes", 5)) put_nodes(table, rows);
         else printf("no question: %s", line);
         putchar('\n');

@@ -211,7 +211,7 @@ uint32_t kalebasin_tree_fresh(uint64_t *table, size_t len);
 
 typedef struct {
     uint32_t number;
-    uint32_t ghosts; /* rounds made GHOST: ADDED before the call and GHOST after it; the new one isn't counted */
+    uint32_t ghosts; /* rounds made GHOST: ADDED before the add and GHOST after it; the new one isn't counted */
 } KalebasinAddResult;
 
 /* Adds a round. 1 to 9 in that order. Which rounds it made GHOST, a copy of the table from before the call tells: rows keep their

@@ -51,13 +51,13 @@ pub struct MessageResult {
 }
 
 /// What [`kalebasin_tree_add`] and [`kalebasin_command_add`] return, and [`kalebasin_tree_preview`] and
-/// [`kalebasin_command_preview`] of the call that they show: on a refusal `ghosts` is 0.
+/// [`kalebasin_command_preview`] of the add that they show: on a refusal `ghosts` is 0.
 #[repr(C)]
 #[derive(Clone, Copy, Debug, Default, PartialEq, Eq, Hash)]
 pub struct AddResult {
     /// 0, or why the call is refused.
     pub number: u32,
-    /// The rounds that were ADDED before the call and are GHOST after it; the new node isn't among them.
+    /// The rounds that are ADDED before the add and GHOST after it; the new node isn't among them.
     pub ghosts: u32,
 }
 

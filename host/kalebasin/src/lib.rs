@@ -20,8 +20,8 @@
 //! A [`ValueTree`] takes the calls that play makes of proposals and decisions. A [`CommandTree`] is for commands that each follow
 //! a named earlier one: the same tree, in which a node has any value. Each is a type of its own, so that neither is handed to
 //! the other's calls. An add returns how many rounds it made GHOST; with a copy of the table from before it, [`made_ghost`] tells
-//! which. What an add would do is seen before: [`Tree::preview`](tree::Tree::preview) makes it in a second table, and
-//! [`Tree::would_make_ghost`](tree::Tree::would_make_ghost) tells the rounds.
+//! which. [`Tree::would_make_ghost`](tree::Tree::would_make_ghost) tells which rounds an add would make GHOST, and
+//! [`Tree::preview`](tree::Tree::preview) makes the table that it would leave, in a second one.
 //!
 //! The functions of the core need the feature `core` (on by default) and its two archives; without the
 //! feature the rest of this crate is still there.
@@ -31,7 +31,8 @@
 //! - [`notation`]: lists of events and of tree calls as people write them
 //! - `ffi`: the C functions, as the archives have them
 //!
-//! "Document 01" is the product's scope document; its numbers and terms are used throughout.
+//! "Document 01" is the product's scope document, and "document 02" its change requests; their numbers and terms are used
+//! throughout.
 
 #![deny(missing_docs)]
 #![cfg_attr(not(feature = "core"), allow(rustdoc::broken_intra_doc_links))]

@@ -63,7 +63,8 @@ pub fn nodes(table: &[u64]) -> impl Iterator<Item = Node> + '_ {
 }
 
 /// The rounds that are ADDED in a table and GHOST in what adds and commits made of it, in order of adding. Of a copy from before an
-/// add, and the table after it, these are the rounds that the add made GHOST, as many as it answers.
+/// add, and the table after it, these are the rounds that the add made GHOST, as many as it answers; of a table and the second one
+/// of a preview those that the add would make GHOST.
 ///
 /// Adds and commits leave each node in its row, so rows are compared with rows.
 ///

@@ -211,14 +211,16 @@ impl<K: Kind, T: AsMut<[u64]>> Tree<K, T> {
 impl<K: Kind, T: AsRef<[u64]>> Tree<K, T> {
     /// Makes `second` what [`add`](Tree::add) would make of this tree's table, which stays as it is, and returns what add would: how many
     /// rounds it would make GHOST. `second` is as long as the table and may hold anything; where the preview is refused, it stays as well.
+    /// Which rounds they are, [`made_ghost(tree.table(), &second)`](made_ghost) then tells.
     ///
     /// ```
-    /// use kalebasin::{Refusal, Round, ValueTree};
+    /// use kalebasin::{made_ghost, Refusal, Round, ValueTree};
     ///
     /// let mut tree = ValueTree::fresh(vec![0; 16])?;
     /// tree.add(Round(1), 70, Round::ROOT)?;
     /// let (before, mut second) = (tree.clone(), vec![u64::MAX; 16]);
     /// assert_eq!(tree.preview(&mut second, Round(2), 80, Round::ROOT), Ok(1));
+    /// assert!(made_ghost(tree.table(), &second).eq([Round(1)]));
     /// assert_eq!(tree, before);
     /// tree.add(Round(2), 80, Round::ROOT)?;
     /// assert_eq!(tree.table(), second);
@@ -239,7 +241,8 @@ impl<K: Kind, T: AsRef<[u64]>> Tree<K, T> {
         Ok(result.ghosts)
     }
 
-    /// The rounds that [`add`](Tree::add) would make GHOST, in order of adding: those that are ADDED and whose node it would strike out.
+    /// The rounds that [`add`](Tree::add) would make GHOST, in order of adding. It allocates a second table for its
+    /// [`preview`](Tree::preview).
     ///
     /// ```
     /// use kalebasin::{CommandTree, Refusal, Round};

@@ -67,15 +67,17 @@ fn children(nodes: &[Node], parent: Round) -> Vec<Node> {
 
 /// The tree in the DOT language, edges from child to parent.
 pub fn dot(table: &[u64]) -> String {
-    format!("{DOT_HEAD}{}}}\n", dot_nodes(table, "  r"))
+    format!("{DOT_HEAD}{}}}\n", dot_nodes(table, "  ", "r"))
 }
 
-/// Two trees side by side in the DOT language, each in a box with its heading.
+/// Two trees side by side in the DOT language, each in a box with its heading, their roots at one height.
 pub fn dot_beside(before: &[u64], after: &[u64]) -> String {
-    let mut out = String::from(DOT_HEAD);
+    let mut out = format!("{DOT_HEAD}  newrank = true;\n  {{ rank = same; before0; after0; }}\n");
     for (heading, table) in [("before", before), ("after", after)] {
-        let nodes = dot_nodes(table, &format!("    {heading}"));
-        let _ = write!(out, "  subgraph cluster_{heading} {{\n    label = \"{heading}\";\n{nodes}  }}\n");
+        let nodes = dot_nodes(table, "    ", heading);
+        // rankdir = BT turns a box over, its label too
+        let label = format!("    label = \"{heading}\";\n    labelloc = b;\n");
+        let _ = write!(out, "  subgraph cluster_{heading} {{\n{label}{nodes}  }}\n");
     }
     out + "}\n"
 }
@@ -83,13 +85,14 @@ pub fn dot_beside(before: &[u64], after: &[u64]) -> String {
 const DOT_HEAD: &str = "digraph tree {\n  rankdir = BT;\n  node [shape = box, style = filled];\n";
 
 /// The nodes and edges of a tree, a line for each; `name` stands in front of a round.
-fn dot_nodes(table: &[u64], name: &str) -> String {
+fn dot_nodes(table: &[u64], indent: &str, name: &str) -> String {
     let mut out = String::new();
     for node in nodes(table) {
         let label = label(&node).join("\\n");
-        let _ = writeln!(out, "{name}{} [label = \"{label}\", fillcolor = \"{}\"];", node.round, colour(node.status));
-        if node.round != Round::ROOT {
-            let _ = writeln!(out, "{name}{} -> {}{};", node.round, name.trim_start(), node.parent);
+        let (round, fill) = (node.round, colour(node.status));
+        let _ = writeln!(out, "{indent}{name}{round} [label = \"{label}\", fillcolor = \"{fill}\"];");
+        if round != Round::ROOT {
+            let _ = writeln!(out, "{indent}{name}{round} -> {name}{};", node.parent);
         }
     }
     out

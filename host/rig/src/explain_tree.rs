@@ -22,7 +22,7 @@ pub struct Called {
 
 /// Makes a list of calls on a fresh table of so many rows, by an implementation and by the second one: each call, and the table
 /// that the implementation leaves. A path is lent as many words as the table has rows, which is enough for any; a preview a second
-/// table of zeros.
+/// table of other words.
 ///
 /// ```
 /// use kalebasin_rig::{explain_tree::explain, second};
@@ -43,7 +43,7 @@ pub fn explain(calls: &Calls, list: &TreeCallList, table_rows: usize) -> Result<
     let [mut own, mut reference] = [Run::fresh(calls, table_rows)?, Run::fresh(&second::CALLS, table_rows)?];
     let mut called = Vec::new();
     for call in &list.calls {
-        let before = reference.table.clone();
+        let [own_before, before] = [&own, &reference].map(|run| run.table.clone());
         let answers = [&mut own, &mut reference].map(|run| run.call(list.kind, *call));
         let words = match answers[1] {
             Ok(count) => accepted(&before, &reference, *call, count),
@@ -52,7 +52,7 @@ pub fn explain(calls: &Calls, list: &TreeCallList, table_rows: usize) -> Result<
         called.push(Called {
             answer: number_of(&answers[0]),
             ghosts: ghosts_answered(*call, answers[0]),
-            previewed: previewed(&own, *call, answers[0]),
+            previewed: previewed(own_before, &own, *call, answers[0]),
             explained: Explained { notation: call.to_string(), answer: number_of(&answers[1]), words },
             difference: difference([&own, &reference], *call, answers),
         });
@@ -78,7 +78,7 @@ impl Run<'_> {
 
     fn call(&mut self, kind: TreeKind, call: TreeCall) -> Result<usize, Refusal> {
         self.out = match call {
-            TreeCall::Preview { .. } => vec![0; self.table.len()],
+            TreeCall::Preview { .. } => vec![u64::MAX; self.table.len()],
             _ => vec![0; self.table.len() / TABLE_ROW],
         };
         self.calls.tree_call(kind, &mut self.table, call, &mut self.out)
@@ -93,10 +93,10 @@ fn ghosts_answered(call: TreeCall, answer: Result<usize, Refusal>) -> usize {
     }
 }
 
-/// The tables before and after the add that a preview shows which was answered so.
-fn previewed(run: &Run, call: TreeCall, answer: Result<usize, Refusal>) -> Option<[Vec<u64>; 2]> {
+/// Of an accepted preview the table from before it, and the second one.
+fn previewed(before: Vec<u64>, run: &Run, call: TreeCall, answer: Result<usize, Refusal>) -> Option<[Vec<u64>; 2]> {
     match (call, answer) {
-        (TreeCall::Preview { .. }, Ok(_)) => Some([run.table.clone(), run.out.clone()]),
+        (TreeCall::Preview { .. }, Ok(_)) => Some([before, run.out.clone()]),
         _ => None,
     }
 }
@@ -112,7 +112,7 @@ fn difference([one, other]: [&Run; 2], call: TreeCall, answers: [Result<usize, R
     match call {
         TreeCall::Add { .. } if !same_count => Some(format!("MAKES {} GHOST, NOT {}", counts[1], counts[0])),
         TreeCall::Preview { .. } if !same_count => Some(format!("WOULD MAKE {} GHOST, NOT {}", counts[1], counts[0])),
-        TreeCall::Preview { .. } if one.out != other.out => Some("SHOWS ANOTHER ADD".into()),
+        TreeCall::Preview { .. } if one.out != other.out => Some("LEAVES ANOTHER SECOND TABLE".into()),
         _ if !same_count || one.out != other.out => Some("WRITES ANOTHER PATH".into()),
         _ if one.table != other.table => Some("LEAVES ANOTHER TABLE".into()),
         _ => None,
@@ -160,11 +160,8 @@ pub(crate) fn ghosts_in_words(the_add_makes: &str, rounds: Vec<Round>) -> String
 fn refused(before: &[Node], call: TreeCall, refusal: Refusal) -> String {
     let what = match call {
         TreeCall::Fresh => "the table can't be made fresh".into(),
-        TreeCall::Add { round, value, parent } => {
+        TreeCall::Add { round, value, parent } | TreeCall::Preview { round, value, parent } => {
             format!("round {round} can't be added below {} with the value {value}", named(parent))
-        }
-        TreeCall::Preview { round, value, parent } => {
-            format!("round {round} couldn't be added below {} with the value {value}", named(parent))
         }
         TreeCall::Commit(round) => format!("round {round} can't be committed"),
         TreeCall::Path(round) => format!("round {round} has no path"),

@@ -417,7 +417,8 @@ fn previews_are_adds_on_a_copy() {
     }
 }
 
-/// Every add on every tree of commands in four rows, those of values among them, with anything in the second table.
+/// Every add of rounds 1 to 4 with two values on every tree of commands that rounds 1 to 3 with these values leave in four rows, trees
+/// of values among them, by the calls of both kinds, with anything in the second table.
 #[test]
 fn previews_in_any_table() {
     let mut random = Random::new(2);

@@ -193,6 +193,13 @@ const FAULTS: &[Fault] = &[
     check_length(table)?;",
     ),
     Fault(
+        "the second's length is tested for 1",
+        "tree.rs",
+        "if second.len() != table.len() {",
+        "check_length(second)?;
+    if second.len() != table.len() {",
+    ),
+    Fault(
         "a refused preview copies",
         "tree.rs",
         "let ghosts = add(kind, copy,",

@@ -5,7 +5,7 @@
 mod svg;
 
 use kalebasin::notation::{parse, parse_tree};
-use kalebasin::{nodes, Event, EventList, Node, Played, Refusal, Round, Status, TreeKind};
+use kalebasin::{nodes, Event, EventList, Node, Played, Refusal, Round, Status, TreeKind, TABLE_ROW};
 use kalebasin_rig::compare::{play, Lent};
 use kalebasin_rig::explain::ghosts_otherwise;
 use kalebasin_rig::explain_tree::explain;
@@ -353,7 +353,7 @@ fn numbers_and_words(on: &On, kind: TreeKind, calls: &str) -> (Vec<String>, Stri
 }
 
 /// Each number that a call in a list can get, with its cause in particular, from calls of both kinds. Only 7 is of one kind. A preview
-/// in place of each add that is refused gets its number, in words that ask what would be.
+/// in place of each add that is refused gets its number and its words.
 #[test]
 fn refused_tree_calls_in_words() {
     let calls = "add(2,5,0) add(4,5,2) commit(4) add(3,5,2) add(3,6,2) add(0,5,0) add(1000001,5,0) commit(0) path(1000001) add(4,5,0) \
@@ -398,8 +398,6 @@ fn refused_tree_calls_in_words() {
                 false => call.replace("add(", "preview("),
             };
             let previews: Vec<String> = calls.split_whitespace().zip(&expected).map(to_preview).collect();
-            let expected: Vec<String> =
-                expected.iter().map(|line| line.replace("can't be added", "couldn't be added")).collect();
             assert_eq!(numbers_and_words(on, kind, &previews.join(" ")).0, expected);
         }
     }
@@ -527,7 +525,8 @@ fn rounds_made_ghost_in_words() {
     assert!(several > 20, "{several}");
 }
 
-/// What the second implementation does otherwise is told call by call. A preview shows an add: its count, and the second table.
+/// What the second implementation does otherwise is told call by call; of a preview also another count, and another second table,
+/// whether it is accepted or refused.
 #[test]
 fn tree_calls_answered_otherwise() {
     fn add(_: TreeKind, table: &mut [u64], round: Round, value: u64, parent: Round) -> Result<u32, Refusal> {
@@ -543,7 +542,7 @@ fn tree_calls_answered_otherwise() {
         second::tree::path(kind, table, Round::ROOT, out)
     }
     let [answers_0, another_table] = ["ANSWERS 0", "LEAVES ANOTHER TABLE"].map(Some);
-    let [another_path, another_add] = ["WRITES ANOTHER PATH", "SHOWS ANOTHER ADD"].map(Some);
+    let [another_path, another_second] = ["WRITES ANOTHER PATH", "LEAVES ANOTHER SECOND TABLE"].map(Some);
     let calls = "add(1,5,0) add(2,6,1) path(1) preview(3,6,0) preview(3,7,1) commit(1) path(0)";
     for (faulty, told) in [
         (second::CALLS, [None; 7]),
@@ -567,7 +566,29 @@ fn tree_calls_answered_otherwise() {
         ),
         (
             Calls { tree_preview: |kind, t, _, r, v, p| preview(kind, t, &mut t.to_vec(), r, v, p), ..second::CALLS },
-            [None, None, None, another_add, None, None, None],
+            [None, None, None, another_second, None, None, None],
+        ),
+        (
+            Calls {
+                tree_preview: |kind, t, lent, r, v, p| {
+                    let mut whole = t.to_vec();
+                    let ghosts = preview(kind, t, &mut whole, r, v, p)?;
+                    let used = nodes(&whole).count() * TABLE_ROW;
+                    lent[..used].copy_from_slice(&whole[..used]);
+                    Ok(ghosts)
+                },
+                ..second::CALLS
+            },
+            [None, None, None, another_second, None, None, None],
+        ),
+        (
+            Calls {
+                tree_preview: |kind, t, lent, r, v, p| {
+                    preview(kind, t, lent, r, v, p).inspect_err(|_| lent.copy_from_slice(t))
+                },
+                ..second::CALLS
+            },
+            [None, None, None, None, another_second, None, None],
         ),
     ] {
         let (calls, _) = explain(&faulty, &calls.parse().unwrap(), 8).unwrap();
@@ -698,8 +719,11 @@ root                               root
 digraph tree {
   rankdir = BT;
   node [shape = box, style = filled];
+  newrank = true;
+  { rank = same; before0; after0; }
   subgraph cluster_before {
     label = \"before\";
+    labelloc = b;
     before0 [label = \"root\", fillcolor = \"#a8d8a8\"];
     before1 [label = \"round 1\\nvalue 70\\nADDED\", fillcolor = \"#ffffff\"];
     before1 -> before0;
@@ -708,6 +732,7 @@ digraph tree {
   }
   subgraph cluster_after {
     label = \"after\";
+    labelloc = b;
     after0 [label = \"root\", fillcolor = \"#a8d8a8\"];
     after1 [label = \"round 1\\nvalue 70\\nGHOST\", fillcolor = \"#d0d0d0\"];
     after1 -> after0;

@@ -6,12 +6,19 @@ use kalebasin_rig::second::tree::{add, commit, fresh, path, preview};
 use std::collections::BTreeSet;
 use std::fs;
 
-/// The program's table, how many of its words are lent, how many a preview is lent, and the numbers given by the calls of each kind.
+/// The program's table, how many of its words are lent, how many a preview is lent, and the numbers given.
 struct Run {
     words: [u64; TABLE_ROW * TABLE_ROWS],
     lent: usize,
     second: usize,
-    given: [BTreeSet<u32>; 2],
+    given: Given,
+}
+
+/// The numbers that previews of each kind give, and those of the other calls.
+#[derive(Default)]
+struct Given {
+    previews: [BTreeSet<u32>; 2],
+    others: [BTreeSet<u32>; 2],
 }
 
 impl Run {
@@ -51,7 +58,8 @@ impl Run {
             }
             _ => panic!("the program has no call {text}"),
         };
-        self.given[kind as usize].insert(number_of(&answer));
+        let given = if let "v" | "V" = name { &mut self.given.previews } else { &mut self.given.others };
+        given[kind as usize].insert(number_of(&answer));
         let mut written = vec![u64::from(number_of(&answer))];
         if let "a" | "A" | "p" | "P" | "v" | "V" = name {
             written.push(answer.unwrap_or(0) as u64);
@@ -78,19 +86,24 @@ fn file(name: &str) -> String {
 }
 
 /// The output for the stored input, and the numbers given.
-fn worked() -> (String, [BTreeSet<u32>; 2]) {
-    let mut run = Run { words: [0; TABLE_ROW * TABLE_ROWS], lent: 0, second: 0, given: Default::default() };
+fn worked() -> (String, Given) {
+    let mut run = Run { words: [0; TABLE_ROW * TABLE_ROWS], lent: 0, second: 0, given: Given::default() };
     let input = fs::read_to_string(file("stdin")).expect("the program's cases");
     (input.lines().map(|line| run.line(line)).collect(), run.given)
 }
 
-/// The program's output to the letter; the calls of values get every number of the tree, those of commands every one but 7.
+/// The program's output to the letter. Previews of values get every number that they have, and so do the other calls; those of
+/// commands every one but 7.
 #[test]
 fn the_program_tree_cases() {
-    let (output, [values, commands]) = worked();
+    let (output, given) = worked();
     assert_eq!(output, fs::read_to_string(file("stdout")).expect("the program's output"));
-    assert!(values.into_iter().eq((0..=13).chain([31])));
-    assert!(commands.into_iter().eq((0..=13).filter(|number| *number != 7).chain([31])));
+    let previews: BTreeSet<u32> = (0..=9).chain([31]).collect();
+    for ([values, commands], mut numbers) in [(given.previews, previews), (given.others, (0..=13).collect())] {
+        assert_eq!(values, numbers);
+        numbers.remove(&7);
+        assert_eq!(commands, numbers);
+    }
 }
 
 #[test]

@@ -73,8 +73,8 @@ const COMMANDS: &[Command] = &[
         name: "tree",
         operand: Some("[FILE]"),
         about: "makes tree calls on a fresh table, explains them one by one and draws the tree",
-        more: "A preview shows what an add would do, and does nothing: the trees before and after it are drawn side by side, also in the\n\
-               files of --dot and --svg where it is the last call.\n\
+        more: "A preview shows what an add would do, and does nothing: where it is accepted, the trees before and after are drawn\n\
+               side by side, in the files of --dot and --svg too where it is the last call.\n\
                Without FILE, or where it is -, standard input is read. Standard output has the calls themselves, so --dot and --svg\n\
                don't take -. A path is lent a word for each row of the table.\n",
     },
