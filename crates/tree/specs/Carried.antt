@@ -17,12 +17,15 @@ pub record CanWrite (ws : List ℕ) (c : Call) (row strikes : ℕ) : Type 0 wher
   pub strikes-is : strikes ≡ call-strikes ws c row
   pub few : strikes ≤ 256
 
+-- what a plan with this number and so many strikes is answered with
 abbrev pub planned-answer : ℕ → ℕ → CallAnswer
 planned-answer number strikes = record { number = number; ghosts = cond (eqb number OK) strikes 0 }
 
+-- the table after it is carried out; with a refusal what it was
 abbrev pub planned-table : List ℕ → Call → ℕ → ℕ → ℕ → List ℕ
 planned-table ws c number row status = cond (eqb number OK) (call-written ws c row status) ws
 
+-- how many rows of ws are copied first: all, or none where the call is refused
 abbrev pub rows-copied : ℕ → List ℕ → ℕ
 rows-copied number ws = cond (eqb number OK) (rows ws) 0
 
