@@ -8,15 +8,14 @@ ghost use mathlib.Core.Bool.{true};
 ghost use Prim.Native.Nat.{_*_, _≤_, _<_};
 ghost use lib.ListN.{length};
 ghost use Rattle.laws.specs.First.{first};
-ghost use Rattle.tree_theory.specs.Table.{row, sized, is-tree, table-causes};
+ghost use Rattle.tree_theory.specs.Table.{row, sized-length, sized, is-tree, table-causes};
 ghost use Rattle.tree_theory.specs.Preview.{tables-causes};
 ghost use Rattle.tree_theory.specs.Check.{is-root, fits-to, zeros-to};
 
 // A multiple of 4 from 4 to 1,024.
-pub fn has_table_length(t: &[u64]) -> bool
-    ensures { λ b. ⌜ b ≡ sized (now (t .entry)) ⌝ }
+pub fn is_table_length(n: usize) -> bool
+    ensures { λ b. ⌜ b ≡ sized-length n ⌝ }
 {
-    let n = t.len();
     if n % 4 != 0 {
         return false;
     }
@@ -24,6 +23,13 @@ pub fn has_table_length(t: &[u64]) -> bool
         return false;
     }
     n <= 1024
+}
+
+// Whether a slice has such a length.
+pub fn has_table_length(t: &[u64]) -> bool
+    ensures { λ b. ⌜ b ≡ sized (now (t .entry)) ⌝ }
+{
+    is_table_length(t.len())
 }
 
 // Whether row 0 is the root's.

@@ -15,9 +15,12 @@ use Rattle.tree_theory.specs.Machine.{Node, node-of, Call, add, commit, 
 abbrev pub MOST-WORDS : ℕ
 MOST-WORDS = 1024
 
--- a multiple of 4 from 4 to 1,024
+-- the length of a table: a multiple of 4 from 4 to 1,024
+abbrev pub sized-length : ℕ → Bool
+sized-length n = eqb (n % 4) 0 && (leb 4 n && leb n MOST-WORDS)
+
 abbrev pub sized : List ℕ → Bool
-sized ws = eqb (length ws % 4) 0 && (leb 4 (length ws) && leb (length ws) MOST-WORDS)
+sized ws = sized-length (length ws)
 
 abbrev pub rows : List ℕ → ℕ
 rows ws = length ws / 4

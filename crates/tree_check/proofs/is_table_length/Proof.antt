@@ -1,8 +1,8 @@
--- `tree_check::has_table_length` meets its contract: each return goes by the tests that led there. Assumes nothing.
+-- `tree_check::is_table_length` meets its contract: each return goes by the tests that led there. Assumes nothing.
 use mathlib.Core.Path.{refl}
 use borrow.Author.Tests.{eq-eqb, ne-eqb, le-leb, lt-leb}
-use Rattle.tree_check.proofs.has_table_length.Statement.{statement}
-use Rattle.tree_check.proofs.has_table_length.Tie as tie
+use Rattle.tree_check.proofs.is_table_length.Statement.{statement}
+use Rattle.tree_check.proofs.is_table_length.Tie as tie
 
 returns : tie.Need-returns
 returns c = rw (ne-eqb _ _ (c .if1 .taken)) refl
@@ -13,5 +13,5 @@ returns-2 c = rw (eq-eqb _ _ (c .before .if1 .left), lt-leb _ _ (c .if2 .taken))
 returns-3 : tie.Need-returns-3
 returns-3 c = rw (eq-eqb _ _ (c .before .if1 .left), le-leb _ _ (c .if2 .left)) refl
 
-pub has-table-length-spec : {M : Type 1} → statement M
-has-table-length-spec = tie.close (tie.spec returns returns-2 returns-3)
+pub is-table-length-spec : {M : Type 1} → statement M
+is-table-length-spec = tie.close (tie.spec returns returns-2 returns-3)
