@@ -1,2 +1,2 @@
--- The ranges of rounds and members.
+-- The ranges of rounds, members and slots.
 pub mod Ranges

@@ -1,14 +1,31 @@
-// Round numbers and member numbers, two types that can't stand for one another (01, "Members"), and the map from one to the other.
+// Round numbers, member numbers and slot numbers, three types that can't stand for one another (01, "Members"; 02, ticket 6), and the map from
+// rounds to members.
 ghost use mathlib.Core.Path.{_≡_};
 ghost use mathlib.Core.Bool.{not};
 ghost use Prim.Native.Nat.{_<_, _%_};
-ghost use Rattle.ids.specs.Ranges.{above-range, out-of-range};
+ghost use Rattle.ids.specs.Ranges.{above-range, out-of-range, no-slot};
 
 #[repr(C)]
 pub struct Round(pub u32);
 
 #[repr(C)]
 pub struct Member(pub u32);
+
+// Which of an office's password sets: 0 to 7.
+#[repr(C)]
+pub struct Slot(pub u32);
+
+// An office has so many slots.
+pub const SLOTS: usize = 8;
+
+const LAST_SLOT: u32 = 7;
+
+// Whether a slot is none of 0 to 7.
+pub fn no_slot(s: Slot) -> bool
+    ensures { λ b. ⌜ b ≡ no-slot (s .0) ⌝ }
+{
+    LAST_SLOT < s.0
+}
 
 const LAST_ROUND: u64 = 1000000;
 

@@ -7,7 +7,7 @@ use lib.Dec.{leb}
 abbrev pub OK : ℕ
 OK = 0
 
--- the length of a table is not a multiple of 4 from 4 to 1,024
+-- the length of a table is not a multiple of 4 from 4 to 1,024, or the eight lengths of a play do not add up to its words (02, ticket 6)
 abbrev pub TABLE-LENGTH : ℕ
 TABLE-LENGTH = 1
 
@@ -59,7 +59,7 @@ IS-GHOST = 12
 abbrev pub PATH-TOO-LONG : ℕ
 PATH-TOO-LONG = 13
 
--- a message is under 4 bytes, or not of the length of its kind
+-- a message is under 8 bytes, or not of the length of its kind
 abbrev pub MESSAGE-LENGTH : ℕ
 MESSAGE-LENGTH = 14
 
@@ -71,7 +71,7 @@ MESSAGE-KIND = 15
 abbrev pub MESSAGE-FIELD : ℕ
 MESSAGE-FIELD = 16
 
--- a record is not sound; of fresh, the number or N is not allowed
+-- a record is not sound; of fresh, the slot, the number or N is not allowed
 abbrev pub RECORD-UNSOUND : ℕ
 RECORD-UNSOUND = 17
 
@@ -130,6 +130,10 @@ STORE-FULL = 30
 -- the two tables of a preview differ in length (02, ticket 5)
 abbrev pub LENGTHS-DIFFER : ℕ
 LENGTHS-DIFFER = 31
+
+-- the slot of a message or of an event is above 7, or a message is of another slot (02, ticket 6)
+abbrev pub WRONG-SLOT : ℕ
+WRONG-SLOT = 32
 
 -- no row is left where so many of so many are used: the cause of 9 and of 30
 abbrev pub no-row-left : ℕ → ℕ → Bool

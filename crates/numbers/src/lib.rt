@@ -6,7 +6,7 @@ ghost use Rattle.numbers.specs.Numbers.{no-row-left};
 // 0: the call is done.
 pub const OK: u32 = 0;
 
-// 1: the length of a table is not a multiple of 4 from 4 to 1,024.
+// 1: the length of a table is not a multiple of 4 from 4 to 1,024, or the eight lengths of a play do not add up to its words (02, ticket 6).
 pub const TABLE_LENGTH: u32 = 1;
 
 // 2: no list of calls leaves the table.
@@ -45,7 +45,7 @@ pub const IS_GHOST: u32 = 12;
 // 13: the slice lent for a path is too short.
 pub const PATH_TOO_LONG: u32 = 13;
 
-// 14: a message is under 4 bytes, or not of the length of its kind.
+// 14: a message is under 8 bytes, or not of the length of its kind.
 pub const MESSAGE_LENGTH: u32 = 14;
 
 // 15: the kind of a message is not 1 to 4.
@@ -54,7 +54,7 @@ pub const MESSAGE_KIND: u32 = 15;
 // 16: the presence or another field of a message is out of range.
 pub const MESSAGE_FIELD: u32 = 16;
 
-// 17: a record is not sound; of fresh, the number or N is not allowed.
+// 17: a record is not sound; of fresh, the slot, the number or N is not allowed.
 pub const RECORD_UNSOUND: u32 = 17;
 
 // 18: the reply buffer is shorter than the longest message.
@@ -98,6 +98,9 @@ pub const STORE_FULL: u32 = 30;
 
 // 31: the two tables of a preview differ in length (02, ticket 5).
 pub const LENGTHS_DIFFER: u32 = 31;
+
+// 32: the slot of a message or of an event is above 7, or a message is of another slot (02, ticket 6).
+pub const WRONG_SLOT: u32 = 32;
 
 // Whether no row is left where so many of so many are used: the cause of 9 and of 30.
 pub fn no_row_left(rows: usize, used: usize) -> bool
