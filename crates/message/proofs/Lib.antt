@@ -1,3 +1,4 @@
 -- Theorems about messages.
 pub mod Checks
 pub mod RoundTrip
+pub mod Slots

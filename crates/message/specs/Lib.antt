@@ -4,3 +4,4 @@ pub mod Layout
 pub mod Reading
 pub mod Writing
 pub mod RoundTrip
+pub mod Slots

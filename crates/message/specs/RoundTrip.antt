@@ -1,9 +1,10 @@
--- Reader and writer together, of what each promises: the reader accepts what the writer writes, and nothing else (01, "Messages": nothing stands in for a
--- missing word).
+-- A host's reader and the writer together, of what each promises: the reader accepts what the writer writes, and nothing else
+-- (01, "Messages": nothing stands in for a missing word).
 use mathlib.Core.Path.{_≡_}
 use mathlib.Core.List.{List, _++_}
 use Prim.Native.Nat.{ℕ, _≤_}
 use lib.ListN.{length, take, drop}
+use Rattle.ids.specs.Ranges.{no-slot}
 use Rattle.numbers.specs.Numbers.{OK}
 use Rattle.xdr.specs.Words.{AllBytes}
 use Rattle.message.specs.declared.Message.{Message}
@@ -21,10 +22,10 @@ pub record Wrote (s old : List ℕ) (w : Written) (new : List ℕ) : Type 0 wher
 
 -- where the reader accepts bytes, they are what the writer writes for that message, into any buffer that has room for the longest
 abbrev pub AcceptedAreWritten : Type 0
-AcceptedAreWritten = (s : List ℕ) → AllBytes s → (m : Message) → ReaderGives s (Got m) → (old : List ℕ) → longest-message ≤ length old →
+AcceptedAreWritten = (s : List ℕ) → AllBytes s → (m : Message) → ReaderGives no-slot s (Got m) → (old : List ℕ) → longest-message ≤ length old →
     (w : Written) (new : List ℕ) → WriterLeaves m old w new → Wrote s old w new
 
 -- where the writer accepts a message, the reader takes it from the length answered
 abbrev pub WrittenAreAccepted : Type 0
-WrittenAreAccepted = (m : Message) → ValueFits m → (old : List ℕ) (w : Written) (new : List ℕ) → WriterLeaves m old w new → w .number ≡ OK →
-    (r : Read) → ReaderGives (take (w .length) new) r → r ≡ Got m
+WrittenAreAccepted = (m : Message) → ValueFits (m .body) → (old : List ℕ) (w : Written) (new : List ℕ) → WriterLeaves m old w new → w .number ≡ OK →
+    (r : Read) → ReaderGives no-slot (take (w .length) new) r → r ≡ Got m

@@ -1,4 +1,4 @@
--- What the writer answers and leaves (01, "Messages", and the buffer and message rows of the place table).
+-- What the writer answers and leaves (01, "Messages", and the buffer and message rows of the place table; 02, ticket 6).
 use mathlib.Core.Path.{_≡_}
 use mathlib.Core.Bool.{Bool, cond, not}
 use mathlib.Core.List.{List, [], _∷_, _++_}
@@ -6,7 +6,8 @@ use Prim.Native.Nat.{ℕ}
 use lib.ListN.{length, drop}
 use lib.Dec.{ltb, eqb}
 use Rattle.laws.specs.First.{Cause, _gives_, first}
-use Rattle.numbers.specs.Numbers.{OK, REPLY-TOO-SHORT, MESSAGE-FIELD}
+use Rattle.ids.specs.Ranges.{no-slot}
+use Rattle.numbers.specs.Numbers.{OK, REPLY-TOO-SHORT, MESSAGE-FIELD, WRONG-SLOT}
 use Rattle.message.specs.declared.Message.{Message}
 use Rattle.message.specs.declared.Written.{Written}
 use Rattle.message.specs.Fields.{in-range}
@@ -16,9 +17,15 @@ use Rattle.message.specs.Layout.{bytes, longest-message}
 abbrev pub short-buffer : ℕ → Bool
 short-buffer n = ltb n longest-message
 
--- the buffer's cause and then that of the fields
+-- for a buffer of n bytes: its cause, then that of the slot, and then that of the fields
+abbrev pub buffer-row : Message → ℕ → List Cause
+buffer-row m n =
+    short-buffer n gives REPLY-TOO-SHORT ∷
+    no-slot (m .slot .0) gives WRONG-SLOT ∷
+    not (in-range (m .body)) gives MESSAGE-FIELD ∷ []
+
 abbrev pub writer-row : Message → List ℕ → List Cause
-writer-row m old = short-buffer (length old) gives REPLY-TOO-SHORT ∷ not (in-range m) gives MESSAGE-FIELD ∷ []
+writer-row m old = buffer-row m (length old)
 
 -- the number; the length is that of the message, and 0 with a refusal
 unfoldable pub writing : Message → List ℕ → Written

@@ -1,11 +1,13 @@
-// The messages of 01, "Messages": the enum, its ranges, and what the reader and the writer answer.
+// The messages of 01, "Messages", and 02, ticket 6: slot and body, its ranges, and what the reader and the writer answer.
 use ids::Member;
 use ids::Round;
+use ids::Slot;
 ghost use mathlib.Core.Path.{_≡_};
 ghost use Rattle.message.specs.Fields.{head-in-range, vote-in-range, in-range};
+ghost use Rattle.message.specs.Layout.{no-kind};
 
-// A message by value: one of the four kinds, a JOIN without or with a vote.
-pub enum Message {
+// What a message says: one of the four kinds, a JOIN without or with a vote.
+pub enum Body {
     Start {
         round: Round,
         sender: Member,
@@ -31,6 +33,12 @@ pub enum Message {
     },
 }
 
+// A message by value: the slot that it is of, and what it says (02, ticket 6).
+pub struct Message {
+    pub slot: Slot,
+    pub body: Body,
+}
+
 // What bytes read as: the message, or the number of the place table that refuses them.
 pub enum Read {
     Got(Message),
@@ -51,8 +59,20 @@ pub const PROPOSE_KIND: u32 = 3;
 
 pub const VOTE_KIND: u32 = 4;
 
+// Whether a number is none of the four kinds.
+pub fn no_kind(kind: u32) -> bool
+    ensures { λ b. ⌜ b ≡ no-kind kind ⌝ }
+{
+    if kind == 0 {
+        return true;
+    }
+    VOTE_KIND < kind
+}
+
 // The places of a message's words.
-pub const KIND_PLACE: usize = 0;
+pub const SLOT_PLACE: usize = 0;
+
+pub const KIND_PLACE: usize = SLOT_PLACE + 4;
 
 pub const ROUND_PLACE: usize = KIND_PLACE + 4;
 
@@ -66,7 +86,7 @@ pub const VOTED_VALUE_PLACE: usize = VOTED_PLACE + 4;
 
 pub const PROPOSED_PLACE: usize = SENDER_PLACE + 4;
 
-// Where the kind ends: as many bytes tell it.
+// Where the kind ends: as many bytes tell slot and kind.
 pub const KIND_END: usize = KIND_PLACE + 4;
 
 // The length of what every message starts with, which is all of a START and of a VOTE.
@@ -108,14 +128,14 @@ fn vote_in_range(round: Round, voted: Round) -> bool
     voted.0 < round.0
 }
 
-// Whether a message's fields are in range.
-pub fn fields_in_range(m: Message) -> bool
-    ensures { λ b. ⌜ b ≡ in-range m ⌝ }
+// Whether the fields of what a message says are in range.
+pub fn fields_in_range(b: Body) -> bool
+    ensures { λ r. ⌜ r ≡ in-range b ⌝ }
 {
-    match m {
-        Message::Start { round, sender } => head_in_range(round, sender),
-        Message::Join { round, sender } => head_in_range(round, sender),
-        Message::JoinVoted {
+    match b {
+        Body::Start { round, sender } => head_in_range(round, sender),
+        Body::Join { round, sender } => head_in_range(round, sender),
+        Body::JoinVoted {
             round,
             sender,
             voted,
@@ -126,11 +146,11 @@ pub fn fields_in_range(m: Message) -> bool
             }
             false
         }
-        Message::Propose {
+        Body::Propose {
             round,
             sender,
             value: _,
         } => head_in_range(round, sender),
-        Message::Vote { round, sender } => head_in_range(round, sender),
+        Body::Vote { round, sender } => head_in_range(round, sender),
     }
 }

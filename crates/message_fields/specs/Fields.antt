@@ -6,17 +6,25 @@ use lib.Dec.{ltb, eqb}
 use Rattle.laws.specs.First.{Cause, _gives_}
 use Rattle.ids.specs.declared.Round.{Round}
 use Rattle.ids.specs.declared.Member.{Member}
-use Rattle.numbers.specs.Numbers.{MESSAGE-KIND, MESSAGE-FIELD}
+use Rattle.ids.specs.declared.Slot.{Slot}
+use Rattle.ids.specs.Ranges.{no-slot}
+use Rattle.numbers.specs.Numbers.{MESSAGE-KIND, MESSAGE-FIELD, WRONG-SLOT}
+use Rattle.message.specs.declared.Body.{Body}
+use Rattle.message.specs.declared.Body.the-variants.{Start, Join, JoinVoted, Propose, Vote}
 use Rattle.message.specs.declared.Message.{Message}
-use Rattle.message.specs.declared.Message.the-variants.{Start, Join, JoinVoted, Propose, Vote}
-use Rattle.message.specs.Layout.{START-KIND, JOIN-KIND, PROPOSE-KIND, VOTE-KIND}
+use Rattle.message.specs.Layout.{in-slot, START-KIND, JOIN-KIND, PROPOSE-KIND, no-kind}
 
--- the message of fields whose kind is 1 to 4
-unfoldable pub message-of : ℕ → Round → Member → ℕ → Round → ℕ → Message
-message-of k r s p q v =
+-- what a message of fields says whose kind is 1 to 4
+unfoldable pub body-of : ℕ → Round → Member → ℕ → Round → ℕ → Body
+body-of k r s p q v =
     cond (eqb k START-KIND) (Start r s)
     (cond (eqb k JOIN-KIND) (cond (eqb p 1) (JoinVoted r s q v) (Join r s))
     (cond (eqb k PROPOSE-KIND) (Propose r s v) (Vote r s)))
+
+-- and the message
+unfoldable pub message-of : Slot → ℕ → Round → Member → ℕ → Round → ℕ → Message
+unfolding body-of
+message-of i k r s p q v = in-slot i (body-of k r s p q v)
 
 -- a field that the kind doesn't have isn't 0
 unfoldable pub spare-fields : ℕ → ℕ → ℕ → ℕ → Bool
@@ -29,9 +37,10 @@ spare-fields k p q v =
 abbrev pub no-presence : ℕ → ℕ → Bool
 no-presence k p = eqb k JOIN-KIND && ltb 1 p
 
--- in the reader's order: 15 the kind isn't 1 to 4; 16 no presence; 16 a field too many
-unfoldable pub fields-row : ℕ → ℕ → ℕ → ℕ → List Cause
-fields-row k p q v =
-    (eqb k 0 || ltb VOTE-KIND k) gives MESSAGE-KIND ∷
+-- in the reader's order: 32 the slot isn't 0 to 7; 15 the kind isn't 1 to 4; 16 no presence; 16 a field too many
+unfoldable pub fields-row : Slot → ℕ → ℕ → ℕ → ℕ → List Cause
+fields-row i k p q v =
+    no-slot (i .0) gives WRONG-SLOT ∷
+    no-kind k gives MESSAGE-KIND ∷
     no-presence k p gives MESSAGE-FIELD ∷
     spare-fields k p q v gives MESSAGE-FIELD ∷ []

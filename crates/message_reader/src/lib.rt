@@ -1,6 +1,8 @@
-// The reader of messages (01, "Messages").
+// The reader of messages (01, "Messages"; 02, ticket 6).
 use ids::Member;
 use ids::Round;
+use ids::Slot;
+use message::Body;
 use message::HEAD_LENGTH;
 use message::JOIN_KIND;
 use message::JOIN_LENGTH;
@@ -15,20 +17,31 @@ use message::PROPOSED_PLACE;
 use message::ROUND_PLACE;
 use message::Read;
 use message::SENDER_PLACE;
+use message::SLOT_PLACE;
 use message::START_KIND;
-use message::VOTE_KIND;
 use message::VOTED_PLACE;
 use message::VOTED_VALUE_PLACE;
 use numbers::MESSAGE_FIELD;
 use numbers::MESSAGE_KIND;
 use numbers::MESSAGE_LENGTH;
+use numbers::WRONG_SLOT;
 ghost use mathlib.Core.Path.{_≡_};
+ghost use mathlib.Core.Bool.{false};
 ghost use Prim.Native.Nat.{_+_, _≤_};
 ghost use lib.ListN.{length, take};
-ghost use Rattle.message.specs.declared.Message.the-variants.{Start, Join, JoinVoted, Propose, Vote};
-ghost use Rattle.message.specs.Layout.{JOIN-KIND, VOTE-KIND, kind-end, head-length, join-voted-length, propose-length, longest-message};
-ghost use Rattle.message.specs.Layout.{kind-in, round-in, message-round, message-sender, message-voted, voted-value-in, proposed-in};
-ghost use Rattle.message.specs.Reading.{size, decoded, ranged, reading, ReaderGives};
+ghost use Rattle.ids.specs.Ranges.{no-slot};
+ghost use Rattle.message.specs.declared.Body.the-variants.{Start, Join, JoinVoted, Propose, Vote};
+ghost use Rattle.message.specs.Layout.{JOIN-KIND, no-kind, kind-end, head-length, join-voted-length, propose-length, longest-message};
+ghost use Rattle.message.specs.Layout.{in-slot, message-slot, kind-in, round-in, message-round, message-sender, message-voted, voted-value-in, proposed-in};
+ghost use Rattle.message.specs.Reading.{size, decoded-body, ranged, other-slot, told-reading, ReaderGives};
+
+// The slot at its place.
+fn slot_of(s: &[u8]) -> Slot
+    requires { ⌜ kind-end ≤ length (now s) ⌝ }
+    ensures { λ r. ⌜ r ≡ message-slot (now (s .entry)) ⌝ }
+{
+    Slot(xdr::word_at(s, SLOT_PLACE))
+}
 
 // The round at a place.
 fn round_at(s: &[u8], at: usize) -> Round
@@ -46,34 +59,34 @@ fn sender_of(s: &[u8]) -> Member
     Member(xdr::word_at(s, SENDER_PLACE))
 }
 
-fn as_start(s: &[u8]) -> Message
+fn as_start(s: &[u8]) -> Body
     requires { ⌜ head-length ≤ length (now s) ⌝ }
     ensures { λ m. ⌜ m ≡ Start (message-round (now (s .entry))) (message-sender (now (s .entry))) ⌝ }
 {
-    Message::Start {
+    Body::Start {
         round: round_at(s, ROUND_PLACE),
         sender: sender_of(s),
     }
 }
 
 // Bytes as a JOIN without a vote.
-fn as_join(s: &[u8]) -> Message
+fn as_join(s: &[u8]) -> Body
     requires { ⌜ head-length ≤ length (now s) ⌝ }
     ensures { λ m. ⌜ m ≡ Join (message-round (now (s .entry))) (message-sender (now (s .entry))) ⌝ }
 {
-    Message::Join {
+    Body::Join {
         round: round_at(s, ROUND_PLACE),
         sender: sender_of(s),
     }
 }
 
 // Bytes as a JOIN with a vote.
-fn as_join_voted(s: &[u8]) -> Message
+fn as_join_voted(s: &[u8]) -> Body
     requires { ⌜ join-voted-length ≤ length (now s) ⌝ }
     ensures { λ m. ⌜ m ≡ JoinVoted (message-round (now (s .entry))) (message-sender (now (s .entry)))
         (message-voted (now (s .entry))) (voted-value-in (now (s .entry))) ⌝ }
 {
-    Message::JoinVoted {
+    Body::JoinVoted {
         round: round_at(s, ROUND_PLACE),
         sender: sender_of(s),
         voted: round_at(s, VOTED_PLACE),
@@ -81,31 +94,31 @@ fn as_join_voted(s: &[u8]) -> Message
     }
 }
 
-fn as_propose(s: &[u8]) -> Message
+fn as_propose(s: &[u8]) -> Body
     requires { ⌜ propose-length ≤ length (now s) ⌝ }
     ensures { λ m. ⌜ m ≡ Propose (message-round (now (s .entry))) (message-sender (now (s .entry))) (proposed-in (now (s .entry))) ⌝ }
 {
-    Message::Propose {
+    Body::Propose {
         round: round_at(s, ROUND_PLACE),
         sender: sender_of(s),
         value: xdr::hyper_at(s, PROPOSED_PLACE),
     }
 }
 
-fn as_vote(s: &[u8]) -> Message
+fn as_vote(s: &[u8]) -> Body
     requires { ⌜ head-length ≤ length (now s) ⌝ }
     ensures { λ m. ⌜ m ≡ Vote (message-round (now (s .entry))) (message-sender (now (s .entry))) ⌝ }
 {
-    Message::Vote {
+    Body::Vote {
         round: round_at(s, ROUND_PLACE),
         sender: sender_of(s),
     }
 }
 
-// The message that bytes of the length of their kind spell.
-fn decode(s: &[u8]) -> Message
+// What the message says that bytes of the length of their kind spell.
+fn decode_body(s: &[u8]) -> Body
     requires { ⌜ length (now s) ≡ size (now s) ⌝ }
-    ensures { λ m. ⌜ m ≡ decoded (now (s .entry)) ⌝ }
+    ensures { λ m. ⌜ m ≡ decoded-body (now (s .entry)) ⌝ }
 {
     let kind = xdr::word_at(s, KIND_PLACE);
     if kind == START_KIND {
@@ -141,21 +154,31 @@ fn message_size(s: &[u8]) -> usize
     HEAD_LENGTH
 }
 
-// The message at the front of bytes that have room for any: its own length, and not all of them.
-pub fn decode_front(s: &[u8]) -> Message
+// The slot of the message at the front of bytes that have room for any.
+pub fn slot_front(s: &[u8]) -> Slot
     requires { ⌜ longest-message ≤ length (now s) ⌝ }
-    ensures { λ m. ⌜ m ≡ decoded (take (size (now (s .entry))) (now (s .entry))) ⌝ }
+    ensures { λ i. ⌜ i ≡ message-slot (now (s .entry)) ⌝ }
 {
-    let n = message_size(s);
-    decode(&s[..n])
+    slot_of(s)
 }
 
-// A message of the right length reads as itself, if its fields are in range.
-fn ranged(m: Message) -> Read
-    ensures { λ r. ⌜ r ≡ ranged m ⌝ }
+// And what it says, of its own length, and not of all the bytes.
+pub fn body_front(s: &[u8]) -> Body
+    requires { ⌜ longest-message ≤ length (now s) ⌝ }
+    ensures { λ m. ⌜ m ≡ decoded-body (take (size (now (s .entry))) (now (s .entry))) ⌝ }
 {
-    if message::fields_in_range(m) {
-        Read::Got(m)
+    let n = message_size(s);
+    decode_body(&s[..n])
+}
+
+// Bytes of the right length read as the message of their slot that says so, if its fields are in range.
+fn ranged(s: &[u8], body: Body) -> Read
+    requires { ⌜ kind-end ≤ length (now s) ⌝ }
+    ensures { λ r. ⌜ r ≡ ranged (in-slot (message-slot (now (s .entry))) body) ⌝ }
+{
+    if message::fields_in_range(body) {
+        let slot = slot_of(s);
+        Read::Got(Message { slot, body })
     } else {
         Read::Refused(MESSAGE_FIELD)
     }
@@ -163,8 +186,8 @@ fn ranged(m: Message) -> Read
 
 // Reads a JOIN: its presence word has to be there before it is looked at.
 fn read_join(s: &[u8]) -> Read
-    requires { ⌜ (kind-end ≤ length (now s)) × (kind-in (now s) ≡ JOIN-KIND) ⌝ }
-    ensures { λ r. ⌜ r ≡ reading (now (s .entry)) ⌝ }
+    requires { ⌜ kind-in (now s) ≡ JOIN-KIND ⌝ }
+    ensures { λ r. ⌜ r ≡ told-reading false (now (s .entry)) ⌝ }
 {
     if s.len() < JOIN_LENGTH {
         return Read::Refused(MESSAGE_LENGTH);
@@ -174,21 +197,21 @@ fn read_join(s: &[u8]) -> Read
         if s.len() != JOIN_LENGTH {
             return Read::Refused(MESSAGE_LENGTH);
         }
-        return ranged(as_join(s));
+        return ranged(s, as_join(s));
     }
     if presence == 1 {
         if s.len() != JOIN_VOTED_LENGTH {
             return Read::Refused(MESSAGE_LENGTH);
         }
-        return ranged(as_join_voted(s));
+        return ranged(s, as_join_voted(s));
     }
     Read::Refused(MESSAGE_FIELD)
 }
 
-// Reads bytes that start with one of the four kinds.
+// Reads bytes whose slot isn't refused and whose kind is one of the four.
 fn read_kind(s: &[u8]) -> Read
-    requires { ⌜ (kind-end ≤ length (now s)) × (1 ≤ kind-in (now s)) × (kind-in (now s) ≤ VOTE-KIND) ⌝ }
-    ensures { λ r. ⌜ r ≡ reading (now (s .entry)) ⌝ }
+    requires { ⌜ (kind-end ≤ length (now s)) × (no-kind (kind-in (now s)) ≡ false) ⌝ }
+    ensures { λ r. ⌜ r ≡ told-reading false (now (s .entry)) ⌝ }
 {
     let kind = xdr::word_at(s, KIND_PLACE);
     if kind == JOIN_KIND {
@@ -198,30 +221,58 @@ fn read_kind(s: &[u8]) -> Read
         if s.len() != PROPOSE_LENGTH {
             return Read::Refused(MESSAGE_LENGTH);
         }
-        return ranged(as_propose(s));
+        return ranged(s, as_propose(s));
     }
     if s.len() != HEAD_LENGTH {
         return Read::Refused(MESSAGE_LENGTH);
     }
     if kind == START_KIND {
-        return ranged(as_start(s));
+        return ranged(s, as_start(s));
     }
-    ranged(as_vote(s))
+    ranged(s, as_vote(s))
+}
+
+// Reads bytes that tell slot and kind; `wrong` says whether their slot is refused.
+fn read_told(wrong: bool, s: &[u8]) -> Read
+    requires { ⌜ kind-end ≤ length (now s) ⌝ }
+    ensures { λ r. ⌜ r ≡ told-reading wrong (now (s .entry)) ⌝ }
+{
+    let unknown = message::no_kind(xdr::word_at(s, KIND_PLACE));
+    if wrong {
+        return Read::Refused(WRONG_SLOT);
+    }
+    if unknown {
+        return Read::Refused(MESSAGE_KIND);
+    }
+    read_kind(s)
 }
 
 // Reads any bytes of any length: the message that they are, or the number that comes first.
 pub fn read_message(s: &[u8]) -> Read
-    ensures { λ r. ⌜ ReaderGives (now (s .entry)) r ⌝ }
+    ensures { λ r. ⌜ ReaderGives no-slot (now (s .entry)) r ⌝ }
 {
     if s.len() < KIND_END {
         return Read::Refused(MESSAGE_LENGTH);
     }
-    let kind = xdr::word_at(s, KIND_PLACE);
-    if kind == 0 {
-        return Read::Refused(MESSAGE_KIND);
+    read_told(ids::no_slot(slot_of(s)), s)
+}
+
+// Whether a member of slot `own` refuses a slot: one that is none of 0 to 7, or another.
+fn other_slot(own: Slot, slot: Slot) -> bool
+    ensures { λ b. ⌜ b ≡ other-slot own (slot .0) ⌝ }
+{
+    if ids::no_slot(slot) {
+        return true;
     }
-    if VOTE_KIND < kind {
-        return Read::Refused(MESSAGE_KIND);
+    slot.0 != own.0
+}
+
+// Reads bytes for a member of slot `own`, who takes no message of another.
+pub fn read_own_message(own: Slot, s: &[u8]) -> Read
+    ensures { λ r. ⌜ ReaderGives (other-slot own) (now (s .entry)) r ⌝ }
+{
+    if s.len() < KIND_END {
+        return Read::Refused(MESSAGE_LENGTH);
     }
-    read_kind(s)
+    read_told(other_slot(own, slot_of(s)), s)
 }

@@ -1,21 +1,28 @@
 -- `message_fields::fields_number` meets its contract: each return goes by the tests that led there. Assumes nothing.
 use mathlib.Core.Path.{_≡_, refl, sym, _∙_}
 use mathlib.Core.Bool.{cond}
-use borrow.Author.Tests.{eq-eqb, ne-eqb, lt-ltb, le-ltb}
+use borrow.Author.Needs.{needs}
 use Rattle.laws.specs.First.{first}
 use Rattle.numbers.specs.Numbers.{OK, MESSAGE-FIELD}
 use Rattle.message_fields.specs.Fields.{fields-row}
-use borrow.Author.Needs.{needs}
 use Rattle.message_fields.proofs.fields_number.Statement.{statement}
 use Rattle.message_fields.proofs.fields_number.Tie as tie
 
+no-slot-requires : tie.Need-no-slot-requires
+no-slot-requires c κs = search needs
+
+no-kind-requires : tie.Need-no-kind-requires
+no-kind-requires c κs = search needs
+
 returns : tie.Need-returns
 unfolding fields-row
-returns c = simp (eq-eqb _ _ (c .if1 .taken))
+returns c = simp (sym (c .before .before .no-slot .ensures) ∙ c .if1 .taken)
 
 returns-2 : tie.Need-returns-2
 unfolding fields-row
-returns-2 c = simp (ne-eqb _ _ (c .before .if1 .left), lt-ltb _ _ (c .if2 .taken))
+returns-2 c =
+    let tested = c .before .before in
+    simp (sym (tested .before .no-slot .ensures) ∙ c .before .if1 .left, sym (tested .no-kind .ensures) ∙ c .if2 .taken)
 
 wrong-presence-requires : tie.Need-wrong-presence-requires
 wrong-presence-requires c κs = search needs
@@ -24,22 +31,28 @@ returns-3 : tie.Need-returns-3
 unfolding fields-row
 returns-3 c =
     let kind = c .before .before in
-    simp (ne-eqb _ _ (kind .before .if1 .left), le-ltb _ _ (kind .if2 .left), sym (c .before .wrong-presence .ensures) ∙ c .if3 .taken)
+    let tested = kind .before .before in
+    simp (
+      sym (tested .before .no-slot .ensures) ∙ kind .before .if1 .left,
+      sym (tested .no-kind .ensures) ∙ kind .if2 .left,
+      sym (c .before .wrong-presence .ensures) ∙ c .if3 .taken,
+    )
 
 spare-fields-requires : tie.Need-spare-fields-requires
 spare-fields-requires c κs = search needs
 
--- where kind and presence are right, a field too many decides
+-- where slot, kind and presence are right, a field too many decides
 left : (c : tie.After-spare-fields) →
-    let a = c .before .before .before .before .before .args in
-    first (fields-row (a .kind) (a .present) (a .voted) (a .value)) ≡ cond (c .spare-fields .result) MESSAGE-FIELD OK
+    let a = c .before .before .before .before .before .before .before .args in
+    first (fields-row (a .slot) (a .kind) (a .present) (a .voted) (a .value)) ≡ cond (c .spare-fields .result) MESSAGE-FIELD OK
 unfolding fields-row
 left c =
     let presence = c .before in
     let kind = presence .before .before in
+    let tested = kind .before .before in
     simp (
-      ne-eqb _ _ (kind .before .if1 .left),
-      le-ltb _ _ (kind .if2 .left),
+      sym (tested .before .no-slot .ensures) ∙ kind .before .if1 .left,
+      sym (tested .no-kind .ensures) ∙ kind .if2 .left,
       sym (presence .before .wrong-presence .ensures) ∙ presence .if3 .left,
       sym (c .spare-fields .ensures),
     )
@@ -54,6 +67,8 @@ pub fields-number-spec : {M : Type 1} → statement M
 fields-number-spec =
     tie.close
     (tie.spec
+    no-slot-requires
+    no-kind-requires
     returns
     returns-2
     wrong-presence-requires

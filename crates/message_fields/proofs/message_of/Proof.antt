@@ -1,28 +1,15 @@
--- `message_fields::message_of` meets its contract: each return goes by the tests that led there. Assumes nothing.
-use borrow.Author.Tests.{eq-eqb, ne-eqb}
+-- `message_fields::message_of` meets its contract: the message of the slot that says what the fields say. Assumes nothing.
+use borrow.Author.Needs.{needs}
 use Rattle.message_fields.specs.Fields.{message-of}
 use Rattle.message_fields.proofs.message_of.Statement.{statement}
 use Rattle.message_fields.proofs.message_of.Tie as tie
 
+body-of-requires : tie.Need-body-of-requires
+body-of-requires c κs = search needs
+
 returns : tie.Need-returns
 unfolding message-of
-returns c = simp (eq-eqb _ _ (c .if1 .taken))
-
-returns-2 : tie.Need-returns-2
-unfolding message-of
-returns-2 c = simp (ne-eqb _ _ (c .before .before .if1 .left), eq-eqb _ _ (c .before .if2 .taken), eq-eqb _ _ (c .if3 .taken))
-
-returns-3 : tie.Need-returns-3
-unfolding message-of
-returns-3 c = simp (ne-eqb _ _ (c .before .before .if1 .left), eq-eqb _ _ (c .before .if2 .taken), ne-eqb _ _ (c .if3 .left))
-
-returns-4 : tie.Need-returns-4
-unfolding message-of
-returns-4 c = simp (ne-eqb _ _ (c .before .before .if1 .left), ne-eqb _ _ (c .before .if2 .left), eq-eqb _ _ (c .if4 .taken))
-
-returns-5 : tie.Need-returns-5
-unfolding message-of
-returns-5 c = simp (ne-eqb _ _ (c .before .before .if1 .left), ne-eqb _ _ (c .before .if2 .left), ne-eqb _ _ (c .if4 .left))
+returns c = λ i. record { slot = c .before .args .slot; body = c .body-of .ensures i }
 
 pub message-of-spec : {M : Type 1} → statement M
-message-of-spec = tie.close (tie.spec returns returns-2 returns-3 returns-4 returns-5)
+message-of-spec = tie.close (tie.spec body-of-requires returns)

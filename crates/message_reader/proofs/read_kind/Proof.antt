@@ -1,5 +1,6 @@
 -- `message_reader::read_kind` meets its contract: each return goes by the tests that led there. Assumes nothing.
-use mathlib.Core.Path.{_≡_, sym, ap, _∙_}
+use mathlib.Core.Path.{_≡_, sym, _∙_}
+use mathlib.Core.Bool.{false}
 use mathlib.Core.List.{List}
 use Prim.Native.Nat.{ℕ}
 use native.Mathlib.Omega.{arith}
@@ -10,8 +11,8 @@ use denote.Ref.{now}
 use Rattle.message.specs.Layout.{JOIN-KIND, PROPOSE-KIND, VOTE-KIND, head-length, kind-in}
 use Rattle.numbers.specs.Numbers.{MESSAGE-LENGTH}
 use Rattle.message.specs.declared.Read.the-variants.{Refused}
-use Rattle.message.specs.Reading.{size, ranged, reading}
-use Rattle.message.proofs.Checks.{Known, wrong-size, right-size, size-propose, size-other, decoded-start, decoded-propose, decoded-vote}
+use Rattle.message.specs.Reading.{size, told-reading}
+use Rattle.message.proofs.Checks.{four-kinds, Known, wrong-size, right-said, size-propose, size-other, decoded-start, decoded-propose, decoded-vote}
 use Rattle.message_reader.proofs.read_kind.Statement.{statement}
 use Rattle.message_reader.proofs.read_kind.Tie as tie
 
@@ -33,11 +34,11 @@ no-join c k = c .if1 .left (c .before .word-at .ensures ∙ k)
 
 known : (c : tie.Else1) → Known (bytes-at c)
 known c =
-    let s = c .before .before .before in
-    record { low = s .pre .1; high = s .pre .2; present = rw (ne-eqb (kind-in (bytes-at c)) JOIN-KIND (no-join c)) }
+    let (low, high) = four-kinds _ (c .before .before .before .pre .1) in
+    record { low = low; high = high; present = rw (ne-eqb (kind-in (bytes-at c)) JOIN-KIND (no-join c)) }
 
-refused : (c : tie.Else1) → (length (bytes-at c) ≡ size (bytes-at c) → ⊥) → Refused MESSAGE-LENGTH ≡ reading (bytes-at c)
-refused c e = sym (wrong-size _ (known c) (c .before .before .before .pre .0) (λ k. absurd (no-join c k)) e)
+refused : (c : tie.Else1) → (length (bytes-at c) ≡ size (bytes-at c) → ⊥) → Refused MESSAGE-LENGTH ≡ told-reading false (bytes-at c)
+refused c e = sym (wrong-size _ (known c) (λ k. absurd (no-join c k)) e)
 
 a-propose : (c : tie.Then2) → kind-in (bytes-at (c .before)) ≡ PROPOSE-KIND
 a-propose c = sym (c .before .before .word-at .ensures) ∙ c .if2 .taken
@@ -55,8 +56,9 @@ returns-3 : tie.Need-returns-3
 returns-3 c =
     let exact = c .before .before in
     let three = a-propose (exact .before) in
-    c .ranged .ensures ∙ ap ranged (c .before .as-propose .ensures ∙ sym (decoded-propose _ three)) ∙
-    sym (right-size _ (known (exact .before .before)) (exact .if3 .left ∙ sym (size-propose _ three)))
+    c .ranged .ensures ∙
+    right-said _ (known (exact .before .before)) (exact .if3 .left ∙ sym (size-propose _ three)) _
+    (c .before .as-propose .ensures ∙ sym (decoded-propose _ three))
 
 -- START or VOTE
 head-alone : (c : tie.Else2) → size (bytes-at (c .before)) ≡ head-length
@@ -76,8 +78,8 @@ returns-5 c =
     let exact = c .before .before .before in
     let other = exact .before in
     let one = sym (other .before .before .word-at .ensures) ∙ c .before .before .if5 .taken in
-    c .ranged2 .ensures ∙ ap ranged (c .before .as-start .ensures ∙ sym (decoded-start _ one)) ∙
-    sym (right-size _ (known (other .before)) (exact .if4 .left ∙ sym (head-alone other)))
+    c .ranged2 .ensures ∙
+    right-said _ (known (other .before)) (exact .if4 .left ∙ sym (head-alone other)) _ (c .before .as-start .ensures ∙ sym (decoded-start _ one))
 
 as-vote-requires : tie.Need-as-vote-requires
 as-vote-requires c κs = search needs
@@ -88,14 +90,15 @@ ranged-requires-3 c κs = search needs
 a-vote : (c : tie.Else5) → kind-in (bytes-at (c .before .before .before)) ≡ VOTE-KIND
 a-vote c =
     let word = c .before .before .before .before in
-    omega (arith, word .word-at .ensures, word .before .before .pre)
+    omega (arith, word .word-at .ensures, four-kinds (kind-in (bytes-at (c .before .before .before))) (word .before .before .pre .1))
 
 returns-6 : tie.Need-returns-6
 returns-6 c =
     let exact = c .before .before .before in
     let other = exact .before in
-    c .ranged3 .ensures ∙ ap ranged (c .before .as-vote .ensures ∙ sym (decoded-vote _ (a-vote (c .before .before)))) ∙
-    sym (right-size _ (known (other .before)) (exact .if4 .left ∙ sym (head-alone other)))
+    c .ranged3 .ensures ∙
+    right-said _ (known (other .before)) (exact .if4 .left ∙ sym (head-alone other)) _
+    (c .before .as-vote .ensures ∙ sym (decoded-vote _ (a-vote (c .before .before))))
 
 pub read-kind-spec : {M : Type 1} → statement M
 read-kind-spec =

@@ -1,38 +1,34 @@
--- `message_reader::read_message` meets its contract: each return goes by the tests that led there. Assumes nothing.
-use mathlib.Core.Path.{sym, _∙_}
-use borrow.Author.Tests.{lt-ltb, le-ltb, ne-eqb}
+-- `message_reader::read_message` meets its contract: it goes by whether the slot is above 7. Assumes nothing.
+use mathlib.Core.Path.{sym, ap, _∙_}
+use mathlib.Core.Bool.{Bool}
 use borrow.Author.Needs.{needs}
-use Rattle.message.specs.Reading.{reading}
+use denote.Ref.{now}
+use Rattle.ids.specs.declared.Slot.{Slot}
+use Rattle.ids.specs.Ranges.{no-slot}
+use Rattle.message.specs.Reading.{told-reading}
+use Rattle.message.proofs.Checks.{too-short, told}
 use Rattle.message.proofs.RoundTrip.{reader-gives}
 use Rattle.message_reader.proofs.read_message.Statement.{statement}
 use Rattle.message_reader.proofs.read_message.Tie as tie
 
 returns : tie.Need-returns
-unfolding reading
-returns c = reader-gives _ _ (simp (lt-ltb _ _ (c .if1 .taken)))
+returns c = reader-gives _ _ _ (sym (too-short _ _ (c .if1 .taken)))
 
-word-at-requires : tie.Need-word-at-requires
-word-at-requires c κs = search needs
+slot-of-requires : tie.Need-slot-of-requires
+slot-of-requires c κs = search needs
+
+no-slot-requires : tie.Need-no-slot-requires
+no-slot-requires c κs = search needs
+
+read-told-requires : tie.Need-read-told-requires
+read-told-requires c κs = search needs
 
 returns-2 : tie.Need-returns-2
-unfolding reading
-returns-2 c = reader-gives _ _ (simp (le-ltb _ _ (c .before .before .if1 .left), sym (c .before .word-at .ensures) ∙ c .if2 .taken))
-
-returns-3 : tie.Need-returns-3
-unfolding reading
-returns-3 c = reader-gives _ _ (simp (
-  le-ltb _ _ (c .before .before .before .if1 .left),
-  sym (c .before .before .word-at .ensures),
-  ne-eqb _ _ (c .before .if2 .left),
-  lt-ltb _ _ (c .if3 .taken),
-))
-
-read-kind-requires : tie.Need-read-kind-requires
-read-kind-requires c κs = search needs
-
-returns-4 : tie.Need-returns-4
-returns-4 c = reader-gives _ _ (c .read-kind .ensures)
+returns-2 c =
+    let asked = c .before in
+    let long = asked .before .before in
+    let above = asked .no-slot .ensures ∙ ap (λ (i : Slot). no-slot (i .0)) (asked .before .slot-of .ensures) in
+    reader-gives _ _ _ (c .read-told .ensures ∙ ap (λ (b : Bool). told-reading b (now (long .before .before .args .s))) above ∙ sym (told _ no-slot (long .if1 .left)))
 
 pub read-message-spec : {M : Type 1} → statement M
-read-message-spec =
-    tie.close (tie.spec returns word-at-requires returns-2 returns-3 read-kind-requires returns-4)
+read-message-spec = tie.close (tie.spec returns slot-of-requires no-slot-requires read-told-requires returns-2)

@@ -18,5 +18,5 @@ write-join-spec 𝓤 H 𝓜 𝓖 𝓡 =
     let put-word = cited 𝓤 H (WordPut 𝓤 H (𝓖 .A)) 𝓜 𝓡 code.env word.name word.routine code.calls-xdr-writer·put-word (word-thm.met 𝓤 H 𝓜 𝓖 𝓡) in
     entered 𝓤 H (tripleOf 𝓤 H (𝓖 .A) write.signature (write.spec 𝓤 H (𝓖 .A) (𝓜 .mem) (𝓡 .run)))
     (tables 𝓤 H 𝓜 𝓡 code.env .C) (tables 𝓤 H 𝓜 𝓡 code.env .Λ) #write code.function (code.unfolded 𝓤 H 𝓜 𝓡)
-    (shape-meets 𝓤 H (𝓖 .A) (givenOf 𝓤 H 𝓜 𝓖) (a-word ∷ a-word ∷ a-word ∷ a-word ∷ []) (tablesOf 𝓤 H 𝓜 (tables 𝓤 H 𝓜 𝓡 code.env))
-    (put-word, (put-word, (put-word, (put-word, tt)))))
+    (shape-meets 𝓤 H (𝓖 .A) (givenOf 𝓤 H 𝓜 𝓖) (a-word ∷ a-word ∷ a-word ∷ a-word ∷ a-word ∷ []) (tablesOf 𝓤 H 𝓜 (tables 𝓤 H 𝓜 𝓡 code.env))
+    (put-word, (put-word, (put-word, (put-word, (put-word, tt))))))

@@ -1,4 +1,4 @@
--- `message_reader::decode` meets its contract: the length of the kind has room for each word that is read, and each return goes by the tests
+-- `message_reader::decode_body` meets its contract: the length of the kind has room for each word that is read, and each return goes by the tests
 -- that led there. Assumes nothing.
 use mathlib.Core.Path.{_≡_, sym, _∙_}
 use mathlib.Core.List.{List}
@@ -7,10 +7,10 @@ use native.Mathlib.Omega.{arith}
 use borrow.Author.Tests.{ne-eqb}
 use denote.Ref.{now}
 use Rattle.message.specs.Layout.{START-KIND, JOIN-KIND, PROPOSE-KIND, kind-in, presence-in}
-use Rattle.message.specs.Reading.{decoded}
+use Rattle.message.specs.Reading.{decoded-body}
 use Rattle.message.proofs.Checks.{size-least, size-join-least, size-join-voted, size-propose, decoded-start, decoded-join-voted, decoded-propose}
-use Rattle.message_reader.proofs.decode.Statement.{statement}
-use Rattle.message_reader.proofs.decode.Tie as tie
+use Rattle.message_reader.proofs.decode_body.Statement.{statement}
+use Rattle.message_reader.proofs.decode_body.Tie as tie
 
 word-at-requires : tie.Need-word-at-requires
 word-at-requires c κs = omega (arith, size-least (now (c .before .args .s)))
@@ -54,7 +54,7 @@ as-join-requires : tie.Need-as-join-requires
 as-join-requires c κs = let join = c .before .before in omega (arith, size-least (bytes-at (join .before .before)))
 
 returns-3 : tie.Need-returns-3
-unfolding decoded
+unfolding decoded-body
 returns-3 c =
     let unvoted = c .before in
     let none = ne-eqb _ _ (λ e. unvoted .if3 .left (unvoted .before .word-at2 .ensures ∙ e)) in
@@ -70,7 +70,7 @@ as-vote-requires : tie.Need-as-vote-requires
 as-vote-requires c κs = omega (arith, size-least (bytes-at (c .before .before .before)))
 
 returns-5 : tie.Need-returns-5
-unfolding decoded
+unfolding decoded-body
 returns-5 c =
     let other = c .before in
     let k = other .before .before .before .word-at .ensures in
@@ -81,8 +81,8 @@ returns-5 c =
       ne-eqb _ _ (λ e. other .if4 .left (k ∙ e)),
     )
 
-pub decode-spec : {M : Type 1} → statement M
-decode-spec =
+pub decode-body-spec : {M : Type 1} → statement M
+decode-body-spec =
     tie.close
     (tie.spec
     word-at-requires
