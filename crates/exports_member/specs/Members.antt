@@ -11,7 +11,7 @@ use Rattle.message.specs.Layout.{bytes}
 use Rattle.message.specs.Writing.{in-front, writer-row}
 use Rattle.message_fields.specs.Fields.{message-of, fields-row}
 use Rattle.member_record.specs.declared.MemberState.{MemberState}
-use Rattle.member_record.specs.Record.{round-number}
+use Rattle.member_record.specs.Record.{round-number, slot-number}
 use Rattle.member.specs.Table.{Outcome, unless}
 use Rattle.member_calls.specs.declared.reply.AfterCall.{AfterCall}
 use Rattle.member_calls.specs.Reports.{reported}
@@ -55,28 +55,28 @@ unfoldable pub deliver-outcome : MemberFields → List ℕ → List ℕ → Outc
 deliver-outcome f s old = on-record f (deliver-call (state-of f) s old)
 
 -- a refused fresh leaves zeros
-abbrev pub fresh-outcome : ℕ → ℕ → Outcome
-fresh-outcome me n = fresh-call (state-of no-fields) (member-of me) n
+abbrev pub fresh-outcome : ℕ → ℕ → ℕ → Outcome
+fresh-outcome slot me n = fresh-call (state-of no-fields) (slot-number slot) (member-of me) n
 
 -- the message of fields
-abbrev pub fields-message : ℕ → ℕ → ℕ → ℕ → ℕ → ℕ → Message
-fields-message k r s p q v = message-of k (round-number r) (member-of s) p (round-number q) v
+abbrev pub fields-message : ℕ → ℕ → ℕ → ℕ → ℕ → ℕ → ℕ → Message
+fields-message i k r s p q v = message-of (slot-number i) k (round-number r) (member-of s) p (round-number q) v
 
--- the causes of the fields, then those of the writer: 18 the buffer, 16 a range
-unfoldable pub write-row : ℕ → ℕ → ℕ → ℕ → ℕ → ℕ → List ℕ → List Cause
+-- the causes of the fields, 32 the first of them, then the writer's: 18 the buffer, 32 the slot (it can't come any more), 16 a range
+unfoldable pub write-row : ℕ → ℕ → ℕ → ℕ → ℕ → ℕ → ℕ → List ℕ → List Cause
 unfolding fields-row
-write-row k r s p q v old = fields-row k p q v ++ writer-row (fields-message k r s p q v) old
+write-row i k r s p q v old = fields-row (slot-number i) k p q v ++ writer-row (fields-message i k r s p q v) old
 
 -- the number; the length is that of the message, and 0 with a refusal
-unfoldable pub write-result : ℕ → ℕ → ℕ → ℕ → ℕ → ℕ → List ℕ → WriteResult
+unfoldable pub write-result : ℕ → ℕ → ℕ → ℕ → ℕ → ℕ → ℕ → List ℕ → WriteResult
 unfolding write-row
-write-result k r s p q v old =
+write-result i k r s p q v old =
     record {
-      number = first (write-row k r s p q v old);
-      length = cond (eqb (first (write-row k r s p q v old)) OK) (length (bytes (fields-message k r s p q v))) 0;
+      number = first (write-row i k r s p q v old);
+      length = cond (eqb (first (write-row i k r s p q v old)) OK) (length (bytes (fields-message i k r s p q v))) 0;
     }
 
 -- the message at the front, and the bytes behind it as they were; a refusal leaves the buffer as it was
-unfoldable pub written-after : ℕ → ℕ → ℕ → ℕ → ℕ → ℕ → List ℕ → List ℕ
+unfoldable pub written-after : ℕ → ℕ → ℕ → ℕ → ℕ → ℕ → ℕ → List ℕ → List ℕ
 unfolding write-row
-written-after k r s p q v old = cond (eqb (first (write-row k r s p q v old)) OK) (in-front (fields-message k r s p q v) old) old
+written-after i k r s p q v old = cond (eqb (first (write-row i k r s p q v old)) OK) (in-front (fields-message i k r s p q v) old) old

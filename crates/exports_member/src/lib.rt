@@ -3,12 +3,14 @@
 // as numbers alone (`member_fields`); what is no sound record is refused with 17.
 use ids::Member;
 use ids::Round;
+use ids::Slot;
 use member_calls::reply::AfterCall;
 use member_fields::MemberFields;
 use member_record::MemberState;
 ghost use mathlib.Core.Path.{_≡_};
 ghost use Prim.Native.Nat.{_≤_};
 ghost use Rattle.message.specs.Layout.{longest-message};
+ghost use Rattle.member_record.specs.Record.{slot-number};
 ghost use Rattle.member_calls.specs.Reports.{reply-after};
 ghost use Rattle.member_fields.specs.Fields.{no-fields};
 ghost use Rattle.exports_member.specs.Members.{fields-after, call-result, refused-call};
@@ -16,11 +18,11 @@ ghost use Rattle.exports_member.specs.Members.{member-result, fresh-outc
 ghost use Rattle.exports_member.specs.Members.{write-result, written-after};
 
 // The version of the C functions, one number for both archives. It goes up with each change that a caller of either sees.
-const VERSION: u32 = 5;
+const VERSION: u32 = 6;
 
 #[no_mangle]
 pub extern "C" fn kalebasin_member_version() -> u32
-    ensures { λ v. ⌜ v ≡ 5 ⌝ }
+    ensures { λ v. ⌜ v ≡ 6 ⌝ }
 {
     VERSION
 }
@@ -87,17 +89,22 @@ fn result(f: MemberFields, c: AfterCall) -> MemberResult
     }
 }
 
-// A fresh record of member `number` in an office of so many. Zeros, where there is no such member.
+// A fresh record, for slot `slot`, of member `number` in an office of so many. Zeros, where there is no such slot or member.
 #[no_mangle]
-pub extern "C" fn kalebasin_member_fresh(number: u32, members: u32) -> MemberResult
-    ensures { λ r. ⌜ r ≡ member-result no-fields (fresh-outcome number members) ⌝ }
+pub extern "C" fn kalebasin_member_fresh(slot: u32, number: u32, members: u32) -> MemberResult
+    ensures { λ r. ⌜ r ≡ member-result no-fields (fresh-outcome slot number members) ⌝ }
 {
     let f = member_fields::no_fields();
-    let c = member_calls::fresh_into(member_fields::state_of(f), Member(number), members);
+    let c = member_calls::fresh_into(
+        member_fields::state_of(f),
+        Slot(slot),
+        Member(number),
+        members,
+    );
     result(f, c)
 }
 
-// start(round, offer) of the member whose record this is.
+// start(round, offer) of the member whose record this is. What it sends is of the record's slot.
 #[no_mangle]
 pub extern "C" fn kalebasin_member_start(
     f: MemberFields,
@@ -106,7 +113,7 @@ pub extern "C" fn kalebasin_member_start(
     reply: &mut [u8],
 ) -> MemberResult
     ensures answer { λ r. ⌜ r ≡ member-result f (start-outcome f round offer (now (reply .entry))) ⌝ }
-    ensures left { λ _. ⌜ now (reply .exit) ≡ reply-after (start-outcome f round offer (now (reply .entry)) .sent) (now (reply .entry)) ⌝ }
+    ensures left { λ _. ⌜ now (reply .exit) ≡ reply-after (slot-number (f .slot)) (start-outcome f round offer (now (reply .entry)) .sent) (now (reply .entry)) ⌝ }
 {
     if member_fields::no_mask(f.flags) {
         return refuse(f, numbers::RECORD_UNSOUND);
@@ -115,7 +122,7 @@ pub extern "C" fn kalebasin_member_start(
     result(f, c)
 }
 
-// Delivers the message that bytes are to the member whose record this is.
+// Delivers the message that bytes are to the member whose record this is: 32 unless it is of the record's slot, of which is what it sends.
 #[no_mangle]
 pub extern "C" fn kalebasin_member_deliver(
     f: MemberFields,
@@ -123,7 +130,7 @@ pub extern "C" fn kalebasin_member_deliver(
     reply: &mut [u8],
 ) -> MemberResult
     ensures answer { λ r. ⌜ r ≡ member-result f (deliver-outcome f (now (bytes .entry)) (now (reply .entry))) ⌝ }
-    ensures left { λ _. ⌜ now (reply .exit) ≡ reply-after (deliver-outcome f (now (bytes .entry)) (now (reply .entry)) .sent) (now (reply .entry)) ⌝ }
+    ensures left { λ _. ⌜ now (reply .exit) ≡ reply-after (slot-number (f .slot)) (deliver-outcome f (now (bytes .entry)) (now (reply .entry)) .sent) (now (reply .entry)) ⌝ }
 {
     if member_fields::no_mask(f.flags) {
         return refuse(f, numbers::RECORD_UNSOUND);
@@ -135,6 +142,7 @@ pub extern "C" fn kalebasin_member_deliver(
 // Puts the message that has these fields at the front of the buffer lent for it. A field that its kind doesn't have is 0.
 #[no_mangle]
 pub extern "C" fn kalebasin_write_message(
+    slot: u32,
     kind: u32,
     round: u32,
     sender: u32,
@@ -143,14 +151,15 @@ pub extern "C" fn kalebasin_write_message(
     value: u64,
     buf: &mut [u8],
 ) -> WriteResult
-    ensures answer { λ r. ⌜ r ≡ write-result kind round sender present voted value (now (buf .entry)) ⌝ }
-    ensures left { λ _. ⌜ now (buf .exit) ≡ written-after kind round sender present voted value (now (buf .entry)) ⌝ }
+    ensures answer { λ r. ⌜ r ≡ write-result slot kind round sender present voted value (now (buf .entry)) ⌝ }
+    ensures left { λ _. ⌜ now (buf .exit) ≡ written-after slot kind round sender present voted value (now (buf .entry)) ⌝ }
 {
-    let number = message_fields::fields_number(kind, present, voted, value);
+    let number = message_fields::fields_number(Slot(slot), kind, present, voted, value);
     if number != numbers::OK {
         return WriteResult { number, length: 0 };
     }
     let m = message_fields::message_of(
+        Slot(slot),
         kind,
         Round(round),
         Member(sender),
@@ -159,8 +168,9 @@ pub extern "C" fn kalebasin_write_message(
         value,
     );
     let w = message_writer::write_message(m, buf);
+    let length = w.length as u32;
     WriteResult {
         number: w.number,
-        length: w.length as u32,
+        length,
     }
 }

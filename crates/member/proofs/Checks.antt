@@ -11,9 +11,9 @@ use Rattle.laws.specs.First.{Cause, first, passed}
 use Rattle.ids.specs.declared.Round.{Round}
 use Rattle.ids.specs.declared.Member.{Member}
 use Rattle.numbers.specs.Numbers.{OK}
-use Rattle.message.specs.declared.Message.{Message}
+use Rattle.message.specs.declared.Body.{Body}
 use Rattle.message.specs.Fields.{in-range}
-use Rattle.message.specs.declared.Message.the-variants.{Start, Join, JoinVoted, Propose, Vote}
+use Rattle.message.specs.declared.Body.the-variants.{Start, Join, JoinVoted, Propose, Vote}
 use Rattle.member_record.specs.declared.MemberState.{MemberState}
 use Rattle.member_rules.specs.Causes.{count-causes}
 use Rattle.member.specs.declared.StepAnswer.{StepAnswer}
@@ -84,9 +84,9 @@ refused-some {a} {k} q h z =
     absurd (omega (tests, not-true (eqb k OK) n))
 
 -- what an answer sends is within the ranges of its kind
-pub sent-in-bounds : (m : MemberState) {a : StepAnswer} {g : Message} → a ≡ Sent g → Kept (answer-outcome m a) → in-range g ≡ true
+pub sent-in-bounds : (m : MemberState) {a : StepAnswer} {g : Body} → a ≡ Sent g → Kept (answer-outcome m a) → in-range g ≡ true
 sent-in-bounds m {a} {g} q K = subst (λ b. Kept (answer-outcome m b)) q K .sent-in-range g (here refl)
 
-pub proposed-in-bounds : (m : MemberState) {a : StepAnswer} {g : Message} {r : Round} {x : ℕ} {b : Round} → a ≡ Proposed g r x b → Kept (answer-outcome m a) →
+pub proposed-in-bounds : (m : MemberState) {a : StepAnswer} {g : Body} {r : Round} {x : ℕ} {b : Round} → a ≡ Proposed g r x b → Kept (answer-outcome m a) →
     in-range g ≡ true
 proposed-in-bounds m {a} {g} q K = subst (λ d. Kept (answer-outcome m d)) q K .sent-in-range g (here refl)

@@ -16,13 +16,13 @@ use Rattle.ids.specs.declared.Member.{Member}
 use Rattle.ids.specs.Ranges.{above-range, out-of-range, no-member}
 use Rattle.numbers.specs.Numbers.{OK}
 use Rattle.quorum.specs.Count.{some}
-use Rattle.message.specs.declared.Message.{Message}
-use Rattle.message.specs.declared.Message.the-variants.{Start, Join, JoinVoted, Propose, Vote}
+use Rattle.message.specs.declared.Body.{Body}
+use Rattle.message.specs.declared.Body.the-variants.{Start, Join, JoinVoted, Propose, Vote}
 use Rattle.message.specs.Fields.{head-in-range, in-range}
 use Rattle.member_record.specs.declared.MemberState.{MemberState}
 use Rattle.member_record.specs.Phases.{IDLE, COLLECTING, PROPOSED, DECIDED, needed}
 use Rattle.member_record.specs.Record.{with-lead, leads, flagged, flag-from, no-flags, sound, sound-count, changes-durable}
-use Rattle.member_record.proofs.Flags.{number-sizes, cleared-from, set-count, set-from}
+use Rattle.member_record.proofs.Flags.{who-sizes, cleared-from, set-count, set-from}
 use Rattle.member_record.proofs.Quorums.{needed-decided, cleared-short}
 use Rattle.member_record.proofs.Sound.{SoundParts, parts, whole, vote-parts, SoundLeading, leading-parts, leading-whole}
 use Rattle.member_rules.specs.Causes.{start-call-causes, START-late, START-causes, awaits, count-causes}
@@ -36,13 +36,13 @@ use Rattle.member.specs.Answers.{MoveIs, step-outcome}
 use Rattle.member.specs.Kept.{Kept, StepOf}
 use Rattle.member.proofs.Checks.{causes-byte}
 
-one-sent : (x : Message) → in-range x ≡ true → (g : Message) → g ∈ x ∷ [] → in-range g ≡ true
+one-sent : (x : Body) → in-range x ≡ true → (g : Body) → g ∈ x ∷ [] → in-range g ≡ true
 one-sent x h g i = rw (List·Memᴰ·eq-of-singleton i) h
 
 -- a message of round r from this member
 own-head : (m : MemberState) (r : Round) → SoundParts m → out-of-range (r .0) ≡ false → head-in-range r (m .who .me) ≡ true
 own-head m r s range =
-    let (low, three, seven) = number-sizes (m .who .me) (m .who .n) (s .number) in
+    let (low, three, seven, slot) = who-sizes (m .who) (s .who) in
     let e : no-member (m .who .me .0) ≡ false = omega tests in
     rw (range, e)
 
@@ -51,7 +51,7 @@ start-call-kept m r offer s (range, (leader, (higher, end))) =
     record {
       number-byte = omega arith;
       sound-after = whole (starting m r offer) (record {
-        number = s .number;
+        who = s .who;
         phases = refl;
         lasting = s .lasting;
         flags = cleared-from (m .who .n);
@@ -60,7 +60,7 @@ start-call-kept m r offer s (range, (leader, (higher, end))) =
           ranged = rw (or-right (eqb (r .0) 0) (above-range (r .0)) range);
           leader = not-false (leads (m .who .n) (m .who .me) r) leader;
           lower = omega tests;
-          counted = cleared-short (m .who) COLLECTING (s .number);
+          counted = cleared-short (m .who) COLLECTING (s .who);
         });
       });
       seven-after = refl;
@@ -75,7 +75,7 @@ pub joining-sound : (m : MemberState) (r : Round) → SoundParts m → out-of-ra
 joining-sound m r s range early =
     let o : leb (m .durable .voted .0) (r .0) ≡ true = omega (tests, vote-under m r s early) in
     whole (joining m r) (record {
-      number = s .number;
+      who = s .who;
       phases = s .phases;
       lasting = rw (o, or-right (eqb (r .0) 0) (above-range (r .0)) range) (vote-parts (m .durable) (s .lasting) .valued);
       flags = s .flags;
@@ -102,7 +102,7 @@ PROPOSE-kept m r v seven s range =
     record {
       number-byte = omega arith;
       sound-after = whole (voting m r v) (record {
-        number = s .number;
+        who = s .who;
         phases = s .phases;
         lasting = rw (o, or-left (eqb (r .0) 0) (above-range (r .0)) range, or-right (eqb (r .0) 0) (above-range (r .0)) range);
         flags = s .flags;
@@ -121,7 +121,7 @@ recounted-sound : (m : MemberState) (p : ℕ) (fs : List Bool) → SoundParts m 
 recounted-sound m p fs s z high low from count =
     let l : SoundLeading m = leading-parts m s z in
     whole (recounted m p fs) (record {
-      number = s .number;
+      who = s .who;
       phases = high;
       lasting = s .lasting;
       flags = from;
@@ -157,7 +157,7 @@ module _ {phase : ℕ} {m : MemberState} {r : Round} {t : Member} (a : Awaited p
   sender = omega (tests, a .passes .0)
 
   low : t .0 < 7
-  low = let (own, three, high) = number-sizes (m .who .me) (m .who .n) (a .is-sound .number) in omega (arith, sender)
+  low = let (own, three, high, slot) = who-sizes (m .who) (a .is-sound .who) in omega (arith, sender)
 
   one-more : flagged (set (m .lead .flags) (t .0) true) ≡ suc (flagged (m .lead .flags))
   one-more = set-count (m .lead .flags) (t .0) (a .seven) low (a .passes .1 .1 .0)
@@ -191,7 +191,7 @@ JOIN-kept {m} {r} {t} a =
     record {
       number-byte = omega arith;
       sound-after = recounted-sound m PROPOSED no-flags (a .is-sound) (led a) refl refl (cleared-from (m .who .n))
-          (cleared-short (m .who) PROPOSED (a .is-sound .number));
+          (cleared-short (m .who) PROPOSED (a .is-sound .who));
       seven-after = refl;
       sent-in-range = one-sent (Propose r (m .who .me) (m .lead .value)) (own-head m r (a .is-sound) (a .range));
     })
@@ -228,7 +228,7 @@ JOIN-voted-kept {m} {r} {t} q w below a =
     adopted-sound =
         let l : SoundLeading m = leading-parts m (a .is-sound) (led a) in
         record {
-          number = a .is-sound .number;
+          who = a .is-sound .who;
           phases = a .is-sound .phases;
           lasting = a .is-sound .lasting;
           flags = a .is-sound .flags;

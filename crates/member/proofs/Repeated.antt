@@ -10,7 +10,7 @@ use Rattle.laws.specs.First.{Cause, first, passed}
 use Rattle.ids.specs.declared.Round.{Round}
 use Rattle.ids.specs.declared.Member.{Member}
 use Rattle.numbers.specs.Numbers.{OK, MOVED-PAST}
-use Rattle.message.specs.declared.Message.the-variants.{Start}
+use Rattle.message.specs.declared.Body.the-variants.{Start}
 use Rattle.message.specs.Fields.{in-range}
 use Rattle.member_record.specs.declared.MemberState.{MemberState}
 use Rattle.member_record.specs.Record.{leads, round-number, sound}

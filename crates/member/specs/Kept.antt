@@ -4,7 +4,7 @@ use mathlib.Core.Bool.{true}
 use Prim.Native.Nat.{_<_}
 use lib.ListN.{length}
 use Rattle.laws.specs.Lists.{_∈_}
-use Rattle.message.specs.declared.Message.{Message}
+use Rattle.message.specs.declared.Body.{Body}
 use Rattle.message.specs.Fields.{in-range}
 use Rattle.member_record.specs.declared.MemberState.{MemberState}
 use Rattle.member.specs.declared.MemberStep.{MemberStep}
@@ -17,7 +17,7 @@ pub record Kept (o : Outcome) : Type 0 where
   pub number-byte : o .number < 256
   pub sound-after : sound (o .state) ≡ true
   pub seven-after : length (o .state .lead .flags) ≡ 7
-  pub sent-in-range : (g : Message) → g ∈ o .sent → in-range g ≡ true
+  pub sent-in-range : (g : Body) → g ∈ o .sent → in-range g ≡ true
 
 -- the step equals the table and is kept so, a refusal has a number, and the step tells whether one of J, V, W and L is another after it than before
 pub record StepOf (m : MemberState) (e : MemberEvent) (s : MemberStep) : Type 0 where

@@ -1,4 +1,5 @@
--- The member table of 01, "Members", row by row: the cells of an event put together, and the step of a record at an event.
+-- The member table of 01, "Members", row by row: the cells of an event put together, and the step of a record at an event. Messages stand here without their
+-- slot, which is the record's own (02, ticket 6).
 use mathlib.Core.Bool.{Bool, true, cond, not}
 use mathlib.Core.List.{List, [], _∷_}
 use Prim.Native.Nat.{ℕ}
@@ -7,8 +8,8 @@ use Rattle.laws.specs.First.{Cause, _gives_, first}
 use Rattle.ids.specs.declared.Round.{Round}
 use Rattle.ids.specs.declared.Member.{Member}
 use Rattle.numbers.specs.Numbers.{OK, RECORD-UNSOUND, MESSAGE-FIELD}
-use Rattle.message.specs.declared.Message.{Message}
-use Rattle.message.specs.declared.Message.the-variants.{Start, Join, JoinVoted, Propose, Vote}
+use Rattle.message.specs.declared.Body.{Body}
+use Rattle.message.specs.declared.Body.the-variants.{Start, Join, JoinVoted, Propose, Vote}
 use Rattle.message.specs.Fields.{in-range}
 use Rattle.member_record.specs.declared.MemberState.{MemberState}
 use Rattle.member_record.specs.Phases.{COLLECTING, PROPOSED, needed}
@@ -28,10 +29,10 @@ pub data Named : Type 0 where
 pub record Outcome : Type 0 where
   pub number : ℕ
   pub state : MemberState
-  pub sent : List Message
+  pub sent : List Body
   pub named : Named
 
-abbrev pub sends : MemberState → Message → Outcome
+abbrev pub sends : MemberState → Body → Outcome
 sends m g = record { number = OK; state = m; sent = g ∷ []; named = nothing }
 
 abbrev pub silent : MemberState → Outcome
@@ -90,7 +91,7 @@ count-row phase m r s = after-count phase (counting m s) r
 -- an event of a member
 pub data MemberEvent : Type 0 where
   starts : (r : Round) (offer : ℕ) → MemberEvent
-  delivers : (g : Message) → MemberEvent
+  delivers : (g : Body) → MemberEvent
 
 -- the rows "start" and "deliver" of the place table, by the member table
 unfoldable pub step-causes : MemberState → MemberEvent → List Cause

@@ -1,10 +1,11 @@
-// The member steps of 01, "Members", by value: a sound record and an event in, the new record and the answer out.
+// The member steps of 01, "Members", by value: a sound record and an event in, the new record and the answer out. Messages stand here without their slot,
+// which is the record's own (02, ticket 6): who delivers one has tested it, and who sends one puts it in front.
 mod rows;
 
 use ids::Round;
 use member_record::MemberState;
 use member_record::changes_durable;
-use message::Message;
+use message::Body;
 use rows::on_message;
 use rows::on_start_call;
 ghost use mathlib.Core.Path.{_≡_};
@@ -18,13 +19,13 @@ ghost use Rattle.member.specs.Kept.{StepOf};
 pub enum StepAnswer {
     // 01's number.
     Refused(u32),
-    // The message is to be sent.
-    Sent(Message),
+    // What the message says that is to be sent.
+    Sent(Body),
     // Accepted, with nothing to send or to name.
     Done,
     // The quorum of joins: the PROPOSE to be sent, and the proposal add(round, value, parent).
     Proposed {
-        sent: Message,
+        sent: Body,
         round: Round,
         value: u64,
         parent: Round,
@@ -73,7 +74,7 @@ pub fn start_sound(m: MemberState, r: Round, offer: u64) -> MemberStep
 }
 
 // Delivery of a message within its ranges to a sound record.
-pub fn deliver_sound(m: MemberState, g: Message) -> MemberStep
+pub fn deliver_sound(m: MemberState, g: Body) -> MemberStep
     requires { ⌜ (sound m ≡ true) × (in-range g ≡ true) ⌝ }
     ensures { λ s. ⌜ StepOf m (delivers g) s ⌝ }
 {

@@ -20,7 +20,7 @@ use member_rules::refusals::check_count;
 use member_rules::refusals::check_propose;
 use member_rules::refusals::check_start;
 use member_rules::refusals::check_start_call;
-use message::Message;
+use message::Body;
 ghost use mathlib.Core.Path.{_≡_};
 ghost use Prim.Native.Nat.{_≤_, _<_};
 ghost use Rattle.member_rules.specs.Causes.{start-call-causes, START-causes, count-causes, PROPOSE-causes};
@@ -41,7 +41,7 @@ fn refuse(m: MemberState, number: u32) -> Move
 }
 
 // A message is sent.
-fn send(m: MemberState, g: Message) -> Move
+fn send(m: MemberState, g: Body) -> Move
     ensures { λ t. ⌜ MoveIs (sends m g) t ⌝ }
 {
     Move {
@@ -62,7 +62,7 @@ pub fn on_start_call(m: MemberState, r: Round, offer: u64) -> Move
     let me = m.who.me;
     send(
         starting(m, r, offer),
-        Message::Start {
+        Body::Start {
             round: r,
             sender: me,
         },
@@ -99,7 +99,7 @@ fn propose(m: MemberState, r: Round) -> Move
     Move {
         state: proposing(m),
         answer: StepAnswer::Proposed {
-            sent: Message::Propose {
+            sent: Body::Propose {
                 round: r,
                 sender: me,
                 value: m.lead.value,
@@ -173,7 +173,7 @@ fn on_propose(m: MemberState, r: Round, s: Member, v: u64) -> Move
     let me = m.who.me;
     send(
         voting(m, r, v),
-        Message::Vote {
+        Body::Vote {
             round: r,
             sender: me,
         },
@@ -198,17 +198,17 @@ enum MessageRow {
     },
 }
 
-fn row_of(g: Message) -> MessageRow
+fn row_of(g: Body) -> MessageRow
     ensures { λ w. ⌜ w ≡ row-of g ⌝ }
 {
     match g {
-        Message::Start { round, sender } => MessageRow::StartRow { round, sender },
-        Message::Join { round, sender } => MessageRow::CountRow {
+        Body::Start { round, sender } => MessageRow::StartRow { round, sender },
+        Body::Join { round, sender } => MessageRow::CountRow {
             phase: COLLECTING,
             round,
             sender,
         },
-        Message::JoinVoted {
+        Body::JoinVoted {
             round,
             sender,
             voted: _,
@@ -218,7 +218,7 @@ fn row_of(g: Message) -> MessageRow
             round,
             sender,
         },
-        Message::Propose {
+        Body::Propose {
             round,
             sender,
             value,
@@ -227,7 +227,7 @@ fn row_of(g: Message) -> MessageRow
             sender,
             value,
         },
-        Message::Vote { round, sender } => MessageRow::CountRow {
+        Body::Vote { round, sender } => MessageRow::CountRow {
             phase: PROPOSED,
             round,
             sender,
@@ -236,30 +236,30 @@ fn row_of(g: Message) -> MessageRow
 }
 
 // The record in which a message is counted: with the vote that a JOIN carries.
-fn taking(m: MemberState, g: Message) -> MemberState
+fn taking(m: MemberState, g: Body) -> MemberState
     ensures { λ t. ⌜ t ≡ taking m g ⌝ }
 {
     match g {
-        Message::Start {
+        Body::Start {
             round: _,
             sender: _,
         } => m,
-        Message::Join {
+        Body::Join {
             round: _,
             sender: _,
         } => m,
-        Message::JoinVoted {
+        Body::JoinVoted {
             round: _,
             sender: _,
             voted,
             value,
         } => adopting(m, voted, value),
-        Message::Propose {
+        Body::Propose {
             round: _,
             sender: _,
             value: _,
         } => m,
-        Message::Vote {
+        Body::Vote {
             round: _,
             sender: _,
         } => m,
@@ -267,7 +267,7 @@ fn taking(m: MemberState, g: Message) -> MemberState
 }
 
 // Any message, by its row.
-pub fn on_message(m: MemberState, g: Message) -> Move
+pub fn on_message(m: MemberState, g: Body) -> Move
     requires { ⌜ (1 ≤ m .who .n) × (m .who .n ≤ 7) ⌝ }
     ensures { λ t. ⌜ MoveIs (sound-step m (delivers g)) t ⌝ }
 {

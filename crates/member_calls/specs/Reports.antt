@@ -1,10 +1,10 @@
--- What a call's result says, and what it leaves of the record and of the reply (01, "Members").
+-- What a call's result says, and what it leaves of the record and of the reply (01, "Members"; 02, ticket 6).
 use mathlib.Core.Path.{_≡_}
 use mathlib.Core.List.{List, [], _∷_}
 use Prim.Native.Nat.{ℕ}
-use lib.ListN.{length}
-use Rattle.message.specs.declared.Message.{Message}
-use Rattle.message.specs.Layout.{bytes}
+use Rattle.ids.specs.declared.Slot.{Slot}
+use Rattle.message.specs.declared.Body.{Body}
+use Rattle.message.specs.Layout.{in-slot, byte-count}
 use Rattle.message.specs.Writing.{in-front}
 use Rattle.member_record.specs.declared.MemberState.{MemberState}
 use Rattle.member_record.specs.Record.{round-number}
@@ -12,14 +12,14 @@ use Rattle.member.specs.Table.{Named, nothing, proposal, decision, Outcome}
 use Rattle.member_calls.specs.declared.reply.Report.{Report}
 
 -- the sent length; 0 if nothing is sent
-abbrev pub reply-length : List Message → ℕ
+abbrev pub reply-length : List Body → ℕ
 reply-length [] = 0
-reply-length (g ∷ gs) = length (bytes g)
+reply-length (g ∷ gs) = byte-count g
 
--- a sent message stands at the front of the reply; bytes behind it, or all if nothing is sent, stay
-abbrev pub reply-after : List Message → List ℕ → List ℕ
-reply-after [] old = old
-reply-after (g ∷ gs) old = in-front g old
+-- a message sent, of the slot given, stands at the front of the reply; bytes behind it, or all if nothing is sent, stay
+abbrev pub reply-after : Slot → List Body → List ℕ → List ℕ
+reply-after slot [] old = old
+reply-after slot (g ∷ gs) old = in-front (in-slot slot g) old
 
 -- r, X and B as far as the answer names them; each that it doesn't name is 0
 abbrev pub named-round : Named → ℕ
@@ -52,7 +52,7 @@ pub record LeavesReport (o : Outcome) (after : MemberState) (r : Report) : Type 
   pub report : r ≡ reported o
   pub state : after ≡ o .state
 
--- and the reply after
-pub record LeavesReply (o : Outcome) (old : List ℕ) (after : MemberState) (r : Report) (new : List ℕ) : Type 0 where
+-- and the reply after, where what is sent is of this slot
+pub record LeavesReply (slot : Slot) (o : Outcome) (old : List ℕ) (after : MemberState) (r : Report) (new : List ℕ) : Type 0 where
   pub answers : LeavesReport o after r
-  pub reply : new ≡ reply-after (o .sent) old
+  pub reply : new ≡ reply-after slot (o .sent) old

@@ -1,14 +1,17 @@
 // The result of a member call, and what it puts in the reply buffer (01, "Members").
 use ids::Round;
+use ids::Slot;
 use member::MemberStep;
 use member::StepAnswer;
 use member_record::MemberState;
+use message::Body;
 use message::Message;
 ghost use mathlib.Core.Path.{_≡_};
-ghost use mathlib.Core.Bool.{true};
+ghost use mathlib.Core.Bool.{true, false};
 ghost use mathlib.Core.List.{[], _∷_};
 ghost use Prim.Native.Nat.{_≤_};
 ghost use lib.ListN.{length};
+ghost use Rattle.ids.specs.Ranges.{no-slot};
 ghost use Rattle.message.specs.Fields.{in-range};
 ghost use Rattle.message.specs.Layout.{longest-message};
 ghost use Rattle.member.specs.Table.{refused};
@@ -65,19 +68,20 @@ pub fn give(
     AfterCall { state: m, report }
 }
 
-// Puts a message at the front of the reply, and answers its length.
-fn send(g: Message, reply: &mut [u8]) -> usize
-    requires { ⌜ (longest-message ≤ length (now reply)) × (in-range g ≡ true) ⌝ }
-    ensures { λ n. ⌜ (n ≡ reply-length (g ∷ [])) × (now (reply .exit) ≡ reply-after (g ∷ []) (now (reply .entry))) ⌝ }
+// Puts a message of this slot at the front of the reply, and answers its length.
+fn send(slot: Slot, g: Body, reply: &mut [u8]) -> usize
+    requires { ⌜ (longest-message ≤ length (now reply)) × (no-slot (slot .0) ≡ false) × (in-range g ≡ true) ⌝ }
+    ensures { λ n. ⌜ (n ≡ reply-length (g ∷ [])) × (now (reply .exit) ≡ reply-after slot (g ∷ []) (now (reply .entry))) ⌝ }
 {
-    let w = message_writer::write_message(g, reply);
+    let m = Message { slot, body: g };
+    let w = message_writer::write_message(m, reply);
     w.length
 }
 
-// The result of a step, and what it sends.
-pub fn tell(s: MemberStep, reply: &mut [u8]) -> AfterCall
-    requires { ⌜ (longest-message ≤ length (now reply)) × Kept (step-outcome s) ⌝ }
-    ensures { λ c. ⌜ LeavesReply (step-outcome s) (now (reply .entry)) (c .state) (c .report) (now (reply .exit)) ⌝ }
+// The result of a step, and what it sends in this slot.
+pub fn tell(slot: Slot, s: MemberStep, reply: &mut [u8]) -> AfterCall
+    requires { ⌜ (longest-message ≤ length (now reply)) × (no-slot (slot .0) ≡ false) × Kept (step-outcome s) ⌝ }
+    ensures { λ c. ⌜ LeavesReply slot (step-outcome s) (now (reply .entry)) (c .state) (c .report) (now (reply .exit)) ⌝ }
 {
     let m = s.state;
     let answer = s.answer;
@@ -85,7 +89,7 @@ pub fn tell(s: MemberStep, reply: &mut [u8]) -> AfterCall
     match answer {
         StepAnswer::Refused(number) => refuse(m, number),
         StepAnswer::Sent(g) => {
-            let n = send(g, reply);
+            let n = send(slot, g, reply);
             give(m, numbers::OK, n, none, 0, none)
         }
         StepAnswer::Done => give(m, numbers::OK, 0, none, 0, none),
@@ -95,7 +99,7 @@ pub fn tell(s: MemberStep, reply: &mut [u8]) -> AfterCall
             value,
             parent,
         } => {
-            let n = send(sent, reply);
+            let n = send(slot, sent, reply);
             give(m, numbers::OK, n, round, value, parent)
         }
         StepAnswer::Decided { round, value } => give(m, numbers::OK, 0, round, value, none),

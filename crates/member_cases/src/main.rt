@@ -1,10 +1,11 @@
 // Makes the member calls that standard input has, with the record by value and a lent reply. The input is XDR words: how many cases, then
-// 136 bytes for each. A case is the call (0 fresh, 1 start, 2 deliver); the record, its fields in 01's order and a word for each flag; number
-// and N for fresh; round and offer for start; the length of the reply, at most 40; the length of the message, at most 32, and 32 bytes
+// 148 bytes for each. A case is the call (0 fresh, 1 start, 2 deliver); the record, its slot, then its fields in 01's order and a word for each flag;
+// slot, number and N for fresh; round and offer for start; the length of the reply, at most 40; the length of the message, at most 36, and 36 bytes
 // that start with it. A line for each case: the number, the sent length, the round, the value and the parent; the record after; each byte
 // of the reply after, in hex. Before a call each of these bytes is aa.
 use ids::Member;
 use ids::Round;
+use ids::Slot;
 use libc::STDIN_FILENO;
 use libc::STDOUT_FILENO;
 use member_calls::reply::AfterCall;
@@ -58,6 +59,7 @@ fn put_report(r: Report) {
 }
 
 fn put_record(m: MemberState) {
+    put_number(m.who.slot.0 as u64);
     put_number(m.who.me.0 as u64);
     put_number(m.who.n as u64);
     put_number(m.durable.joined.0 as u64);
@@ -90,75 +92,77 @@ fn flag_at(s: &[u8], at: usize) -> bool
 }
 
 fn flags_of(s: &[u8]) -> [bool; 7]
-    requires { ⌜ 136 ≤ length (now s) ⌝ }
+    requires { ⌜ 148 ≤ length (now s) ⌝ }
 {
     [
-        flag_at(s, 48),
         flag_at(s, 52),
         flag_at(s, 56),
         flag_at(s, 60),
         flag_at(s, 64),
         flag_at(s, 68),
         flag_at(s, 72),
+        flag_at(s, 76),
     ]
 }
 
 // The record of a case.
 fn record_of(s: &[u8]) -> MemberState
-    requires { ⌜ 136 ≤ length (now s) ⌝ }
+    requires { ⌜ 148 ≤ length (now s) ⌝ }
 {
     let who = Who {
-        me: Member(xdr::word_at(s, 4)),
-        n: xdr::word_at(s, 8),
+        slot: Slot(xdr::word_at(s, 4)),
+        me: Member(xdr::word_at(s, 8)),
+        n: xdr::word_at(s, 12),
     };
     let durable = Durable {
-        joined: Round(xdr::word_at(s, 12)),
-        voted: Round(xdr::word_at(s, 16)),
-        vote: xdr::hyper_at(s, 20),
-        led: Round(xdr::word_at(s, 28)),
+        joined: Round(xdr::word_at(s, 16)),
+        voted: Round(xdr::word_at(s, 20)),
+        vote: xdr::hyper_at(s, 24),
+        led: Round(xdr::word_at(s, 32)),
     };
     let lead = Lead {
-        phase: xdr::word_at(s, 32),
-        value: xdr::hyper_at(s, 36),
-        source: Round(xdr::word_at(s, 44)),
+        phase: xdr::word_at(s, 36),
+        value: xdr::hyper_at(s, 40),
+        source: Round(xdr::word_at(s, 48)),
         flags: flags_of(s),
     };
     MemberState { who, durable, lead }
 }
 
 fn fresh(s: &[u8], reply: &[u8])
-    requires { ⌜ 136 ≤ length (now s) ⌝ }
+    requires { ⌜ 148 ≤ length (now s) ⌝ }
 {
     let m = record_of(s);
-    let me = Member(xdr::word_at(s, 76));
-    let n = xdr::word_at(s, 80);
-    put_called(member_calls::fresh_into(m, me, n), reply);
+    let slot = Slot(xdr::word_at(s, 80));
+    let me = Member(xdr::word_at(s, 84));
+    let n = xdr::word_at(s, 88);
+    put_called(member_calls::fresh_into(m, slot, me, n), reply);
 }
 
 fn start(s: &[u8], reply: &mut [u8])
-    requires { ⌜ 136 ≤ length (now s) ⌝ }
+    requires { ⌜ 148 ≤ length (now s) ⌝ }
 {
     let m = record_of(s);
-    let round = Round(xdr::word_at(s, 84));
-    let offer = xdr::hyper_at(s, 88);
+    let round = Round(xdr::word_at(s, 92));
+    let offer = xdr::hyper_at(s, 96);
     let c = member_calls::start_into(m, round, offer, reply);
     put_called(c, reply);
 }
 
 fn deliver(s: &[u8], reply: &mut [u8])
-    requires { ⌜ 136 ≤ length (now s) ⌝ }
+    requires { ⌜ 148 ≤ length (now s) ⌝ }
 {
-    let n = xdr::word_at(s, 100) as usize;
-    if n <= 32 {
+    let n = xdr::word_at(s, 108) as usize;
+    if n <= 36 {
         let m = record_of(s);
-        let c = member_calls::deliver_into(m, &s[104..104 + n], reply);
+        let c = member_calls::deliver_into(m, &s[112..112 + n], reply);
         put_called(c, reply);
     }
 }
 
 // Makes the call of a case.
 fn call(s: &[u8], reply: &mut [u8])
-    requires { ⌜ 136 ≤ length (now s) ⌝ }
+    requires { ⌜ 148 ≤ length (now s) ⌝ }
 {
     let kind = xdr::word_at(s, 0);
     if kind == 0 {
@@ -174,10 +178,10 @@ fn call(s: &[u8], reply: &mut [u8])
 
 // Lends the reply of a case.
 fn lend(s: &[u8])
-    requires { ⌜ 136 ≤ length (now s) ⌝ }
+    requires { ⌜ 148 ≤ length (now s) ⌝ }
 {
     let mut reply = [170u8; 40];
-    let room = xdr::word_at(s, 96) as usize;
+    let room = xdr::word_at(s, 104) as usize;
     if room <= 40 {
         call(s, &mut reply[0..room]);
     }
@@ -185,9 +189,9 @@ fn lend(s: &[u8])
 
 // Reads a case.
 fn next() {
-    let mut s = [0u8; 136];
+    let mut s = [0u8; 148];
     let n = io::read_full(STDIN_FILENO, &mut s);
-    if n == 136 {
+    if n == 148 {
         lend(&s);
     }
 }

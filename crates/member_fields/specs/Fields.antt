@@ -6,7 +6,7 @@ use Prim.Native.Nat.{ℕ, _+_, _*_, _/_, _%_, _≤_}
 use lib.Dec.{ltb, eqb}
 use Rattle.ids.specs.declared.Member.{Member}
 use Rattle.member_record.specs.declared.MemberState.{MemberState}
-use Rattle.member_record.specs.Record.{round-number, flag}
+use Rattle.member_record.specs.Record.{round-number, slot-number, flag}
 use Rattle.member_fields.specs.declared.MemberFields.{MemberFields}
 
 -- the lowest bit of a number
@@ -42,7 +42,7 @@ member-of s = record { 0 = s }
 unfoldable pub state-of : MemberFields → MemberState
 state-of f =
     record {
-      who = record { me = member-of (f .me); n = f .n };
+      who = record { slot = slot-number (f .slot); me = member-of (f .me); n = f .n };
       durable = record { joined = round-number (f .joined); voted = round-number (f .voted); vote = f .vote; led = round-number (f .led) };
       lead = record { phase = f .phase; value = f .value; source = round-number (f .source); flags = flags-of (f .flags) };
     }
@@ -61,8 +61,9 @@ fields-of m =
       value = m .lead .value;
       source = m .lead .source .0;
       flags = mask-of (m .lead .flags);
+      slot = m .who .slot .0;
     }
 
 -- zeros: no record
 abbrev pub no-fields : MemberFields
-no-fields = record { me = 0; n = 0; joined = 0; voted = 0; vote = 0; led = 0; phase = 0; value = 0; source = 0; flags = 0 }
+no-fields = record { me = 0; n = 0; joined = 0; voted = 0; vote = 0; led = 0; phase = 0; value = 0; source = 0; flags = 0; slot = 0 }

@@ -1,6 +1,7 @@
 // A member record as numbers, for C: any bytes that a host puts there are some numbers.
 use ids::Member;
 use ids::Round;
+use ids::Slot;
 use member_record::Durable;
 use member_record::Lead;
 use member_record::MemberState;
@@ -9,7 +10,7 @@ ghost use mathlib.Core.Path.{_≡_};
 ghost use Prim.Native.Nat.{_≤_};
 ghost use Rattle.member_fields.specs.Fields.{BitAdded, bit, flags-of, mask-of, no-mask, state-of, fields-of, no-fields};
 
-// A member record as numbers, in 01's order. No byte stands between them.
+// A member record as numbers, in 01's order, and its slot behind them (02, ticket 6). No byte stands between them; four that say nothing stand behind the last.
 #[repr(C)]
 pub struct MemberFields {
     pub me: u32,
@@ -23,6 +24,7 @@ pub struct MemberFields {
     pub source: u32,
     // Bit s is the flag of member s; from bit 7 on there is none.
     pub flags: u32,
+    pub slot: u32,
 }
 
 // The lowest bit of a number.
@@ -81,6 +83,7 @@ pub fn state_of(f: MemberFields) -> MemberState
     ensures { λ m. ⌜ m ≡ state-of f ⌝ }
 {
     let who = Who {
+        slot: Slot(f.slot),
         me: Member(f.me),
         n: f.n,
     };
@@ -115,6 +118,7 @@ pub fn fields_of(m: MemberState) -> MemberFields
         value: m.lead.value,
         source: m.lead.source.0,
         flags: mask_of(flags),
+        slot: m.who.slot.0,
     }
 }
 
@@ -140,5 +144,6 @@ pub fn no_fields() -> MemberFields
         value: 0,
         source: 0,
         flags: 0,
+        slot: 0,
     }
 }

@@ -1,7 +1,7 @@
 -- Sizes of an office, and the flags of a record: cleared, with one more, and none from N on. Counts over the seven are counts over the
 -- members where there is no flag from N on. Assumes nothing.
 use mathlib.Core.Path.{_≡_, sym}
-use mathlib.Core.Bool.{Bool, true, false, not, and-false}
+use mathlib.Core.Bool.{Bool, true, false, not, _&&_, and-false}
 use mathlib.Core.List.{List}
 use mathlib.Core.Logic.{_≢_}
 use Prim.Native.Nat.{ℕ, suc, _<_, _≤_}
@@ -11,10 +11,11 @@ use lib.Seq.{getD-set-same, getD-set-other}
 use borrow.Author.Tests.{not-true, eqb-true, eq-eqb}
 use lib.Dec.{ltb, leb, eqb}
 use Rattle.laws.specs.Tests.{tests, by-test, or-cases, and-left, and-right, and-cases, same-test}
-use Rattle.ids.specs.declared.Member.{Member}
+use Rattle.ids.specs.Ranges.{no-slot}
 use Rattle.quorum.specs.Count.{count, some}
 use Rattle.quorum.proofs.Counts.{count-none, count-more, count-beyond, beyond-none, some-none, none-some}
-use Rattle.member_record.specs.Record.{allowed, sound-number, flag, flagged, flag-from, no-flags}
+use Rattle.member_record.specs.declared.Who.{Who}
+use Rattle.member_record.specs.Record.{allowed, sound-who, flag, flagged, flag-from, no-flags}
 
 -- an office has 3 to 7 members
 pub office-sizes : (n : ℕ) → allowed n ≡ true → (3 ≤ n) × (n ≤ 7)
@@ -22,11 +23,15 @@ office-sizes n h =
     or-cases (eqb n 3) _ h (λ e. (omega tests, omega tests))
     (λ h′. or-cases (eqb n 5) (eqb n 7) h′ (λ e. (omega tests, omega tests)) (λ e. (omega tests, omega tests)))
 
--- what the test of number and N says
-pub number-sizes : (me : Member) (n : ℕ) → sound-number me n ≡ true → (me .0 < n) × (3 ≤ n) × (n ≤ 7)
-number-sizes me n h =
-    let (low, high) = office-sizes n (and-left (allowed n) (ltb (me .0) n) h) in
-    (omega (tests, and-right (allowed n) (ltb (me .0) n) h), low, high)
+-- what the test of slot, number and N says
+pub who-sizes : (w : Who) → sound-who (w .slot) (w .me) (w .n) ≡ true → (w .me .0 < w .n) × (3 ≤ w .n) × (w .n ≤ 7) × (w .slot .0 ≤ 7)
+who-sizes w h =
+    let own = ltb (w .me .0) (w .n) in
+    let slot = not (no-slot (w .slot .0)) in
+    let (low, high) = office-sizes (w .n) (and-left (allowed (w .n)) (own && slot) h) in
+    let both : (own && slot) ≡ true = and-right (allowed (w .n)) (own && slot) h in
+    let of-eight : no-slot (w .slot .0) ≡ false = not-true (no-slot (w .slot .0)) (and-right own slot both) in
+    (omega (tests, and-left own slot both), low, high, omega tests)
 
 -- no flag from N on
 pub none-from : (n : ℕ) (fs : List Bool) → not (some (flag-from n fs) 7) ≡ true → (s : ℕ) → n ≤ s → s < 7 → flag fs s ≡ false

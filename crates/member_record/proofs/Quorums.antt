@@ -1,17 +1,18 @@
 -- What is known of the quorum of an allowed office, and of the flags that a phase needs: at least one, the same for members of one office,
 -- and a decision keeps those of its votes. Assumes nothing.
 use mathlib.Core.Path.{_≡_, refl, ap}
-use mathlib.Core.Bool.{true}
+use mathlib.Core.Bool.{true, not, _&&_}
 use Prim.Native.Nat.{ℕ, _<_}
 use native.Mathlib.Omega.{arith}
 use borrow.Author.Tests.{eqb-true}
 use lib.Dec.{ltb, eqb}
 use Rattle.laws.specs.Tests.{tests, or-cases, and-left}
+use Rattle.ids.specs.Ranges.{no-slot}
 use Rattle.quorum.specs.Quorum.{quorum, Majority}
 use Rattle.quorum.proofs.Cases.{quorum-cases}
 use Rattle.member_record.specs.declared.Who.{Who}
 use Rattle.member_record.specs.Phases.{PROPOSED, DECIDED, needed}
-use Rattle.member_record.specs.Record.{allowed, sound-number, flagged, no-flags}
+use Rattle.member_record.specs.Record.{allowed, sound-who, flagged, no-flags}
 use Rattle.member_record.proofs.Flags.{cleared-count}
 
 -- f+1 of 2f+1, whichever the size
@@ -34,5 +35,5 @@ unfolding needed
 needed-decided w = refl
 
 -- no flag is short of any phase's count
-pub cleared-short : (w : Who) (phase : ℕ) → sound-number (w .me) (w .n) ≡ true → ltb (flagged no-flags) (needed w phase) ≡ true
-cleared-short w phase h = rw cleared-count (omega (tests, needed-some w phase (and-left (allowed (w .n)) (ltb (w .me .0) (w .n)) h)))
+pub cleared-short : (w : Who) (phase : ℕ) → sound-who (w .slot) (w .me) (w .n) ≡ true → ltb (flagged no-flags) (needed w phase) ≡ true
+cleared-short w phase h = rw cleared-count (omega (tests, needed-some w phase (and-left (allowed (w .n)) (ltb (w .me .0) (w .n) && not (no-slot (w .slot .0))) h)))

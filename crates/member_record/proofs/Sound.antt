@@ -1,19 +1,21 @@
 -- A sound record taken apart and put together again. Assumes nothing.
 use mathlib.Core.Path.{_≡_}
 use mathlib.Core.Bool.{true, false, not, _&&_, _||_, and-true}
-use Prim.Native.Nat.{ℕ, _≤_}
+use Prim.Native.Nat.{ℕ, _<_, _≤_}
+use native.Mathlib.Omega.{arith}
 use lib.Dec.{ltb, leb, eqb}
 use Rattle.laws.specs.Tests.{and-left, and-right}
 use Rattle.ids.specs.declared.Member.{Member}
-use Rattle.ids.specs.Ranges.{above-range}
+use Rattle.ids.specs.declared.Slot.{Slot}
+use Rattle.ids.specs.Ranges.{above-range, SLOTS}
 use Rattle.member_record.specs.declared.Durable.{Durable}
 use Rattle.member_record.specs.declared.MemberState.{MemberState}
-use Rattle.member_record.proofs.Flags.{number-sizes, cleared-from}
+use Rattle.member_record.proofs.Flags.{who-sizes, cleared-from}
 use Rattle.member_record.specs.Phases.{IDLE, DECIDED}
-use Rattle.member_record.specs.Record.{fresh-record, leads, sound, sound-number, sound-durable, sound-flags, sound-count, sound-leading, sound-lead}
+use Rattle.member_record.specs.Record.{fresh-record, leads, sound, sound-who, sound-durable, sound-flags, sound-count, sound-leading, sound-lead}
 
 pub record SoundParts (m : MemberState) : Type 0 where
-  pub number : sound-number (m .who .me) (m .who .n) ≡ true
+  pub who : sound-who (m .who .slot) (m .who .me) (m .who .n) ≡ true
   pub phases : leb (m .lead .phase) DECIDED ≡ true
   pub lasting : sound-durable (m .durable) ≡ true
   pub flags : sound-flags (m .who) (m .lead) ≡ true
@@ -23,12 +25,12 @@ pub parts : (m : MemberState) → sound m ≡ true → SoundParts m
 unfolding sound
 parts m h =
     let a : (leb (m .lead .phase) DECIDED && (sound-durable (m .durable) && (sound-flags (m .who) (m .lead) && sound-lead m))) ≡ true =
-    and-right (sound-number (m .who .me) (m .who .n)) _ h
+    and-right (sound-who (m .who .slot) (m .who .me) (m .who .n)) _ h
     in
     let b : (sound-durable (m .durable) && (sound-flags (m .who) (m .lead) && sound-lead m)) ≡ true = and-right (leb (m .lead .phase) DECIDED) _ a in
     let c : (sound-flags (m .who) (m .lead) && sound-lead m) ≡ true = and-right (sound-durable (m .durable)) _ b in
     record {
-      number = and-left (sound-number (m .who .me) (m .who .n)) _ h;
+      who = and-left (sound-who (m .who .slot) (m .who .me) (m .who .n)) _ h;
       phases = and-left (leb (m .lead .phase) DECIDED) _ a;
       lasting = and-left (sound-durable (m .durable)) _ b;
       flags = and-left (sound-flags (m .who) (m .lead)) _ c;
@@ -37,7 +39,7 @@ parts m h =
 
 pub whole : (m : MemberState) → SoundParts m → sound m ≡ true
 unfolding sound
-whole m s = rw (s .number, s .phases, s .lasting, s .flags) (s .led)
+whole m s = rw (s .who, s .phases, s .lasting, s .flags) (s .led)
 
 -- V ≤ J ≤ 1,000,000, and V = 0 only with W = 0
 pub record SoundVotes (d : Durable) : Type 0 where
@@ -86,10 +88,14 @@ leading-whole m z l = rw (z, l .active, l .ranged, l .leader, l .lower) (l .coun
 -- a sound record has 3 to 7 members
 pub sound-size : (m : MemberState) → sound m ≡ true → (3 ≤ m .who .n) × (m .who .n ≤ 7)
 sound-size m h =
-    let (own, low, high) = number-sizes (m .who .me) (m .who .n) (parts m h .number) in
+    let (own, low, high, slot) = who-sizes (m .who) (parts m h .who) in
     (low, high)
 
--- a fresh record is sound exactly if its number and N are allowed
-pub fresh-sound : (me : Member) (n : ℕ) → sound (fresh-record me n) ≡ sound-number me n
+-- and one of the eight slots
+pub sound-slot : (m : MemberState) → sound m ≡ true → m .who .slot .0 < SLOTS
+sound-slot m h = omega (arith, who-sizes (m .who) (parts m h .who))
+
+-- a fresh record is sound exactly if its slot, its number and N are allowed
+pub fresh-sound : (slot : Slot) (me : Member) (n : ℕ) → sound (fresh-record slot me n) ≡ sound-who slot me n
 unfolding sound
-fresh-sound me n = rw (cleared-from n) (and-true (sound-number me n))
+fresh-sound slot me n = rw (cleared-from n) (and-true (sound-who slot me n))

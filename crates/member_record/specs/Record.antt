@@ -1,4 +1,4 @@
--- The member record of 01, "Members": fresh and sound.
+-- The member record of 01, "Members", and 02, ticket 6: fresh and sound.
 use mathlib.Core.Bool.{Bool, false, cond, _&&_, _||_, not}
 use mathlib.Core.List.{List}
 use Prim.Native.Nat.{ℕ, _%_}
@@ -6,7 +6,8 @@ use lib.ListN.{getD, replicate}
 use lib.Dec.{ltb, leb, eqb}
 use Rattle.ids.specs.declared.Round.{Round}
 use Rattle.ids.specs.declared.Member.{Member}
-use Rattle.ids.specs.Ranges.{above-range}
+use Rattle.ids.specs.declared.Slot.{Slot}
+use Rattle.ids.specs.Ranges.{above-range, no-slot}
 use Rattle.quorum.specs.Count.{count, some}
 use Rattle.member_record.specs.declared.Who.{Who}
 use Rattle.member_record.specs.declared.Durable.{Durable}
@@ -36,6 +37,9 @@ leads n s r = eqb (r .0 % n) (s .0)
 abbrev pub round-number : ℕ → Round
 round-number r = record { 0 = r }
 
+abbrev pub slot-number : ℕ → Slot
+slot-number s = record { 0 = s }
+
 -- whether member s is flagged
 abbrev pub flag : List Bool → ℕ → Bool
 flag fs s = getD fs s false
@@ -52,18 +56,18 @@ flag-from n fs s = leb n s && flag fs s
 abbrev pub no-flags : List Bool
 no-flags = replicate 7 false
 
--- Fresh: number and N given, all else zero or false
-abbrev pub fresh-record : Member → ℕ → MemberState
-fresh-record me n =
+-- Fresh: slot, number and N given, all else zero or false
+abbrev pub fresh-record : Slot → Member → ℕ → MemberState
+fresh-record slot me n =
     record {
-      who = record { me = me; n = n };
+      who = record { slot = slot; me = me; n = n };
       durable = record { joined = round-number 0; voted = round-number 0; vote = 0; led = round-number 0 };
       lead = record { phase = IDLE; value = 0; source = round-number 0; flags = no-flags };
     }
 
--- N allowed, number < N
-abbrev pub sound-number : Member → ℕ → Bool
-sound-number me n = allowed n && ltb (me .0) n
+-- N allowed, number < N, slot at most 7
+abbrev pub sound-who : Slot → Member → ℕ → Bool
+sound-who slot me n = allowed n && (ltb (me .0) n && not (no-slot (slot .0)))
 
 -- V ≤ J ≤ 1,000,000, V = 0 only with W = 0
 abbrev pub sound-durable : Durable → Bool
@@ -97,5 +101,5 @@ sound-lead m = cond (eqb (m .durable .led .0) 0) (sound-idle (m .lead)) (sound-l
 unfoldable pub sound : MemberState → Bool
 unfolding flagged needed
 sound m =
-    sound-number (m .who .me) (m .who .n) &&
+    sound-who (m .who .slot) (m .who .me) (m .who .n) &&
     (leb (m .lead .phase) DECIDED && (sound-durable (m .durable) && (sound-flags (m .who) (m .lead) && sound-lead m)))

@@ -1,13 +1,15 @@
 // The member record of 01, "Members", and the fresh record. Its layout is C's, since `member_lent` takes it lent.
 use ids::Member;
 use ids::Round;
+use ids::Slot;
 use ids::leader;
+use ids::no_slot;
 use quorum::quorum_of;
 ghost use mathlib.Core.Path.{_≡_};
 ghost use Prim.Native.Nat.{_≤_};
 ghost use Rattle.quorum.specs.Count.{count};
 ghost use Rattle.member_record.specs.Phases.{needed};
-ghost use Rattle.member_record.specs.Record.{changes-durable, allowed, leads, flag, flagged, fresh-record, sound-number};
+ghost use Rattle.member_record.specs.Record.{changes-durable, allowed, leads, flag, flagged, fresh-record, sound-who};
 
 // The phases of a leader: it has led no round yet; it counts JOINs; it has proposed and counts VOTEs; it has decided.
 pub const IDLE: u32 = 0;
@@ -18,9 +20,11 @@ pub const PROPOSED: u32 = 2;
 
 pub const DECIDED: u32 = 3;
 
-// Which member of which office a record is.
+// Which member of which office a record is, and for which of its slots.
 #[repr(C)]
 pub struct Who {
+    // The slot whose messages it takes (02, ticket 6).
+    pub slot: Slot,
     // Own number.
     pub me: Member,
     // N, the number of members.
@@ -106,12 +110,12 @@ pub fn count_flags(flags: [bool; 7]) -> u32
     count_below(flags, 7)
 }
 
-// A record with its number and N given, all else zero or false.
-pub fn fresh_record(me: Member, n: u32) -> MemberState
-    ensures { λ m. ⌜ m ≡ fresh-record me n ⌝ }
+// A record with its slot, its number and N given, all else zero or false.
+pub fn fresh_record(slot: Slot, me: Member, n: u32) -> MemberState
+    ensures { λ m. ⌜ m ≡ fresh-record slot me n ⌝ }
 {
     let none = Round(0);
-    let who = Who { me, n };
+    let who = Who { slot, me, n };
     let durable = Durable {
         joined: none,
         voted: none,
@@ -140,14 +144,17 @@ pub fn is_allowed(n: u32) -> bool
     n == 7
 }
 
-// N is allowed and the number below it.
-pub fn number_sound(me: Member, n: u32) -> bool
-    ensures { λ b. ⌜ b ≡ sound-number me n ⌝ }
+// N is allowed, the number below it, and the slot one of 0 to 7.
+pub fn who_sound(slot: Slot, me: Member, n: u32) -> bool
+    ensures { λ b. ⌜ b ≡ sound-who slot me n ⌝ }
 {
     if !is_allowed(n) {
         return false;
     }
-    me.0 < n
+    if n <= me.0 {
+        return false;
+    }
+    !no_slot(slot)
 }
 
 pub fn is_leader(n: u32, s: Member, r: Round) -> bool

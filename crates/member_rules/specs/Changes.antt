@@ -5,8 +5,8 @@ use lib.ListN.{set}
 use lib.Dec.{ltb}
 use Rattle.ids.specs.declared.Round.{Round}
 use Rattle.ids.specs.declared.Member.{Member}
-use Rattle.message.specs.declared.Message.{Message}
-use Rattle.message.specs.declared.Message.the-variants.{Join, JoinVoted}
+use Rattle.message.specs.declared.Body.{Body}
+use Rattle.message.specs.declared.Body.the-variants.{Join, JoinVoted}
 use Rattle.member_record.specs.declared.Durable.{Durable}
 use Rattle.member_record.specs.declared.MemberState.{MemberState}
 use Rattle.member_record.specs.Phases.{COLLECTING, PROPOSED, DECIDED}
@@ -24,7 +24,7 @@ abbrev pub joining : MemberState → Round → MemberState
 joining m r = with-durable m (record { joined = r; voted = m .durable .voted; vote = m .durable .vote; led = m .durable .led })
 
 -- JOIN with V, W if V > 0
-abbrev pub join-of : Member → Durable → Round → Message
+abbrev pub join-of : Member → Durable → Round → Body
 join-of me d r = cond (ltb 0 (d .voted .0)) (JoinVoted r me (d .voted) (d .vote)) (Join r me)
 
 -- flags the sender

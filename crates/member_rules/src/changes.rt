@@ -7,7 +7,7 @@ use member_record::Durable;
 use member_record::Lead;
 use member_record::MemberState;
 use member_record::PROPOSED;
-use message::Message;
+use message::Body;
 ghost use mathlib.Core.Path.{_≡_};
 ghost use Prim.Native.Nat.{_<_};
 ghost use Rattle.member_rules.specs.Changes.{starting, joining, join-of, counting, adopted, adopting, proposing, voting, deciding};
@@ -38,20 +38,20 @@ pub fn joining(m: MemberState, r: Round) -> MemberState
 }
 
 // The JOIN of round r: with the last vote, if there was one.
-pub fn join_message(m: MemberState, r: Round) -> Message
+pub fn join_message(m: MemberState, r: Round) -> Body
     ensures { λ g. ⌜ g ≡ join-of (m .who .me) (m .durable) r ⌝ }
 {
     let me = m.who.me;
     let voted = m.durable.voted;
     if 0 < voted.0 {
-        return Message::JoinVoted {
+        return Body::JoinVoted {
             round: r,
             sender: me,
             voted: voted,
             value: m.durable.vote,
         };
     }
-    Message::Join {
+    Body::Join {
         round: r,
         sender: me,
     }

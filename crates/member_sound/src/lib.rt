@@ -1,4 +1,4 @@
-// Which member records are sound (01, "Members"); else number 17.
+// Which member records are sound (01, "Members"; 02, ticket 6); else number 17.
 use ids::above_range;
 use member_record::DECIDED;
 use member_record::Durable;
@@ -10,7 +10,7 @@ use member_record::count_below;
 use member_record::count_flags;
 use member_record::is_leader;
 use member_record::needed;
-use member_record::number_sound;
+use member_record::who_sound;
 ghost use mathlib.Core.Path.{_≡_};
 ghost use Prim.Native.Nat.{_≤_};
 ghost use Rattle.member_record.specs.Record.{sound-durable, sound-flags, sound-idle, sound-count, sound-leading, sound-lead, sound};
@@ -107,15 +107,16 @@ fn lead_sound(m: MemberState) -> bool
     leading_sound(m)
 }
 
-// Sound (01, "Members"); else number 17.
+// Sound (01, "Members"; 02, ticket 6); else number 17.
 pub fn is_sound(m: MemberState) -> bool
     ensures { λ b. ⌜ b ≡ sound m ⌝ }
 {
     let who = m.who;
+    let slot = who.slot;
     let me = who.me;
     let durable = m.durable;
     let lead = m.lead;
-    if !number_sound(me, who.n) {
+    if !who_sound(slot, me, who.n) {
         return false;
     }
     if DECIDED < lead.phase {

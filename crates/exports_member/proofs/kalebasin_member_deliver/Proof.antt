@@ -1,10 +1,14 @@
 -- `exports_member::kalebasin_member_deliver` meets its contract: a refusal of the flags, or what the call on the record answers. Assumes nothing.
 use mathlib.Core.Path.{refl, sym, _∙_}
 use Rattle.exports_member.specs.Members.{deliver-outcome}
-use Rattle.exports_member.proofs.MemberResults.{report-short, same-result}
+use Rattle.exports_member.proofs.MemberResults.{slot-kept, report-short, same-result}
 use borrow.Author.Needs.{needs}
 use Rattle.exports_member.proofs.kalebasin_member_deliver.Statement.{statement}
 use Rattle.exports_member.proofs.kalebasin_member_deliver.Tie as tie
+
+-- the entry, from where the flags are asked about
+abbrev entry : tie.After-no-mask → tie.Start
+entry c = c .before .before .before
 
 no-mask-requires : tie.Need-no-mask-requires
 no-mask-requires c κs = search needs
@@ -26,8 +30,9 @@ deliver-into-requires c κs = search needs
 
 result-requires : tie.Need-result-requires
 result-requires c κs =
-    let call = c .before .before .deliver-into in
-    report-short (c .before .before .before .before .before .before .before .before .before .args .f) (call .result) _ (call .ensures .answers)
+    let call = c .before .before in
+    let masked = call .before .before .before .before in
+    report-short (entry masked .args .f) (call .deliver-into .result) _ (call .deliver-into .ensures .answers)
 
 same-length : tie.Need-same-length
 same-length c = search needs
@@ -37,8 +42,8 @@ unfolding deliver-outcome
 returns-2 c =
     let call = c .before .before .before in
     let state = call .before .before in
-    let masked = state .before .before .no-mask in
-    rw (sym (masked .ensures) ∙ state .before .if1 .left, ← state .state-of .ensures)
+    let masked = state .before .before in
+    rw (sym (masked .no-mask .ensures) ∙ state .before .if1 .left, slot-kept (entry masked .args .f), ← state .state-of .ensures)
     (c .result .ensures ∙ same-result _ (call .deliver-into .result) _ (call .deliver-into .ensures .answers), call .deliver-into .ensures .reply)
 
 pub kalebasin-member-deliver-spec : {M : Type 1} → statement M

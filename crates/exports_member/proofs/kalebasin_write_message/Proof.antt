@@ -15,7 +15,7 @@ returns : tie.Need-returns
 returns c =
     let fields = c .before in
     let args = fields .before .before .args in
-    fields-refused (args .kind) (args .round) (args .sender) (args .present) (args .voted) (args .value) (now (args .buf)) (fields .fields-number .result)
+    fields-refused (args .slot) (args .kind) (args .round) (args .sender) (args .present) (args .voted) (args .value) (now (args .buf)) (fields .fields-number .result)
     (fields .fields-number .ensures) (c .if1 .taken)
 
 message-of-requires : tie.Need-message-of-requires
@@ -24,8 +24,8 @@ message-of-requires c κs = search needs
 write-message-requires : tie.Need-write-message-requires
 write-message-requires c κs = search needs
 
-cast-t17 : tie.Need-cast-t17
-cast-t17 c =
+cast-length : tie.Need-cast-length
+cast-length c =
     let call = c .before .before .before in
     record {
       fits = omega (
@@ -44,7 +44,7 @@ returns-2 c =
     let made = write .before .before in
     let fields = made .before .before in
     let args = fields .before .before .args in
-    fields-written (args .kind) (args .round) (args .sender) (args .present) (args .voted) (args .value) (now (args .buf)) (fields .fields-number .result)
+    fields-written (args .slot) (args .kind) (args .round) (args .sender) (args .present) (args .voted) (args .value) (now (args .buf)) (fields .fields-number .result)
     (fields .fields-number .ensures) (made .before .if1 .left) (write .write-message .result) _
     (rw (made .message-of .ensures) at (write .write-message .ensures))
 
@@ -56,6 +56,6 @@ kalebasin-write-message-spec =
     returns
     message-of-requires
     write-message-requires
-    cast-t17
+    cast-length
     same-length
     returns-2)

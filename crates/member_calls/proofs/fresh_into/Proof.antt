@@ -9,8 +9,8 @@ use Rattle.member_calls.proofs.fresh_into.Tie as tie
 fresh-record-requires : tie.Need-fresh-record-requires
 fresh-record-requires c κs = search needs
 
-number-sound-requires : tie.Need-number-sound-requires
-number-sound-requires c κs = search needs
+who-sound-requires : tie.Need-who-sound-requires
+who-sound-requires c κs = search needs
 
 refuse-requires : tie.Need-refuse-requires
 refuse-requires c κs = search needs
@@ -18,8 +18,8 @@ refuse-requires c κs = search needs
 returns : tie.Need-returns
 unfolding fresh-call
 returns c =
-    let number-sound = c .before .before .number-sound in
-    rw (← number-sound .ensures, not-true (number-sound .result) (c .before .if1 .taken)) (c .refuse .ensures)
+    let who-sound = c .before .before .who-sound in
+    rw (← who-sound .ensures, not-true (who-sound .result) (c .before .if1 .taken)) (c .refuse .ensures)
 
 give-requires : tie.Need-give-requires
 give-requires c κs = search needs
@@ -29,12 +29,12 @@ unfolding fresh-call
 returns-2 c =
     let b = c .before .before in
     rw (
-      ← b .number-sound .ensures,
-      not-false (b .number-sound .result) (c .before .if1 .left),
+      ← b .who-sound .ensures,
+      not-false (b .who-sound .result) (c .before .if1 .left),
       c .give .ensures,
       b .before .fresh-record .ensures,
     ) (record { report = refl; state = refl })
 
 pub fresh-into-spec : {M : Type 1} → statement M
 fresh-into-spec =
-    tie.close (tie.spec fresh-record-requires number-sound-requires refuse-requires returns give-requires returns-2)
+    tie.close (tie.spec fresh-record-requires who-sound-requires refuse-requires returns give-requires returns-2)

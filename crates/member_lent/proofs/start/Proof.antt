@@ -1,7 +1,7 @@
 -- `member_lent::start` meets its contract: a walk of its MIR, by hand. The borrow of the record is opened, the record is copied out whole and passed to
 -- `start_into`, what came back is copied in, and the borrow is closed at it. The reply's borrow goes to `start_into` at its own lifetime, share and ghost name,
 -- for good.
--- No field of the record is named (`Lent.antt`). All that the proof knows of `start_into` is that it meets its contract.
+-- No field of the record is named (`Lent.antt`) but the slot, in what is promised. All that the proof knows of `start_into` is that it meets its contract.
 -- Assumes nothing.
 use mathlib.Core.Path.{_≡_, refl, ap}
 use Prim.Native.Nat.{ℕ, _<_, _^_}
@@ -97,7 +97,7 @@ module _ {M : Type 1} (𝓤 : URA M) (H : Heap 𝓤) (A : Atoms 𝓤) (W : Given
 
   -- what the callee's result says, at the reply's last list
   abbrev Said : AfterCall → List ℕ → Type 0
-  Said r zs = LeavesReply (start-call h rd v (y .now)) (y .now) (r .state) (r .report) zs
+  Said r zs = LeavesReply (h .who .slot) (start-call h rd v (y .now)) (y .now) (r .state) (r .report) zs
 
   -- what the callee's triple binds outside, and that the caller has what it asks
   abbrev to-into : Into 𝓤 H A at-mem run .Ghost

@@ -5,26 +5,26 @@ use Prim.Native.Nat.{_≤_}
 use borrow.Author.Tests.{le-leb, lt-leb, not-true, not-false}
 use native.Mathlib.Omega.{arith}
 use Rattle.member_record.specs.declared.MemberState.{MemberState}
-use Rattle.member_record.specs.Record.{sound, sound-number, sound-durable, sound-flags, sound-lead}
-use Rattle.member_record.proofs.Flags.{number-sizes}
+use Rattle.member_record.specs.Record.{sound, sound-who, sound-durable, sound-flags, sound-lead}
+use Rattle.member_record.proofs.Flags.{who-sizes}
 use borrow.Author.Needs.{needs}
 use Rattle.member_sound.proofs.is_sound.Statement.{statement}
 use Rattle.member_sound.proofs.is_sound.Tie as tie
 
-number-sound-requires : tie.Need-number-sound-requires
-number-sound-requires c κs = search needs
+who-sound-requires : tie.Need-who-sound-requires
+who-sound-requires c κs = search needs
 
 returns : tie.Need-returns
 unfolding sound
-returns c = rw (← c .before .number-sound .ensures, not-true (c .before .number-sound .result) (c .if1 .taken))
+returns c = rw (← c .before .who-sound .ensures, not-true (c .before .who-sound .result) (c .if1 .taken))
 
 -- the record that is asked about
 abbrev asked : tie.Else1 → MemberState
-asked c = c .before .before .before .before .before .before .args .m
+asked c = c .before .before .before .before .before .before .before .args .m
 
 -- where the first test fails, and then each of the next, what is known and what is left
-numbered : (c : tie.Else1) → let m = asked c in sound-number (m .who .me) (m .who .n) ≡ true
-numbered c = sym (c .before .number-sound .ensures) ∙ not-false (c .before .number-sound .result) (c .if1 .left)
+numbered : (c : tie.Else1) → let m = asked c in sound-who (m .who .slot) (m .who .me) (m .who .n) ≡ true
+numbered c = sym (c .before .who-sound .ensures) ∙ not-false (c .before .who-sound .result) (c .if1 .left)
 
 returns-2 : tie.Need-returns-2
 unfolding sound
@@ -48,7 +48,7 @@ left-2 : (c : tie.Else3) →
 left-2 c =
     let b = c .before .before in
     let m = asked (b .before .before) in
-    let (own, low, high) = number-sizes (m .who .me) (m .who .n) (numbered (b .before .before)) in
+    let (own, low, high, slot) = who-sizes (m .who) (numbered (b .before .before)) in
     (rw (left b, ← c .before .durable-sound .ensures, not-false (c .before .durable-sound .result) (c .if3 .left)), omega arith, high)
 
 flags-sound-requires : tie.Need-flags-sound-requires
@@ -69,7 +69,7 @@ pub is-sound-spec : {M : Type 1} → statement M
 is-sound-spec =
     tie.close
     (tie.spec
-    number-sound-requires
+    who-sound-requires
     returns
     returns-2
     durable-sound-requires

@@ -22,7 +22,7 @@ send-requires : tie.Need-send-requires
 send-requires c κs =
     let arm = c .before .before in
     let s = entry (arm .before .before) in
-    (s .pre .0, sent-in-bounds (s .args .s .state) (arm .answer2 .given .1) (s .pre .1))
+    (s .pre .0, s .pre .1, sent-in-bounds (s .args .s .state) (arm .answer2 .given .1) (s .pre .2))
 
 give-requires : tie.Need-give-requires
 give-requires c κs = search needs
@@ -40,7 +40,7 @@ send-requires-2 : tie.Need-send-requires-2
 send-requires-2 c κs =
     let arm = c .before .before in
     let s = entry (arm .before .before) in
-    (s .pre .0, proposed-in-bounds (s .args .s .state) (arm .answer3 .given .1) (s .pre .1))
+    (s .pre .0, s .pre .1, proposed-in-bounds (s .args .s .state) (arm .answer3 .given .1) (s .pre .2))
 
 give-requires-3 : tie.Need-give-requires-3
 give-requires-3 c κs = search needs
