@@ -16,8 +16,8 @@ use Rattle.ids.specs.declared.Member.{Member}
 use Rattle.ids.specs.Ranges.{out-of-range}
 use Rattle.quorum.specs.Count.{count, some}
 use Rattle.quorum.specs.Quorum.{HasQuorum}
-use Rattle.message.specs.declared.Message.{Message}
-use Rattle.message.specs.declared.Message.the-variants.{Start, Join, JoinVoted, Propose, Vote}
+use Rattle.message.specs.declared.Body.{Body}
+use Rattle.message.specs.declared.Body.the-variants.{Start, Join, JoinVoted, Propose, Vote}
 use Rattle.member_record.specs.declared.Durable.{Durable}
 use Rattle.member_record.specs.declared.MemberState.{MemberState}
 use Rattle.member_record.specs.Phases.{COLLECTING, needed}
@@ -27,14 +27,15 @@ use Rattle.member.specs.Table.{complete}
 use Rattle.member_record.proofs.Sound.{parts, sound-size}
 use Rattle.member_record.proofs.Flags.{counts-agree, set-from}
 use Rattle.member_record.proofs.Quorums.{needed-alike}
-use Rattle.model.specs.Model.{Sizes, member-number}
+use Rattle.model.specs.Model.{member-number}
 use Rattle.model.specs.Joins.{JoinOf}
+use Rattle.model.proofs.View.{SlotSizes}
 use Rattle.model.proofs.Kept.{KeptMember, own-round, led-ranged, source-lower}
 use Rattle.model.proofs.Invariant.{office-who, carried, Voted, Reached, Spoken}
 use Rattle.model.proofs.Grows.{reached-rises}
 
 -- what soundness says of a member that isn't idle, its vote count apart
-pub record Counts (z : Sizes) (t : ℕ) (m : MemberState) : Type 0 where
+pub record Counts (z : SlotSizes) (t : ℕ) (m : MemberState) : Type 0 where
   pub number : m .who .me ≡ member-number t
   pub size : m .who .n ≡ z .n
   pub own : m .durable .led .0 % z .n ≡ t
@@ -44,7 +45,7 @@ pub record Counts (z : Sizes) (t : ℕ) (m : MemberState) : Type 0 where
   pub small : m .who .n ≤ 7
   pub none-from : not (some (flag-from (m .who .n) (m .lead .flags)) 7) ≡ true
 
-pub counts-of : (z : Sizes) (t : ℕ) (m : MemberState) → KeptMember z t m → COLLECTING ≤ m .lead .phase → Counts z t m
+pub counts-of : (z : SlotSizes) (t : ℕ) (m : MemberState) → KeptMember z t m → COLLECTING ≤ m .lead .phase → Counts z t m
 counts-of z t m M h = record {
   number = M .number;
   size = M .size;
@@ -57,7 +58,7 @@ counts-of z t m M h = record {
 }
 
 -- a vote below L taken over
-pub counts-adopted : (z : Sizes) (t : ℕ) (m : MemberState) (q : Round) (w : ℕ) → q .0 < m .durable .led .0 → Counts z t m → Counts z t (adopted m q w)
+pub counts-adopted : (z : SlotSizes) (t : ℕ) (m : MemberState) (q : Round) (w : ℕ) → q .0 < m .durable .led .0 → Counts z t m → Counts z t (adopted m q w)
 counts-adopted z t m q w h c = record {
   number = c .number;
   size = c .size;
@@ -83,7 +84,7 @@ no-flag s =
     (λ t. List·getD-eq-default (replicate 7 false) false {n = s} (omega tests))
 
 -- a complete count is a quorum
-pub flagged-quorum : (z : Sizes) (t : ℕ) (m : MemberState) (s : Member) (P : ℕ → Type 0) → Counts z t m → s .0 < m .who .n → complete (counting m s) ≡ true →
+pub flagged-quorum : (z : SlotSizes) (t : ℕ) (m : MemberState) (s : Member) (P : ℕ → Type 0) → Counts z t m → s .0 < m .who .n → complete (counting m s) ≡ true →
     ((i : ℕ) → flag (set (m .lead .flags) (s .0) true) i ≡ true → P i) → HasQuorum (z .n) (needed (office-who (z .n)) (m .lead .phase)) P
 unfolding flagged
 flagged-quorum z t m s P c low full f =
@@ -95,14 +96,14 @@ flagged-quorum z t m s P c low full f =
     rw (← (c .size)) (record { who = flag (set (m .lead .flags) (s .0) true); enough = omega (tests, asked); each = λ i l h. f i h })
 
 -- neither a JOIN nor a VOTE
-abbrev pub Quiet : Message → Type 0
+abbrev pub Quiet : Body → Type 0
 Quiet (Start r s) = Unit {0}
 Quiet (Join r s) = ⊥
 Quiet (JoinVoted r s q w) = ⊥
 Quiet (Propose r s x) = Unit {0}
 Quiet (Vote r s) = ⊥
 
-no-join : (r t : ℕ) (g : Message) → Quiet g → JoinOf r t g → ⊥
+no-join : (r t : ℕ) (g : Body) → Quiet g → JoinOf r t g → ⊥
 no-join r t (Start r₁ s) q o = o
 no-join r t (Join r₁ s) q o = q
 no-join r t (JoinVoted r₁ s p w) q o = q
@@ -114,15 +115,15 @@ abbrev pub with-led : Durable → Round → Durable
 with-led d l = record { joined = d .joined; voted = d .voted; vote = d .vote; led = l }
 
 -- what member t says beside what it said, while its J, V and L rise
-module _ (sent gs : List Message) (t : ℕ) (d : Durable) (S : Spoken sent t d) where
-  module _ (e : Durable) (more : (g : Message) → g ∈ gs → Reached e g) (a : d .joined .0 ≤ e .joined .0) (b : d .voted .0 ≤ e .voted .0)
+module _ (sent gs : List Body) (t : ℕ) (d : Durable) (S : Spoken sent t d) where
+  module _ (e : Durable) (more : (g : Body) → g ∈ gs → Reached e g) (a : d .joined .0 ≤ e .joined .0) (b : d .voted .0 ≤ e .voted .0)
       (c : d .led .0 ≤ e .led .0) where
     -- asked of what is new: each VOTE for a round below that of a JOIN, where one of the two is new; that a new JOIN is of J, which has no vote
     -- yet; and that all JOINs of J are the one that V and W make
-    pub spoken-new : ((g : Message) (r k : ℕ) → g ∈ gs → JoinOf r t g → Voted (sent ++ gs) k t → k < r → k ≤ carried g) →
-        ((g : Message) (r k : ℕ) → g ∈ sent → JoinOf r t g → Voted gs k t → k < r → k ≤ carried g) →
-        ((g : Message) (r : ℕ) → g ∈ gs → JoinOf r t g → (r ≡ e .joined .0) × (e .voted .0 < e .joined .0)) →
-        ((g : Message) → g ∈ sent ++ gs → JoinOf (e .joined .0) t g → e .voted .0 < e .joined .0 → g ≡ join-of (member-number t) e (e .joined)) →
+    pub spoken-new : ((g : Body) (r k : ℕ) → g ∈ gs → JoinOf r t g → Voted (sent ++ gs) k t → k < r → k ≤ carried g) →
+        ((g : Body) (r k : ℕ) → g ∈ sent → JoinOf r t g → Voted gs k t → k < r → k ≤ carried g) →
+        ((g : Body) (r : ℕ) → g ∈ gs → JoinOf r t g → (r ≡ e .joined .0) × (e .voted .0 < e .joined .0)) →
+        ((g : Body) → g ∈ sent ++ gs → JoinOf (e .joined .0) t g → e .voted .0 < e .joined .0 → g ≡ join-of (member-number t) e (e .joined)) →
         Spoken (sent ++ gs) t e
     spoken-new joins votes newest told = record {
       reached = λ g i s. ⊎-elim (λ h. reached-rises d e g a b c (S .reached g h s)) (more g) (List·Memᴰ·append-cases sent i);
@@ -138,7 +139,7 @@ module _ (sent gs : List Message) (t : ℕ) (d : Durable) (S : Spoken sent t d) 
     }
 
   -- neither a JOIN nor a VOTE is said, and only L rises
-  pub spoken-quiet : (l : Round) → d .led .0 ≤ l .0 → ((g : Message) → g ∈ gs → Reached (with-led d l) g) → ((g : Message) → g ∈ gs → Quiet g) →
+  pub spoken-quiet : (l : Round) → d .led .0 ≤ l .0 → ((g : Body) → g ∈ gs → Reached (with-led d l) g) → ((g : Body) → g ∈ gs → Quiet g) →
       Spoken (sent ++ gs) t (with-led d l)
   spoken-quiet l c more f =
       spoken-new (with-led d l) more (omega arith) (omega arith) c

@@ -1,13 +1,13 @@
 -- A list of events taken in two parts, and the last event of a list: for work event after event. Assumes nothing.
-use mathlib.Core.Path.{_≡_, refl, sym, ap, _∙_}
+use mathlib.Core.Path.{_≡_, refl, ap}
 use mathlib.Core.Bool.{false, cond}
-use mathlib.Core.List.{List, [], _∷_, _++_, append-assoc}
+use mathlib.Core.List.{List, [], _∷_, _++_}
 use Prim.Native.Nat.{suc}
 use lib.ListN.{length}
 use lib.Dec.{eqb}
 use borrow.Author.Tests.{eq-eqb}
 use Rattle.numbers.specs.Numbers.{OK}
-use Rattle.model.specs.Model.{Sizes, Event, Office, event-answer, taken, next, office-after, event-answers, offers-at, offered}
+use Rattle.model.specs.Model.{Sizes, Event, Office, event-answer, taken, next, office-after, event-answers}
 use Rattle.model.specs.Counts.{zeros, accepted-events}
 
 module _ (z : Sizes) where
@@ -37,13 +37,6 @@ module _ (z : Sizes) where
       event-answers z o (es ++ e ∷ []) ≡ event-answers z o es ++ event-answer z (office-after z o es) e ∷ []
   unfolding event-answers
   answers-last o es e = answers-append o es (e ∷ [])
-
-  pub offered-append : (o : Office) (es fs : List Event) → offered z o (es ++ fs) ≡ offered z o es ++ offered z (office-after z o es) fs
-  unfolding offered office-after
-  offered-append o [] fs = refl
-  offered-append o (e ∷ es) fs =
-      ap (λ l. offers-at z o e ++ l) (offered-append (next z o e) es fs) ∙
-      sym (append-assoc (offers-at z o e) (offered z (next z o e) es) (offered z (office-after z (next z o e) es) fs))
 
   -- one answer for each event
   pub length-answers : (o : Office) (es : List Event) → length (event-answers z o es) ≡ length es

@@ -1,4 +1,4 @@
--- The invariant of the third demand: what holds of one member, and what holds of the whole. J, V, W, L, X, B are 01's letters of the
+-- The invariant of the third demand, of one slot: what holds of one member, and what holds of all. J, V, W, L, X, B are 01's letters of the
 -- member record. Votes, joins and proposals are spoken of by the messages sent and the proposals made, both of which only grow.
 use mathlib.Core.Path.{_≡_}
 use mathlib.Core.Bool.{Bool, true}
@@ -7,23 +7,24 @@ use Prim.Native.Nat.{ℕ, _<_, _≤_, _%_}
 use Rattle.laws.specs.Lists.{_∈_}
 use Rattle.quorum.specs.Quorum.{HasQuorum}
 use Rattle.tree_theory.specs.Properties.{Properties, InRange}
-use Rattle.message.specs.declared.Message.{Message}
-use Rattle.message.specs.declared.Message.the-variants.{Start, Join, JoinVoted, Propose, Vote}
+use Rattle.message.specs.declared.Body.{Body}
+use Rattle.message.specs.declared.Body.the-variants.{Start, Join, JoinVoted, Propose, Vote}
 use Rattle.member_record.specs.declared.Who.{Who}
 use Rattle.member_record.specs.declared.Durable.{Durable}
 use Rattle.member_record.specs.declared.MemberState.{MemberState}
 use Rattle.member_record.specs.Phases.{COLLECTING, PROPOSED, DECIDED, needed}
-use Rattle.member_record.specs.Record.{flag, round-number}
+use Rattle.member_record.specs.Record.{flag, round-number, slot-number}
 use Rattle.member_rules.specs.Changes.{join-of}
 use Rattle.member.specs.Table.{Named, proposal, decision}
-use Rattle.model.specs.Model.{Sizes, Office, member-number, member-at, proposals}
+use Rattle.model.specs.Model.{member-number, proposals}
 use Rattle.model.specs.Demand.{calls}
 use Rattle.model.specs.Joins.{JoinOf}
 use Rattle.model.proofs.Senders.{sender}
+use Rattle.model.proofs.View.{SlotSizes, SlotView, view-member}
 
 -- an office of n, in the eyes of one of its members
 abbrev pub office-who : ℕ → Who
-office-who n = record { me = member-number 0; n = n }
+office-who n = record { slot = slot-number 0; me = member-number 0; n = n }
 
 -- joins needed and votes needed
 abbrev pub join-quorum : ℕ → ℕ
@@ -33,7 +34,7 @@ abbrev pub vote-quorum : ℕ → ℕ
 vote-quorum n = needed (office-who n) PROPOSED
 
 -- the round voted for that a JOIN carries; 0 if it carries no vote
-abbrev pub carried : Message → ℕ
+abbrev pub carried : Body → ℕ
 carried (Start r s) = 0
 carried (Join r s) = 0
 carried (JoinVoted r s q w) = q .0
@@ -41,14 +42,14 @@ carried (Propose r s v) = 0
 carried (Vote r s) = 0
 
 -- s sent a JOIN of round r whose vote, if any, is at most b
-pub record Joined (sent : List Message) (r b s : ℕ) : Type 0 where
-  pub message : Message
+pub record Joined (sent : List Body) (r b s : ℕ) : Type 0 where
+  pub message : Body
   pub is-sent : message ∈ sent
   pub is-join : JoinOf r s message
   pub at-most : carried message ≤ b
 
 -- s sent a VOTE of round r
-abbrev pub Voted : List Message → ℕ → ℕ → Type 0
+abbrev pub Voted : List Body → ℕ → ℕ → Type 0
 Voted sent r s = Vote (round-number r) (member-number s) ∈ sent
 
 -- a proposal of round r with value x was made
@@ -57,7 +58,7 @@ pub record ProposalMade (made : List Named) (r x : ℕ) : Type 0 where
   pub is-made : proposal r x parent ∈ made
 
 -- L is at least the round of a START or PROPOSE that the member sent, J that of a JOIN, V that of a VOTE
-abbrev pub Reached : Durable → Message → Type 0
+abbrev pub Reached : Durable → Body → Type 0
 Reached d (Start r s) = r .0 ≤ d .led .0
 Reached d (Join r s) = r .0 ≤ d .joined .0
 Reached d (JoinVoted r s q w) = r .0 ≤ d .joined .0
@@ -65,17 +66,17 @@ Reached d (Propose r s x) = r .0 ≤ d .led .0
 Reached d (Vote r s) = r .0 ≤ d .voted .0
 
 -- what member t said, its J, V, W and L beside it
-pub record Spoken (sent : List Message) (t : ℕ) (d : Durable) : Type 0 where
-  pub reached : (g : Message) → g ∈ sent → sender g ≡ t → Reached d g
+pub record Spoken (sent : List Body) (t : ℕ) (d : Durable) : Type 0 where
+  pub reached : (g : Body) → g ∈ sent → sender g ≡ t → Reached d g
   -- a VOTE for a round below that of a JOIN is for a round at most the one that the JOIN carries
-  pub past : (g : Message) (r c : ℕ) → g ∈ sent → JoinOf r t g → Voted sent c t → c < r → c ≤ carried g
+  pub past : (g : Body) (r c : ℕ) → g ∈ sent → JoinOf r t g → Voted sent c t → c < r → c ≤ carried g
   -- until it votes in J, each JOIN of J is the one that V and W make
-  pub told : (g : Message) → g ∈ sent → JoinOf (d .joined .0) t g → d .voted .0 < d .joined .0 → g ≡ join-of (member-number t) d (d .joined)
+  pub told : (g : Body) → g ∈ sent → JoinOf (d .joined .0) t g → d .voted .0 < d .joined .0 → g ≡ join-of (member-number t) d (d .joined)
   -- JOINs of one round are equal
-  pub same : (r : ℕ) (g h : Message) → g ∈ sent → h ∈ sent → JoinOf r t g → JoinOf r t h → g ≡ h
+  pub same : (r : ℕ) (g h : Body) → g ∈ sent → h ∈ sent → JoinOf r t g → JoinOf r t h → g ≡ h
 
 -- what member t does as a leader: its L, phase, X, B and flags
-pub record Leading (n : ℕ) (sent : List Message) (made : List Named) (offers : List ℕ) (t led phase value source : ℕ) (flags : List Bool) : Type 0 where
+pub record Leading (n : ℕ) (sent : List Body) (made : List Named) (offers : List ℕ) (t led phase value source : ℕ) (flags : List Bool) : Type 0 where
   -- L is at least each round that t leads and that was proposed
   pub highest : (r x b : ℕ) → proposal r x b ∈ made → r % n ≡ t → r ≤ led
   -- while it collects, no proposal of L was made; when it has proposed or decided, that of X and B was; while it has only
@@ -92,14 +93,14 @@ pub record Leading (n : ℕ) (sent : List Message) (made : List Named) (offers :
   pub value-offered : COLLECTING ≤ phase → phase ≤ DECIDED → value ∈ offers
 
 -- what holds of member t, whose record is m
-pub record MemberHolds (n : ℕ) (sent : List Message) (made : List Named) (offers : List ℕ) (t : ℕ) (m : MemberState) : Type 0 where
+pub record MemberHolds (n : ℕ) (sent : List Body) (made : List Named) (offers : List ℕ) (t : ℕ) (m : MemberState) : Type 0 where
   pub spoken : Spoken sent t (m .durable)
   pub leading : Leading n sent made offers t (m .durable .led .0) (m .lead .phase) (m .lead .value) (m .lead .source .0) (m .lead .flags)
   -- V, if above 0, was proposed with W
   pub vote-added : 0 < m .durable .voted .0 → ProposalMade made (m .durable .voted .0) (m .durable .vote)
 
 -- a START or PROPOSE is sent by the leader of its round
-abbrev pub FromLeader : ℕ → Message → Type 0
+abbrev pub FromLeader : ℕ → Body → Type 0
 FromLeader n (Start r s) = r .0 % n ≡ s .0
 FromLeader n (Join r s) = Unit {0}
 FromLeader n (JoinVoted r s q w) = Unit {0}
@@ -107,7 +108,7 @@ FromLeader n (Propose r s v) = r .0 % n ≡ s .0
 FromLeader n (Vote r s) = Unit {0}
 
 -- what a PROPOSE says was proposed; so was the vote that a JOIN carries
-abbrev pub Backed : List Named → Message → Type 0
+abbrev pub Backed : List Named → Body → Type 0
 Backed made (Start r s) = Unit {0}
 Backed made (Join r s) = Unit {0}
 Backed made (JoinVoted r s q w) = ProposalMade made (q .0) w
@@ -115,7 +116,7 @@ Backed made (Propose r s v) = ProposalMade made (r .0) v
 Backed made (Vote r s) = Unit {0}
 
 -- what holds of the proposals and decisions made
-pub record MadeSo (z : Sizes) (sent : List Message) (made : List Named) (offers : List ℕ) : Type 0 where
+pub record MadeSo (z : SlotSizes) (sent : List Body) (made : List Named) (offers : List ℕ) : Type 0 where
   -- the four properties: among them that a round has one proposal, made before its decision
   pub properties : Properties true (calls made)
   pub ranged : InRange (calls made)
@@ -129,8 +130,8 @@ pub record MadeSo (z : Sizes) (sent : List Message) (made : List Named) (offers 
   -- there is a row for each proposal
   pub room : 0 < z .table → proposals made < z .table
 
-pub record Invariant (z : Sizes) (o : Office) (offers : List ℕ) : Type 0 where
-  pub members : (t : ℕ) → t < z .n → MemberHolds (z .n) (o .sent) (o .made) offers t (member-at z o t)
-  pub leaders : (g : Message) → g ∈ o .sent → FromLeader (z .n) g
-  pub backed : (g : Message) → g ∈ o .sent → Backed (o .made) g
+pub record Invariant (z : SlotSizes) (o : SlotView) (offers : List ℕ) : Type 0 where
+  pub members : (t : ℕ) → t < z .n → MemberHolds (z .n) (o .sent) (o .made) offers t (view-member z o t)
+  pub leaders : (g : Body) → g ∈ o .sent → FromLeader (z .n) g
+  pub backed : (g : Body) → g ∈ o .sent → Backed (o .made) g
   pub made-so : MadeSo z (o .sent) (o .made) offers

@@ -2,6 +2,8 @@
 pub mod Cases
 pub mod Rehearsal
 pub mod Senders
+pub mod View
+pub mod Sums
 pub mod Kept
 pub mod Made
 pub mod Invariant

@@ -15,13 +15,14 @@ use Rattle.member_record.specs.Phases.{needed}
 use Rattle.tree_theory.specs.Machine.{Call, add, commit, crosses}
 use Rattle.tree_theory.specs.Properties.{round-of, adds, commits, edge-crosses}
 use Rattle.tree_theory.proofs.Calls.{NextCall, grow, adds-intro, adds-with-intro}
-use Rattle.message.specs.declared.Message.{Message}
+use Rattle.message.specs.declared.Body.{Body}
 use Rattle.member_record.specs.Record.{allowed}
 use Rattle.member_record.proofs.Quorums.{allowed-majority}
 use Rattle.member.specs.Table.{Named, proposal, decision}
-use Rattle.model.specs.Model.{Sizes, proposals}
+use Rattle.model.specs.Model.{proposals}
 use Rattle.model.specs.Demand.{calls}
 use Rattle.model.specs.Joins.{JoinOf}
+use Rattle.model.proofs.View.{SlotSizes}
 use Rattle.model.proofs.Made.{calls-append, proposals-append, proposal-call, call-proposal, call-decision}
 use Rattle.model.proofs.Invariant.{join-quorum, vote-quorum, carried, Joined, Voted, ProposalMade, MadeSo}
 use Rattle.model.proofs.Grows.{added-grows, joined-grows}
@@ -32,10 +33,10 @@ unfolding needed
 allowed-meets n h = allowed-majority n h (λ f m. exceeds m)
 
 -- `past` of every member
-abbrev pub Pasts : ℕ → List Message → Type 0
-Pasts n sent = (s : ℕ) → s < n → (g : Message) (r c : ℕ) → g ∈ sent → JoinOf r s g → Voted sent c s → c < r → c ≤ carried g
+abbrev pub Pasts : ℕ → List Body → Type 0
+Pasts n sent = (s : ℕ) → s < n → (g : Body) (r c : ℕ) → g ∈ sent → JoinOf r s g → Voted sent c s → c < r → c ≤ carried g
 
-module _ (z : Sizes) (sent : List Message) (made : List Named) (offers : List ℕ) (M : MadeSo z sent made offers) (past : Pasts (z .n) sent)
+module _ (z : SlotSizes) (sent : List Body) (made : List Named) (offers : List ℕ) (M : MadeSo z sent made offers) (past : Pasts (z .n) sent)
     (meets : z .n < join-quorum (z .n) + vote-quorum (z .n)) where
   uncrossed-by : (r b c : ℕ) → HasQuorum (z .n) (join-quorum (z .n)) (Joined sent r b) → HasQuorum (z .n) (vote-quorum (z .n)) (Voted sent c) →
       crosses r b c ≡ false
@@ -49,7 +50,7 @@ module _ (z : Sizes) (sent : List Message) (made : List Named) (offers : List �
   -- one more proposal
   module _ (r x b : ℕ) (ranged : out-of-range r ≡ false) (new : (y c : ℕ) → proposal r y c ∈ made → ⊥) (lower : b < r)
       (parent : 0 < b → ProposalMade made b x) (J : HasQuorum (z .n) (join-quorum (z .n)) (Joined sent r b)) (from : x ∈ offers)
-      (row : suc (proposals made) < z .table) (gs : List Message) (xs : List ℕ) where
+      (row : suc (proposals made) < z .table) (gs : List Body) (xs : List ℕ) where
     add-next : NextCall true (calls made) (add r x b)
     add-next = record {
       new = none-any (adds r) (calls made) fresh-round;
@@ -81,7 +82,7 @@ module _ (z : Sizes) (sent : List Message) (made : List Named) (offers : List �
 
   -- one more decision
   module _ (r x b : ℕ) (ranged : out-of-range r ≡ false) (new : (y : ℕ) → decision r y ∈ made → ⊥) (follows : proposal r x b ∈ made)
-      (W : HasQuorum (z .n) (vote-quorum (z .n)) (Voted sent r)) (gs : List Message) (xs : List ℕ) where
+      (W : HasQuorum (z .n) (vote-quorum (z .n)) (Voted sent r)) (gs : List Body) (xs : List ℕ) where
     commit-next : NextCall true (calls made) (commit r)
     commit-next = record {
       follows = adds-intro (calls made) (proposal-call made follows);

@@ -1,4 +1,4 @@
--- The numbers that an event of a list can get. 17 and 16 don't occur, for members are sound and messages in range; nor does 21, for STARTs
+-- The numbers that an event of a list can get, 32 among them. 17 and 16 don't occur, for members are sound and messages in range; nor does 21, for STARTs
 -- and PROPOSEs come from the leaders of their rounds; nor 23, for a round is proposed with one value. Assumes nothing.
 use mathlib.Core.Path.{_≡_, refl, sym}
 use mathlib.Core.Bool.{Bool, true, false, cond, _&&_, not}
@@ -13,13 +13,13 @@ use Rattle.laws.specs.Lists.{_∈_, any, any-intro, any-elim}
 use Rattle.laws.specs.First.{Cause, _gives_, first}
 use Rattle.laws.specs.Numbers.{first-has}
 use Rattle.numbers.specs.Numbers.{OK, COUNTED-ALREADY, MOVED-PAST, NO-FREE-ROW, NO-MEMBER-OR-MESSAGE, NOT-ABOVE-LED, NOT-AWAITED, NOT-LEADER}
-use Rattle.numbers.specs.Numbers.{ROUND-RANGE, STORE-FULL}
+use Rattle.numbers.specs.Numbers.{ROUND-RANGE, STORE-FULL, WRONG-SLOT}
 use Rattle.ids.specs.declared.Round.{Round}
 use Rattle.ids.specs.declared.Member.{Member}
-use Rattle.ids.specs.Ranges.{out-of-range, above-range}
+use Rattle.ids.specs.Ranges.{SLOTS, no-slot, out-of-range, above-range}
 use Rattle.tree_theory.proofs.Calls.{unique}
-use Rattle.message.specs.declared.Message.{Message}
-use Rattle.message.specs.declared.Message.the-variants.{Start, Join, JoinVoted, Propose, Vote}
+use Rattle.message.specs.declared.Body.{Body}
+use Rattle.message.specs.declared.Body.the-variants.{Start, Join, JoinVoted, Propose, Vote}
 use Rattle.member_record.specs.declared.MemberState.{MemberState}
 use Rattle.member_record.specs.Record.{allowed, leads, round-number}
 use Rattle.member_record.specs.Phases.{COLLECTING, PROPOSED}
@@ -27,12 +27,13 @@ use Rattle.member_rules.specs.Causes.{start-call-causes, START-causes, count-ca
 use Rattle.member_rules.specs.Changes.{counting, adopting}
 use Rattle.member.specs.Table.{Outcome, silent, complete, proposes, decides, step-causes, step-row, sound-step}
 use Rattle.member.specs.Table.{MemberEvent, starts, delivers}
-use Rattle.model.specs.Model.{Sizes, Event, start, deliver, Office, first-office, member-at, message-at, at-member, unsent, event-of}
-use Rattle.model.specs.Model.{event-outcome, absent, no-store-row, no-table-row, sends-one, proposes-one, proposals, event-answer, offered}
+use Rattle.model.specs.Model.{Sizes, SlotEvent, Event, start, deliver, Office, first-office, made-in, member-at, message-at, at-member, unsent, foreign}
+use Rattle.model.specs.Model.{event-of, event-outcome, absent, no-store-row, no-table-row, sends-one, proposes-one, proposals, event-answer, offered}
 use Rattle.model.specs.Demand.{calls, ended}
 use Rattle.model.specs.Counts.{made-tree}
 use Rattle.model.proofs.Made.{proposal-call}
-use Rattle.model.proofs.Kept.{KeptMember, KeptOffice, message-in, step-is-sound, ended-kept}
+use Rattle.model.proofs.View.{SlotSizes, SlotView, sizes-in, view}
+use Rattle.model.proofs.Kept.{KeptMember, KeptView, KeptOffice, message-seen, step-is-sound, ended-kept}
 use Rattle.model.proofs.Invariant.{ProposalMade, MemberHolds, Invariant}
 use Rattle.model.proofs.Events.{holds}
 use Rattle.model.proofs.Demanded.{all-ok}
@@ -45,7 +46,8 @@ step-numbers = OK ∷ ROUND-RANGE ∷ NOT-LEADER ∷ NOT-ABOVE-LED ∷ MOVED-PAS
 -- and the rows event and last
 abbrev pub event-numbers : List ℕ
 event-numbers =
-    OK ∷ ROUND-RANGE ∷ NO-FREE-ROW ∷ NOT-LEADER ∷ NOT-ABOVE-LED ∷ MOVED-PAST ∷ NOT-AWAITED ∷ COUNTED-ALREADY ∷ NO-MEMBER-OR-MESSAGE ∷ STORE-FULL ∷ []
+    OK ∷ ROUND-RANGE ∷ NO-FREE-ROW ∷ NOT-LEADER ∷ NOT-ABOVE-LED ∷ MOVED-PAST ∷ NOT-AWAITED ∷ COUNTED-ALREADY ∷ NO-MEMBER-OR-MESSAGE ∷ STORE-FULL ∷
+    WRONG-SLOT ∷ []
 
 among : (k : ℕ) (l : List ℕ) → any (eqb k) l ≡ true → k ∈ l
 among k l h = any-elim (eqb k) l h (λ a i e. rw (eqb-true k a e) i)
@@ -85,7 +87,8 @@ abbrev last-causes : Sizes → Office → Event → List Cause
 last-causes z o e =
     no-store-row z o e gives STORE-FULL ∷ no-table-row z o e gives NO-FREE-ROW ∷ []
 
-module _ (z : Sizes) (o : Office) (offers : List ℕ) (K : KeptOffice z o) (I : Invariant z o offers) where
+-- of one slot
+module _ (z : SlotSizes) (o : SlotView) (offers : List ℕ) (K : KeptView z o) (I : Invariant z o offers) where
   -- a message from the leader of its round
   led : (t : ℕ) (m : MemberState) (M : KeptMember z t m) (r : Round) (s : Member) → r .0 % z .n ≡ s .0 → not (leads (m .who .n) s r) ≡ true → ⊥
   led t m M r s h e = let l : leads (m .who .n) s r ≡ true = rw (M .size) (eq-eqb (r .0 % z .n) (s .0) h) in clash e (rw l refl)
@@ -115,8 +118,8 @@ module _ (z : Sizes) (o : Office) (offers : List ℕ) (K : KeptOffice z o) (I : 
       first-has (λ k. k ∈ step-numbers) (count-causes phase m r s) (among OK step-numbers refl)
       (λ e. absurd (omega (tests, M .size)), (λ e. among NOT-AWAITED step-numbers refl, (λ e. among COUNTED-ALREADY step-numbers refl, tt)))
 
-  message-numbers : (t : ℕ) (m : MemberState) → KeptMember z t m → MemberHolds (z .n) (o .sent) (o .made) offers t m →
-      (g : Message) → g ∈ o .sent → first (step-causes m (delivers g)) ∈ step-numbers
+  pub message-numbers : (t : ℕ) (m : MemberState) → KeptMember z t m → MemberHolds (z .n) (o .sent) (o .made) offers t m →
+      (g : Body) → g ∈ o .sent → first (step-causes m (delivers g)) ∈ step-numbers
   unfolding step-causes
   message-numbers t m M S (Start r s) i =
       first-has (λ k. k ∈ step-numbers) (START-causes m r s) (among OK step-numbers refl)
@@ -133,45 +136,66 @@ module _ (z : Sizes) (o : Office) (offers : List ℕ) (K : KeptOffice z o) (I : 
       )
   message-numbers t m M S (Vote r s) i = count-numbers t m M PROPOSED r s (K .senders (Vote r s) i)
 
-  -- the member's own number for an event of a member and of a message sent
-  own-number : (e : Event) → at-member e < z .n → unsent o e ≡ false → first (step-causes (member-at z o (at-member e)) (event-of o e)) ∈ step-numbers
+-- of all
+module _ (z : Sizes) (o : Office) (offers : ℕ → List ℕ) (K : KeptOffice z o)
+    (I : (s : ℕ) → s < SLOTS → Invariant (sizes-in z s) (view o s) (offers s)) where
+  -- the member's own number for an event of a member and of a message of its slot
+  own-number : (s : ℕ) (d : SlotEvent) → s < SLOTS → at-member d < z .n → unsent o d ≡ false → foreign o s d ≡ false →
+      first (step-causes (member-at z o s (at-member d)) (event-of o d)) ∈ step-numbers
   unfolding step-causes
-  own-number (start k r x) l h =
-      first-has (λ k. k ∈ step-numbers) (start-call-causes (member-at z o k) (round-number r)) (among OK step-numbers refl)
+  own-number s (start k r x) low l h f =
+      first-has (λ k. k ∈ step-numbers) (start-call-causes (member-at z o s k) (round-number r)) (among OK step-numbers refl)
       (λ e. among ROUND-RANGE step-numbers refl, (λ e. among NOT-LEADER step-numbers refl, (λ e. among NOT-ABOVE-LED step-numbers refl, tt)))
-  own-number (deliver j k) l h =
-      message-numbers k (member-at z o k) (K .each k l) (I .members k l) (message-at o j) (message-in o j k h)
+  own-number s (deliver j k) low l h f =
+      let seen = K .views s low in
+      message-numbers (sizes-in z s) (view o s) (offers s) seen (I s low) k (member-at z o s k) (seen .each k l) (I s low .members k l)
+      (message-at o j .body) (message-seen o s j k h f)
 
-  -- the number of its member's step, where 29 isn't given
-  step-numbered : (e : Event) → absent z o e ≡ false → event-outcome z o e .number ∈ step-numbers
-  step-numbered e h =
-      let low : at-member e < z .n = omega (tests, or-left (leb (z .n) (at-member e)) (unsent o e) h) in
-      let sent : unsent o e ≡ false = or-right (leb (z .n) (at-member e)) (unsent o e) h in
-      let same = step-is-sound z o (K .ranged) e (K .each (at-member e) low .is-sound) sent in
-      rw (same, step-number (member-at z o (at-member e)) (event-of o e)) (own-number e low sent)
+  -- the number of its member's step, where neither 32 nor 29 is given
+  step-numbered : (e : Event) → no-slot (e .slot) ≡ false → absent z o (e .event) ≡ false → foreign o (e .slot) (e .event) ≡ false →
+      event-outcome z o e .number ∈ step-numbers
+  step-numbered e x h f =
+      let low : e .slot < SLOTS = omega tests in
+      let member : at-member (e .event) < z .n = omega (tests, or-left (leb (z .n) (at-member (e .event))) (unsent o (e .event)) h) in
+      let sent : unsent o (e .event) ≡ false = or-right (leb (z .n) (at-member (e .event))) (unsent o (e .event)) h in
+      let seen = K .views (e .slot) low in
+      let same = step-is-sound z o e (seen .ranged) (seen .each (at-member (e .event)) member .is-sound) sent f in
+      rw (same, step-number (member-at z o (e .slot) (at-member (e .event))) (event-of o (e .event))) (own-number (e .slot) (e .event) low member sent f)
 
   pub answer-numbers : (e : Event) → event-answer z o e ∈ event-numbers
   unfolding event-answer
   answer-numbers e =
-      by-test (absent z o e)
+      by-test (no-slot (e .slot))
+      (λ x. rw x (among WRONG-SLOT event-numbers refl))
+      (λ x. rw x (by-test (absent z o (e .event))
       (λ a. rw a (among NO-MEMBER-OR-MESSAGE event-numbers refl))
-      (λ a. rw a (by-test (eqb (event-outcome z o e .number) OK)
+      (λ a. rw a (by-test (foreign o (e .slot) (e .event))
+      (λ f. rw f (among WRONG-SLOT event-numbers refl))
+      (λ f. rw f (by-test (eqb (event-outcome z o e .number) OK)
       (λ b. rw b (first-has (λ k. k ∈ event-numbers) (last-causes z o e) (among OK event-numbers refl)
       (λ c. among STORE-FULL event-numbers refl, (λ c. among NO-FREE-ROW event-numbers refl, tt))))
-      (λ b. rw b (within step-numbers event-numbers refl (step-numbered e a)))))
+      (λ b. rw b (within step-numbers event-numbers refl (step-numbered e x a f)))))))))
+
+  -- the numbers in front of the row last
+  abbrev front-numbers : List ℕ
+  front-numbers = OK ∷ NO-MEMBER-OR-MESSAGE ∷ WRONG-SLOT ∷ step-numbers
 
   -- a number of the row last is given only by its cause
-  last-number : (e : Event) (k : ℕ) → any (eqb k) (OK ∷ NO-MEMBER-OR-MESSAGE ∷ step-numbers) ≡ false → event-answer z o e ≡ k → first (last-causes z o e) ≡ k
+  last-number : (e : Event) (k : ℕ) → any (eqb k) front-numbers ≡ false → event-answer z o e ≡ k → first (last-causes z o e) ≡ k
   unfolding event-answer
   last-number e k apart h =
-      by-test (absent z o e)
-      (λ a. let q : NO-MEMBER-OR-MESSAGE ≡ k = rw a at h in
-      clash (any-intro (eqb k) (OK ∷ NO-MEMBER-OR-MESSAGE ∷ step-numbers) (there (here refl)) (eq-eqb k NO-MEMBER-OR-MESSAGE (sym q))) apart)
-      (λ a. by-test (eqb (event-outcome z o e .number) OK)
-      (λ b. rw (a, b) at h)
-      (λ b. let q : event-outcome z o e .number ≡ k = rw (a, b) at h in
-      clash (any-intro (eqb k) (OK ∷ NO-MEMBER-OR-MESSAGE ∷ step-numbers) (there (there (step-numbered e a)))
-      (eq-eqb k (event-outcome z o e .number) (sym q))) apart))
+      by-test (no-slot (e .slot))
+      (λ x. other WRONG-SLOT (there (there (here refl))) (rw x at h))
+      (λ x. by-test (absent z o (e .event))
+      (λ a. other NO-MEMBER-OR-MESSAGE (there (here refl)) (rw (x, a) at h))
+      (λ a. by-test (foreign o (e .slot) (e .event))
+      (λ f. other WRONG-SLOT (there (there (here refl))) (rw (x, a, f) at h))
+      (λ f. by-test (eqb (event-outcome z o e .number) OK)
+      (λ b. rw (x, a, f, b) at h)
+      (λ b. other (event-outcome z o e .number) (there (there (there (step-numbered e x a f)))) (rw (x, a, f, b) at h)))))
+    where
+      other : (n : ℕ) → n ∈ front-numbers → n ≡ k → first (last-causes z o e) ≡ k
+      other n i q = clash (any-intro (eqb k) front-numbers i (eq-eqb k n (sym q))) apart
 
   -- 30 is given only where the store is full
   pub thirty-full : (e : Event) → event-answer z o e ≡ STORE-FULL → length (o .sent) ≡ z .store
@@ -183,30 +207,34 @@ module _ (z : Sizes) (o : Office) (offers : List ℕ) (K : KeptOffice z o) (I : 
       (λ d. absurd (omega (arith, rw (c, d) at q)))
       (λ d. absurd (omega (arith, rw (c, d) at q))))
 
-  -- and 9 only where the proposals fill the table
-  pub nine-full : (e : Event) → event-answer z o e ≡ NO-FREE-ROW → z .table ≤ suc (proposals (o .made))
+  -- and 9 only where the proposals of its slot fill the slot's table
+  pub nine-full : (e : Event) → event-answer z o e ≡ NO-FREE-ROW → z .tables (e .slot) ≤ suc (proposals (made-in o (e .slot)))
   nine-full e h =
       let q : first (last-causes z o e) ≡ NO-FREE-ROW = last-number e NO-FREE-ROW refl h in
       by-test (no-store-row z o e)
       (λ c. absurd (omega (arith, rw c at q)))
       (λ c. by-test (no-table-row z o e)
-      (λ d. omega (tests, and-right (proposes-one (event-outcome z o e .named)) (leb (z .table) (suc (proposals (o .made)))) d))
+      (λ d. omega (tests, and-right (proposes-one (event-outcome z o e .named)) (leb (z .tables (e .slot)) (suc (proposals (made-in o (e .slot))))) d))
       (λ d. absurd (omega (arith, rw (c, d) at q))))
 
 module _ (z : Sizes) (es : List Event) (e : Event) (ok : allowed (z .n) ≡ true) where
+  abbrev all-offers : ℕ → List ℕ
+  all-offers s = offered s z (first-office (z .n)) es
+
   -- an event after any list gets one of these numbers
   pub numbers : event-answer z (ended z es) e ∈ event-numbers
-  numbers = answer-numbers z (ended z es) (offered z (first-office (z .n)) es) (ended-kept z es ok) (holds z ok es) e
+  numbers = answer-numbers z (ended z es) all-offers (ended-kept z es ok) (λ s l. holds z ok s l es) e
 
-  -- 30 only where no store row is free, and 9 only where no table row is
+  -- 30 only where no store row is free, and 9 only where no row of its slot's table is
   pub store-is-full : event-answer z (ended z es) e ≡ STORE-FULL → length (ended z es .sent) ≡ z .store
-  store-is-full = thirty-full z (ended z es) (offered z (first-office (z .n)) es) (ended-kept z es ok) (holds z ok es) e
+  store-is-full = thirty-full z (ended z es) all-offers (ended-kept z es ok) (λ s l. holds z ok s l es) e
 
-  pub table-is-full : 0 < z .table → event-answer z (ended z es) e ≡ NO-FREE-ROW → length (made-tree z (ended z es)) ≡ z .table
-  table-is-full rows h =
+  pub table-is-full : e .slot < SLOTS → 0 < z .tables (e .slot) → event-answer z (ended z es) e ≡ NO-FREE-ROW →
+      length (made-tree z (ended z es) (e .slot)) ≡ z .tables (e .slot)
+  table-is-full low rows h =
       omega (
         arith,
-        nodes-counted z (ended z es) (all-ok z es ok rows),
-        holds z ok es .made-so .room rows,
-        nine-full z (ended z es) (offered z (first-office (z .n)) es) (ended-kept z es ok) (holds z ok es) e h,
+        nodes-counted (z .tables (e .slot)) (made-in (ended z es) (e .slot)) (all-ok z es ok (e .slot) low rows),
+        holds z ok (e .slot) low es .made-so .room rows,
+        nine-full z (ended z es) all-offers (ended-kept z es ok) (λ s l. holds z ok s l es) e h,
       )

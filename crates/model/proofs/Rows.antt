@@ -14,8 +14,8 @@ use Rattle.ids.specs.declared.Round.{Round}
 use Rattle.ids.specs.declared.Member.{Member}
 use Rattle.quorum.specs.Quorum.{HasQuorum}
 use Rattle.tree_theory.proofs.Calls.{adds-elim, committed-added}
-use Rattle.message.specs.declared.Message.{Message}
-use Rattle.message.specs.declared.Message.the-variants.{Start, Join, JoinVoted, Propose, Vote}
+use Rattle.message.specs.declared.Body.{Body}
+use Rattle.message.specs.declared.Body.the-variants.{Start, Join, JoinVoted, Propose, Vote}
 use Rattle.member_record.specs.declared.MemberState.{MemberState}
 use Rattle.member_record.specs.Phases.{COLLECTING, PROPOSED}
 use Rattle.member_record.specs.Record.{leads, round-number}
@@ -23,11 +23,12 @@ use Rattle.member_rules.specs.Causes.{start-call-causes, START-causes, PROPOSE-
 use Rattle.member_rules.specs.Changes.{joining, join-of, counting, voting}
 use Rattle.member_rules.proofs.Late.{joined-within, vote-below}
 use Rattle.member.specs.Table.{proposal, decision, silent, start-call-row, START-row, complete, proposes, decides, count-row, PROPOSE-row}
-use Rattle.model.specs.Model.{Sizes, Office, member-number, proposals, proposes-one}
+use Rattle.model.specs.Model.{member-number, proposals, proposes-one}
 use Rattle.model.specs.Demand.{calls}
 use Rattle.model.specs.Joins.{JoinOf}
 use Rattle.model.proofs.Made.{decision-call, call-proposal}
 use Rattle.model.proofs.Senders.{only}
+use Rattle.model.proofs.View.{SlotSizes, SlotView}
 use Rattle.model.proofs.Kept.{KeptMember, vote-lower}
 use Rattle.model.proofs.Invariant.{join-quorum, vote-quorum, carried, Joined, Voted, Reached, Leading, MemberHolds, FromLeader, Backed}
 use Rattle.model.proofs.Invariant.{Invariant}
@@ -35,7 +36,7 @@ use Rattle.model.proofs.Grows.{join-sender, join-reached, added-grows, 
 use Rattle.model.proofs.Meeting.{Pasts, proposes-so, decides-so}
 use Rattle.model.proofs.Counts.{Counts, counts-of, flag-set, no-flag, flagged-quorum, with-led, spoken-new, spoken-quiet}
 
-module _ (z : Sizes) (o : Office) (offers : List ℕ) (I : Invariant z o offers) (t : ℕ) (m : MemberState) (M : KeptMember z t m)
+module _ (z : SlotSizes) (o : SlotView) (offers : List ℕ) (I : Invariant z o offers) (t : ℕ) (m : MemberState) (M : KeptMember z t m)
     (S : MemberHolds (z .n) (o .sent) (o .made) offers t m) where
   -- the member leads a round that passed 19
   own-lead : (r : Round) → not (leads (m .who .n) (m .who .me) r) ≡ false → r .0 % z .n ≡ t
@@ -47,7 +48,7 @@ module _ (z : Sizes) (o : Office) (offers : List ℕ) (I : Invariant z o offers)
   own-number = ap (λ s. s .0) (M .number)
 
   -- the leader's part, while only messages and offers are new
-  leading-calm : (gs : List Message) (xs : List ℕ) →
+  leading-calm : (gs : List Body) (xs : List ℕ) →
       Leading (z .n) (o .sent ++ gs) (o .made ++ []) (offers ++ xs) t (m .durable .led .0) (m .lead .phase) (m .lead .value) (m .lead .source .0)
       (m .lead .flags)
   leading-calm gs xs = leading-grows gs [] xs (λ a i. elim i [ ]) (λ h. counts-of z t m M h .own) (S .leading)
@@ -76,11 +77,11 @@ module _ (z : Sizes) (o : Office) (offers : List ℕ) (I : Invariant z o offers)
   }
 
   -- the JOIN that the member sends
-  abbrev own-join : Round → Message
+  abbrev own-join : Round → Body
   own-join r = join-of (m .who .me) (m .durable) r
 
   -- what holds of a JOIN with the member's vote and of one without
-  of-join : (r : Round) (P : Message → Type 0) → (0 < m .durable .voted .0 → P (JoinVoted r (m .who .me) (m .durable .voted) (m .durable .vote)))
+  of-join : (r : Round) (P : Body → Type 0) → (0 < m .durable .voted .0 → P (JoinVoted r (m .who .me) (m .durable .voted) (m .durable .vote)))
       → (m .durable .voted .0 ≡ 0 → P (Join r (m .who .me))) → P (own-join r)
   of-join r P f g = by-test (ltb 0 (m .durable .voted .0)) (λ h. rw h (f (omega tests))) (λ h. rw h (g (omega tests)))
 
@@ -114,7 +115,7 @@ module _ (z : Sizes) (o : Office) (offers : List ℕ) (I : Invariant z o offers)
       unvoted = vote-below m r early (vote-lower z t m M)
 
       -- the JOIN sent is of r
-      of-round : (g : Message) (k : ℕ) → g ∈ own-join r ∷ [] → JoinOf k t g → k ≡ r .0
+      of-round : (g : Body) (k : ℕ) → g ∈ own-join r ∷ [] → JoinOf k t g → k ≡ r .0
       of-round g k =
           only (λ x. JoinOf k t x → k ≡ r .0) (own-join r) (of-join r (λ x. JoinOf k t x → k ≡ r .0) (λ v q. sym (q .0)) (λ v q. sym (q .0))) g
 
@@ -122,7 +123,7 @@ module _ (z : Sizes) (o : Office) (offers : List ℕ) (I : Invariant z o offers)
       own = ap (λ s. join-of s (m .durable) r) (M .number)
 
       -- a JOIN of r sent before: START was repeated, and V and W are as they were
-      first-told : (g : Message) → g ∈ o .sent → JoinOf (r .0) t g → g ≡ join-of (member-number t) (m .durable) r
+      first-told : (g : Body) → g ∈ o .sent → JoinOf (r .0) t g → g ≡ join-of (member-number t) (m .durable) r
       first-told g i j =
           let at-most : r .0 ≤ m .durable .joined .0 = join-reached (r .0) t (m .durable) g j (S .spoken .reached g i (join-sender (r .0) t g j)) in
           let e : r .0 ≡ m .durable .joined .0 = omega (arith, up) in
@@ -161,11 +162,11 @@ module _ (z : Sizes) (o : Office) (offers : List ℕ) (I : Invariant z o offers)
         made-so = made-calm (Vote r (m .who .me) ∷ []) [] (I .made-so);
       }
     where
-      no-join-sent : (g : Message) (k : ℕ) → g ∈ Vote r (m .who .me) ∷ [] → JoinOf k t g → ⊥
+      no-join-sent : (g : Body) (k : ℕ) → g ∈ Vote r (m .who .me) ∷ [] → JoinOf k t g → ⊥
       no-join-sent g k = only (λ x. JoinOf k t x → ⊥) (Vote r (m .who .me)) (λ x. x) g
 
 -- JOINs and VOTEs counted; k is the member's record once the JOIN's vote is taken over
-module _ (z : Sizes) (o : Office) (offers : List ℕ) (I : Invariant z o offers) (meets : z .n < join-quorum (z .n) + vote-quorum (z .n))
+module _ (z : SlotSizes) (o : SlotView) (offers : List ℕ) (I : Invariant z o offers) (meets : z .n < join-quorum (z .n) + vote-quorum (z .n))
     (t : ℕ) (k : MemberState) (C : Counts z t k) (S : MemberHolds (z .n) (o .sent) (o .made) offers t k) (s : Member) (low : s .0 < z .n) where
   pasts : Pasts (z .n) (o .sent)
   pasts i l = I .members i l .spoken .past

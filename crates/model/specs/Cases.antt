@@ -1,12 +1,13 @@
--- The cases P1 to P12 of 01, "Cases from the rig", and the single statement about the list of them.
+-- The cases P1 to P12 of 01, "Cases from the rig", and the single statement about the list of them. The words of P12 have a 0 in front (02, ticket 6).
 use mathlib.Core.Path.{_≡_}
 use mathlib.Core.Bool.{true}
 use mathlib.Core.List.{List, [], _∷_, _++_, map}
 use Prim.Native.Nat.{ℕ}
 use Prim.Native.String.{String}
+use Rattle.ids.specs.Ranges.{no-slot}
 use Rattle.tree_theory.specs.Machine.{Call, add, commit, Node, fresh, after, answers}
 use Rattle.xdr.specs.Items.{integer, encoded}
-use Rattle.message.specs.declared.Message.the-variants.{Join}
+use Rattle.message.specs.declared.Body.the-variants.{Join}
 use Rattle.message.specs.declared.Read.{Read}
 use Rattle.message.specs.declared.Read.the-variants.{Got, Refused}
 use Rattle.message.specs.Reading.{reading}
@@ -33,7 +34,8 @@ cases =
     called "P9" 64 (commit 0 ∷ commit 1 ∷ []) (3 ∷ 10 ∷ []) ((0, 3) ∷ []) ∷
     called "P10" 1 (add 1 5 0 ∷ []) (9 ∷ []) ((0, 3) ∷ []) ∷
     called "P11" 64 (add 1000000 0 0 ∷ add 1000001 0 0 ∷ []) (0 ∷ 3 ∷ []) ((0, 3) ∷ (1000000, 1) ∷ []) ∷
-    spelled "P12" ((2 ∷ 5 ∷ 0 ∷ []) ∷ (2 ∷ 5 ∷ 0 ∷ 0 ∷ []) ∷ []) (Refused 14 ∷ Got (Join (record { 0 = 5 }) (record { 0 = 0 })) ∷ []) ∷ []
+    spelled "P12" ((0 ∷ 2 ∷ 5 ∷ 0 ∷ []) ∷ (0 ∷ 2 ∷ 5 ∷ 0 ∷ 0 ∷ []) ∷ [])
+    (Refused 14 ∷ Got (record { slot = record { 0 = 0 }; body = Join (record { 0 = 5 }) (record { 0 = 0 }) }) ∷ []) ∷ []
 
 abbrev pub round-and-status : Node → ℕ × ℕ
 round-and-status n = (n .round, n .status)
@@ -46,7 +48,7 @@ bytes-of-words ws = encoded (map integer ws)
 abbrev pub Meets : Case → Type 0
 Meets (called label rows calls given left) =
     _≡_ {A = List ℕ × List (ℕ × ℕ)} (answers true rows fresh calls, map round-and-status (after true rows fresh calls)) (given, left)
-Meets (spelled label words given) = map (λ ws. reading (bytes-of-words ws)) words ≡ given
+Meets (spelled label words given) = map (λ ws. reading no-slot (bytes-of-words ws)) words ≡ given
 
 -- and so is each case of a list
 abbrev pub AllMet : List Case → Type 0

@@ -1,30 +1,40 @@
--- The tree that the proposals and decisions made leave, and what play's result counts (01, "For the reviewer"): accepted is the zeros
--- among the answers, messages the rows used, proposals the nodes less the root, decisions the COMMITTED less the root. And how many rounds were made
--- GHOST (02, ticket 3).
+-- The trees that the proposals and decisions made leave, and what play's result counts (01, "For the reviewer"), over all slots (02, ticket 6): accepted is
+-- the zeros among the answers, messages the rows used, proposals the nodes less the roots, decisions the COMMITTED less the roots. And how many rounds were
+-- made GHOST (02, ticket 3).
 use mathlib.Core.Bool.{true, cond}
 use mathlib.Core.List.{List, [], _∷_}
-use Prim.Native.Nat.{ℕ, suc}
+use Prim.Native.Nat.{ℕ, zero, suc, _+_}
 use lib.Dec.{eqb}
+use Rattle.ids.specs.Ranges.{SLOTS}
 use Rattle.numbers.specs.Numbers.{OK}
 use Rattle.laws.specs.Lists.{how-many}
 use Rattle.tree_theory.specs.Machine.{Node, COMMITTED, has-status, fresh}
 use Rattle.tree_theory.specs.Ghosts.{ghosts-made, ghosts-born, over-adds}
 use Rattle.tree_theory.specs.Machine.{after as after-calls}
 use Rattle.member.specs.Table.{Named, nothing, proposal, decision}
-use Rattle.model.specs.Model.{Sizes, Office, Event, event-answer, next}
+use Rattle.model.specs.Model.{Sizes, Office, Event, made-in, event-answer, next}
 use Rattle.model.specs.Demand.{calls}
 
--- the tree of an office: its proposals and decisions, in the order made, from a fresh table of the rows lent
-abbrev pub made-tree : Sizes → Office → List Node
-made-tree z o = after-calls true (z .table) fresh (calls (o .made))
+-- the tree of slot s: its proposals and decisions, in the order made, from a fresh table of the rows lent
+abbrev pub made-tree : Sizes → Office → ℕ → List Node
+made-tree z o s = after-calls true (z .tables s) fresh (calls (made-in o s))
 
 -- how many rounds its proposals made GHOST, from the tables before and after each (02, ticket 3)
-abbrev pub made-ghosts : Sizes → Office → ℕ
-made-ghosts z o = over-adds ghosts-made true (z .table) fresh (calls (o .made))
+abbrev pub made-ghosts : Sizes → Office → ℕ → ℕ
+made-ghosts z o s = over-adds ghosts-made true (z .tables s) fresh (calls (made-in o s))
 
 -- and how many were born so
-abbrev pub born-ghosts : Sizes → Office → ℕ
-born-ghosts z o = over-adds ghosts-born true (z .table) fresh (calls (o .made))
+abbrev pub born-ghosts : Sizes → Office → ℕ → ℕ
+born-ghosts z o s = over-adds ghosts-born true (z .tables s) fresh (calls (made-in o s))
+
+-- the sum over the slots below k
+unfoldable pub sum-below : (ℕ → ℕ) → ℕ → ℕ
+sum-below f zero = 0
+sum-below f (suc k) = sum-below f k + f k
+
+-- over all slots
+abbrev pub over-slots : (ℕ → ℕ) → ℕ
+over-slots f = sum-below f SLOTS
 
 -- how many decisions a sequence has
 unfoldable pub decisions : List Named → ℕ

@@ -1,19 +1,24 @@
--- The JOINs of one member for one round (02, Ticket 2).
+-- The JOINs of one member for one round (02, tickets 2 and 6).
 use mathlib.Core.Path.{_≡_}
 use mathlib.Core.List.{List}
 use Prim.Native.Nat.{ℕ}
 use Rattle.laws.specs.Lists.{_∈_}
 use Rattle.message.specs.declared.Message.{Message}
-use Rattle.message.specs.declared.Message.the-variants.{Start, Join, JoinVoted, Propose, Vote}
+use Rattle.message.specs.declared.Body.{Body}
+use Rattle.message.specs.declared.Body.the-variants.{Start, Join, JoinVoted, Propose, Vote}
 
--- a JOIN of round r by s, with or without a vote
-abbrev pub JoinOf : ℕ → ℕ → Message → Type 0
-JoinOf r s (Start r₁ s₁) = ⊥
-JoinOf r s (Join r₁ s₁) = (r₁ .0 ≡ r) × (s₁ .0 ≡ s)
-JoinOf r s (JoinVoted r₁ s₁ q w) = (r₁ .0 ≡ r) × (s₁ .0 ≡ s)
-JoinOf r s (Propose r₁ s₁ v) = ⊥
-JoinOf r s (Vote r₁ s₁) = ⊥
+-- a JOIN of round r by member m, with or without a vote
+abbrev pub JoinOf : ℕ → ℕ → Body → Type 0
+JoinOf r m (Start r₁ m₁) = ⊥
+JoinOf r m (Join r₁ m₁) = (r₁ .0 ≡ r) × (m₁ .0 ≡ m)
+JoinOf r m (JoinVoted r₁ m₁ q w) = (r₁ .0 ≡ r) × (m₁ .0 ≡ m)
+JoinOf r m (Propose r₁ m₁ v) = ⊥
+JoinOf r m (Vote r₁ m₁) = ⊥
 
--- however often START was repeated, they are equal
+-- a JOIN in slot s
+abbrev pub JoinIn : ℕ → ℕ → ℕ → Message → Type 0
+JoinIn s r m g = (g .slot .0 ≡ s) × JoinOf r m (g .body)
+
+-- however often START was repeated, those of one slot are equal
 abbrev pub SameJoins : List Message → Type 0
-SameJoins sent = (r s : ℕ) (g h : Message) → g ∈ sent → h ∈ sent → JoinOf r s g → JoinOf r s h → g ≡ h
+SameJoins sent = (s r m : ℕ) (g h : Message) → g ∈ sent → h ∈ sent → JoinIn s r m g → JoinIn s r m h → g ≡ h
