@@ -1,13 +1,13 @@
--- What a message sent, a proposal and a decision do to the tally, the store and the table, and when they are refused with 30 and 9.
+-- What a message sent, a proposal and a decision do to the tally, the store and the slot's table, and when they are refused with 30 and 9.
 use mathlib.Core.Path.{_≡_}
-use mathlib.Core.Bool.{Bool, true, cond}
+use mathlib.Core.Bool.{Bool, true, cond, not}
 use mathlib.Core.List.{List, [], _∷_}
-use Prim.Native.Nat.{ℕ, _+_, _<_}
+use Prim.Native.Nat.{ℕ, _+_, _-_, _<_}
 use lib.Dec.{eqb}
 use Rattle.laws.specs.First.{Cause, first, _gives_}
 use Rattle.numbers.specs.Numbers.{OK, NO-FREE-ROW, STORE-FULL, no-row-left}
-use Rattle.tree_theory.specs.Machine.{Call}
-use Rattle.tree_theory.specs.Table.{rows}
+use Rattle.tree_theory.specs.Machine.{Call, FREE}
+use Rattle.tree_theory.specs.Table.{row, rows}
 use Rattle.tree_theory.specs.Ghosts.{stepped-ghosts}
 use Rattle.message.specs.declared.Message.{Message}
 use Rattle.tree.specs.Promises.{stepped-table}
@@ -16,7 +16,7 @@ use Rattle.play_effects.specs.declared.Tally.{Tally}
 use Rattle.play_effects.specs.declared.EventEffect.{EventEffect}
 use Rattle.play_effects.specs.Memory.{Memory}
 
--- the counts of an office that play works: no store or table has as many rows
+-- the counts of an office that play works, over all slots: no store has as many rows, nor have all tables together
 pub record CountsFit (t : Tally) : Type 0 where
   pub sent : t .sent < 4000
   pub proposals : t .proposals < 4000
@@ -39,9 +39,9 @@ accepted-event t = record { tally = t; number = OK }
 abbrev pub no-room-to-send : Tally → List ℕ → Bool
 no-room-to-send t store = no-row-left (store-rows store) (t .sent)
 
--- there are as many proposals as table rows beside the root
-abbrev pub no-room-to-propose : Tally → List ℕ → Bool
-no-room-to-propose t ws = no-row-left (rows ws) (t .proposals + 1)
+-- the last row of the slot's table isn't free: nodes stand in order of adding, so then none is
+abbrev pub no-room-to-propose : List ℕ → Bool
+no-room-to-propose ws = not (eqb (row ws (rows ws - 1) .status) FREE)
 
 -- a step that sends g; the table isn't lent to it
 pub record SendEffect (t : Tally) (g : Message) (store : List ℕ) (w : EventEffect) (store′ : List ℕ) : Type 0 where
@@ -52,7 +52,7 @@ pub record SendEffect (t : Tally) (g : Message) (store : List ℕ) (w : EventEff
 abbrev pub proposal-causes : Tally → Memory → List Cause
 proposal-causes t M =
     no-room-to-send t (M .store) gives STORE-FULL ∷
-    no-room-to-propose t (M .table) gives NO-FREE-ROW ∷ []
+    no-room-to-propose (M .table) gives NO-FREE-ROW ∷ []
 
 abbrev pub proposal-number : Tally → Memory → ℕ
 proposal-number t M = first (proposal-causes t M)

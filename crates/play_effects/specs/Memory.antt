@@ -1,4 +1,4 @@
--- What a step may write of what play is lent: the store, which all share, and the table.
+-- What a step may write of what play is lent: the store, which all slots share, and the table of its slot.
 use mathlib.Core.List.{List}
 use Prim.Native.Nat.{ℕ}
 

@@ -1,4 +1,4 @@
-// What the answer of a member's step does to the store, to the table and to what an office counts (01, "Play"): a message goes behind the
+// What the answer of a member's step does to the store, to the table of its slot and to what an office counts (01, "Play"): a message goes behind the
 // others, a proposal is added to the table, a decision committed.
 use ids::Round;
 use message::Message;
@@ -7,12 +7,12 @@ ghost use mathlib.Core.Bool.{true};
 ghost use Prim.Native.Nat.{_<_, _≤_};
 ghost use Rattle.tree_theory.specs.Machine.{add, commit};
 ghost use Rattle.tree_theory.specs.Table.{sized, Tree};
-ghost use Rattle.message.specs.Fields.{in-range};
+ghost use Rattle.message.specs.Fields.{message-in-range};
 ghost use Rattle.play_effects.specs.Memory.{in-memory};
 ghost use Rattle.play_effects.specs.Effects.{CountsFit, counted, refused-event, no-room-to-send, no-room-to-propose, proposal-number};
 ghost use Rattle.play_effects.specs.Effects.{SendEffect, ProposalEffect, DecisionEffect};
 
-// N, how many messages were sent, proposals and decisions made, and how many rounds the proposals made GHOST.
+// N, and of all slots how many messages were sent, proposals and decisions made, and how many rounds the proposals made GHOST.
 pub struct Tally {
     pub n: u32,
     pub sent: usize,
@@ -55,21 +55,22 @@ fn no_room_to_send(tally: Tally, messages: &[u8]) -> bool
     numbers::no_row_left(messages.len() / play_store::ROW_LENGTH, tally.sent)
 }
 
-// Whether the root and the proposals fill the table.
-fn no_room_to_propose(tally: Tally, nodes: &[u64]) -> bool
-    requires { ⌜ CountsFit tally ⌝ }
-    ensures { λ b. ⌜ b ≡ no-room-to-propose tally (now (nodes .entry)) ⌝ }
+// Whether the last row of the slot's table isn't free: nodes stand in order of adding, so that then none is.
+fn no_room_to_propose(nodes: &[u64]) -> bool
+    requires { ⌜ sized (now nodes) ≡ true ⌝ }
+    ensures { λ b. ⌜ b ≡ no-room-to-propose (now (nodes .entry)) ⌝ }
 {
-    numbers::no_row_left(nodes.len() / 4, tally.proposals + 1)
+    let last = nodes.len() / 4 - 1;
+    tree_table::status_at(nodes, last) != tree_table::FREE
 }
 
 // The number of a proposal, by the row "last" of the place table.
 fn proposal_number(tally: Tally, messages: &[u8], nodes: &[u64]) -> u32
-    requires { ⌜ CountsFit tally ⌝ }
+    requires { ⌜ sized (now nodes) ≡ true ⌝ }
     ensures { λ k. ⌜ k ≡ proposal-number tally (in-memory (now (messages .entry)) (now (nodes .entry))) ⌝ }
 {
     let no_store_row = no_room_to_send(tally, messages);
-    let no_table_row = no_room_to_propose(tally, nodes);
+    let no_table_row = no_room_to_propose(nodes);
     if no_store_row {
         return numbers::STORE_FULL;
     }
@@ -81,7 +82,7 @@ fn proposal_number(tally: Tally, messages: &[u8], nodes: &[u64]) -> u32
 
 // A step that sends g.
 pub fn send(messages: &mut [u8], tally: Tally, g: Message) -> EventEffect
-    requires { ⌜ CountsFit tally × (in-range g ≡ true) ⌝ }
+    requires { ⌜ CountsFit tally × (message-in-range g ≡ true) ⌝ }
     ensures { λ w. ⌜ SendEffect tally g (now (messages .entry)) w (now (messages .exit)) ⌝ }
 {
     if no_room_to_send(tally, messages) {
@@ -104,7 +105,7 @@ pub fn propose(
     value: u64,
     parent: Round,
 ) -> EventEffect
-    requires { ⌜ CountsFit tally × (in-range sent ≡ true) × (sized (now nodes) ≡ true) × Tree true (now nodes) ⌝ }
+    requires { ⌜ CountsFit tally × (message-in-range sent ≡ true) × (sized (now nodes) ≡ true) × Tree true (now nodes) ⌝ }
     ensures { λ w. ⌜ ProposalEffect tally sent (add (round .0) value (parent .0)) (in-memory (now (messages .entry)) (now (nodes .entry))) w
         (in-memory (now (messages .exit)) (now (nodes .exit))) ⌝ }
 {

@@ -47,7 +47,7 @@ due-stands k d s h p =
 pub bytes-left : (n : ℕ) (s : List ℕ) → AllBytes s → AllBytes (drop n s)
 bytes-left n s k b m = k b (rw (take-append-drop n s) at (Memᴰ·append-right (take n s) m))
 
-event-offer : (s : List ℕ) → AllBytes s → SmallOffer (event-at s)
+event-offer : (s : List ℕ) → AllBytes s → SmallOffer (event-at s .event)
 unfolding event-at
 event-offer s k = by-test (eqb (event-kind s) EVENT-START) (λ t. rw t (hyper-at-small _ s k)) (λ t. rw t tt)
 

@@ -52,7 +52,7 @@ module _ (s : List ℕ) where
   pub size-within : event-size s ≤ length s
   size-within = by-size (λ k l e. omega arith) (λ k l e. omega arith) (λ e. omega arith)
 
-  -- where one stands there is room for its first three words, and for the offer of a start
+  -- where one stands there is room for its first four words, and for the offer of a start
   pub room : (event-size s ≡ 0 → ⊥) → DELIVER-BYTES ≤ length s
   room h = by-size (λ k l e. omega arith) (λ k l e. omega arith) (λ e. absurd (h e))
 

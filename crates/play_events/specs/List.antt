@@ -1,4 +1,4 @@
--- The layout of an event list (01, "Play"; XDR): the head, which is N and the event count, then the events.
+-- The layout of an event list (01, "Play"; 02, ticket 6; XDR): the head, which is N and the event count, then the events.
 use mathlib.Core.Bool.{Bool, true, false, cond, _&&_, not}
 use mathlib.Core.List.{List, [], _∷_}
 use Prim.Native.Nat.{ℕ, zero, suc, _+_, _*_}
@@ -24,7 +24,7 @@ head-of list = record { members = members-of list; count = count-of list; begin 
 abbrev pub body : List ℕ → List ℕ
 body list = drop HEAD-BYTES list
 
--- the kinds of events, and how many bytes each takes: kind, member, round, offer; kind, message number, member
+-- the kinds of events, and how many bytes each takes: kind, slot, member, round, offer; kind, slot, message number, member
 abbrev pub EVENT-START : ℕ
 EVENT-START = 1
 
@@ -32,10 +32,10 @@ abbrev pub EVENT-DELIVER : ℕ
 EVENT-DELIVER = 2
 
 abbrev pub START-BYTES : ℕ
-START-BYTES = 20
+START-BYTES = 24
 
 abbrev pub DELIVER-BYTES : ℕ
-DELIVER-BYTES = 12
+DELIVER-BYTES = 16
 
 -- no list has more events
 abbrev pub MOST-EVENTS : ℕ
@@ -45,9 +45,12 @@ MOST-EVENTS = 1000
 abbrev pub LONGEST-LIST : ℕ
 LONGEST-LIST = HEAD-BYTES + START-BYTES * MOST-EVENTS
 
--- the kind that the event at the front has
+-- the kind and the slot that the event at the front has
 abbrev pub event-kind : List ℕ → ℕ
 event-kind s = word-at s 0
+
+abbrev pub event-slot : List ℕ → ℕ
+event-slot s = word-at s 4
 
 -- an event of this kind, of so many bytes, is at the front
 abbrev pub begins-with : ℕ → ℕ → List ℕ → Bool
@@ -57,8 +60,13 @@ begins-with kind bytes s = eqb (event-kind s) kind && leb bytes (length s)
 unfoldable pub event-size : List ℕ → ℕ
 event-size s = cond (begins-with EVENT-START START-BYTES s) START-BYTES (cond (begins-with EVENT-DELIVER DELIVER-BYTES s) DELIVER-BYTES 0)
 
+-- the event at the front, of either kind
 unfoldable pub event-at : List ℕ → Event
-event-at s = cond (eqb (event-kind s) EVENT-START) (start (word-at s 4) (word-at s 8) (hyper-at s 12)) (deliver (word-at s 4) (word-at s 8))
+event-at s =
+    record {
+      slot = event-slot s;
+      event = cond (eqb (event-kind s) EVENT-START) (start (word-at s 8) (word-at s 12) (hyper-at s 16)) (deliver (word-at s 8) (word-at s 12));
+    }
 
 -- what is left from where the event at the front ends
 abbrev pub rest : List ℕ → List ℕ

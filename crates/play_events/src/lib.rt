@@ -1,6 +1,7 @@
-// Event lists (01, "Play"): the head, which is N and the event count, then the events. Both are read here alone.
+// Event lists (01, "Play"; 02, ticket 6): the head, which is N and the event count, then the events. Both are read here alone.
 use ids::Member;
 use ids::Round;
+use ids::Slot;
 ghost use mathlib.Core.Path.{_≡_};
 ghost use Prim.Native.Nat.{_≤_};
 ghost use lib.ListN.{length};
@@ -9,18 +10,20 @@ ghost use Rattle.play_events.specs.Value.{ReadsEvent};
 
 const HEAD_BYTES: usize = 8;
 
-// Where an event's kind stands.
+// Where an event's kind and its slot stand.
 const EVENT_KIND_PLACE: usize = 0;
+
+const EVENT_SLOT_PLACE: usize = 4;
 
 const EVENT_START: u32 = 1;
 
 const EVENT_DELIVER: u32 = 2;
 
-// The bytes of a start: kind, member, round, offer.
-const START_BYTES: usize = 20;
+// The bytes of a start: kind, slot, member, round, offer.
+const START_BYTES: usize = 24;
 
-// The bytes of a delivery: kind, message number, member.
-const DELIVER_BYTES: usize = 12;
+// The bytes of a delivery: kind, slot, message number, member.
+const DELIVER_BYTES: usize = 16;
 
 // No list has more events.
 pub const MOST_EVENTS: usize = 1000;
@@ -35,7 +38,7 @@ pub struct ListHead {
     pub begin: usize,
 }
 
-// An event by value.
+// An event of a slot by value.
 pub enum PlayEvent {
     Start {
         member: Member,
@@ -48,8 +51,9 @@ pub enum PlayEvent {
     },
 }
 
-// An event, and how many bytes it takes.
+// An event's slot, the event, and how many bytes it takes.
 pub struct EventRead {
+    pub slot: Slot,
     pub event: PlayEvent,
     pub size: usize,
 }
@@ -89,20 +93,23 @@ pub fn read_event(rest: &[u8]) -> EventRead
     requires { ⌜ (event-size (now rest) ≡ 0 → ⊥) ⌝ }
     ensures { λ r. ⌜ ReadsEvent (now (rest .entry)) r ⌝ }
 {
+    let slot = xdr::word_at(rest, EVENT_SLOT_PLACE);
     if xdr::word_at(rest, EVENT_KIND_PLACE) == EVENT_START {
         return EventRead {
+            slot: Slot(slot),
             event: PlayEvent::Start {
-                member: Member(xdr::word_at(rest, 4)),
-                round: Round(xdr::word_at(rest, 8)),
-                offer: xdr::hyper_at(rest, 12),
+                member: Member(xdr::word_at(rest, 8)),
+                round: Round(xdr::word_at(rest, 12)),
+                offer: xdr::hyper_at(rest, 16),
             },
             size: START_BYTES,
         };
     }
     EventRead {
+        slot: Slot(slot),
         event: PlayEvent::Deliver {
-            message: xdr::word_at(rest, 4),
-            member: Member(xdr::word_at(rest, 8)),
+            member: Member(xdr::word_at(rest, 12)),
+            message: xdr::word_at(rest, 8),
         },
         size: DELIVER_BYTES,
     }

@@ -11,7 +11,7 @@ use lib.Seq.{take-at, drop-at, drop-drop}
 use Rattle.laws.specs.Lists.{_∈_}
 use Rattle.laws.specs.Elements.{getD-in}
 use Rattle.message.specs.declared.Message.{Message}
-use Rattle.message.specs.Fields.{in-range}
+use Rattle.message.specs.Fields.{message-in-range}
 use Rattle.message.specs.Layout.{bytes, ValueFits}
 use Rattle.message.specs.Reading.{size, decoded}
 use Rattle.message.specs.Writing.{in-front}
@@ -106,7 +106,7 @@ row-stored s gs k d e h = ap (λ (t : List ℕ). row-at t k) e ∙ row-found gs 
 
 -- the message of row k is message k
 pub fetch-stored : (s : List ℕ) (gs : List Message) (k : ℕ) (d : Message) → s ≡ stored (length s) gs → k < length gs →
-    ((g : Message) → g ∈ gs → in-range g ≡ true) → ((g : Message) → g ∈ gs → ValueFits g) → fetched s k ≡ getD gs k d
+    ((g : Message) → g ∈ gs → message-in-range g ≡ true) → ((g : Message) → g ∈ gs → ValueFits (g .body)) → fetched s k ≡ getD gs k d
 unfolding fetched row-with
 fetch-stored s gs k d e h ranged held =
     let g = getD gs k d in

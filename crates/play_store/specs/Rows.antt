@@ -1,4 +1,4 @@
--- The message store (01, "Play"): rows that have room for any message; message k stands at the front of row k, zeros after.
+-- The message store (01, "Play"; 02, ticket 6): rows that have room for any message; message k stands at the front of row k, zeros after.
 use mathlib.Core.Bool.{Bool, _&&_}
 use mathlib.Core.List.{List, [], _∷_, _++_}
 use Prim.Native.Nat.{ℕ, _+_, _-_, _*_, _/_, _%_, _≤_}
@@ -9,7 +9,7 @@ use Rattle.message.specs.Layout.{bytes, longest-message}
 use Rattle.message.specs.Reading.{size, decoded}
 use Rattle.message.specs.Writing.{in-front}
 
--- the bytes of a row: 28
+-- the bytes of a row: 32
 abbrev pub row-length : ℕ
 row-length = longest-message
 

@@ -49,7 +49,7 @@ free : (c : tie.Else1) → number-at (entry (c .before)) ≡ OK
 free c = sym (number-is (c .before)) ∙ c .if1 .left
 
 proposal-number-requires : tie.Need-proposal-number-requires
-proposal-number-requires c κs = c .before .before .before .before .pre .0
+proposal-number-requires c κs = c .before .before .before .before .pre .2
 
 refused-event-requires : tie.Need-refused-event-requires
 refused-event-requires c κs = search needs
