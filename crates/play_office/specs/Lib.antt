@@ -1,2 +1,2 @@
--- How an office by value, the store and the table represent the model.
+-- How records by value, the store and the tables represent the model.
 pub mod Represents

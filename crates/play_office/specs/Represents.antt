@@ -1,111 +1,160 @@
--- How an office by value, the store and the table represent a state of the model, and what a step of an event has before and after it.
+-- How records by value, the store and the tables represent a state of the model, and what a step of an event has before and after it.
 use mathlib.Core.Path.{_≡_}
-use mathlib.Core.Bool.{true, false, cond}
-use mathlib.Core.List.{List}
-use Prim.Native.Nat.{ℕ, _<_}
-use lib.ListN.{length, getD, set, take}
-use lib.Dec.{ltb, eqb}
-use Rattle.numbers.specs.Numbers.{OK, NO-MEMBER-OR-MESSAGE}
+use mathlib.Core.Bool.{true, false, cond, _&&_, not}
+use mathlib.Core.List.{List, [], _∷_}
+use Prim.Native.Nat.{ℕ, _+_, _*_, _%_, _<_}
+use lib.ListN.{length, getD, set}
+use lib.Dec.{ltb, leb, eqb}
+use Rattle.laws.specs.First.{Cause, _gives_}
+use Rattle.ids.specs.declared.Slot.{Slot}
+use Rattle.ids.specs.Ranges.{SLOTS, no-slot}
+use Rattle.numbers.specs.Numbers.{OK, NO-MEMBER-OR-MESSAGE, WRONG-SLOT}
 use Rattle.tree_theory.specs.Table.{rows, sized, table}
 use Rattle.message.specs.declared.Message.{Message}
 use Rattle.member_record.specs.declared.MemberState.{MemberState}
-use Rattle.member_record.specs.Record.{allowed}
+use Rattle.member_record.specs.Record.{allowed, fresh-record, slot-number}
 use Rattle.member.specs.declared.StepAnswer.{StepAnswer}
 use Rattle.member.specs.declared.StepAnswer.the-variants.{Refused, Sent, Done, Proposed, Decided}
 use Rattle.member.specs.declared.MemberStep.{MemberStep}
 use Rattle.member.specs.Answers.{answer-outcome}
 use Rattle.member.specs.Table.{Outcome}
-use Rattle.model.specs.Model.{Sizes, Event, Office, fresh-members, event-answer, next, event-outcome, at-member, unsent, proposals}
-use Rattle.model.specs.Counts.{made-tree, made-ghosts, decisions}
+use Rattle.model.specs.Model.{Sizes, Event, Office, member-number, made-in, member-at, event-answer, next, event-outcome, at-member, unsent, foreign, proposals}
+use Rattle.model.specs.Counts.{made-tree, made-ghosts, decisions, over-slots}
 use Rattle.model.specs.Sound.{SoundOffice}
 use Rattle.play_store.specs.Rows.{store-rows, store-sized, stored}
 use Rattle.play_effects.specs.declared.EventEffect.{EventEffect}
 use Rattle.play_effects.specs.declared.Tally.{Tally}
-use Rattle.play_effects.specs.Memory.{Memory, in-memory}
-use Rattle.play_office.specs.declared.PlayedOffice.{PlayedOffice}
+use Rattle.play_effects.specs.Memory.{Memory}
+use Rattle.play_office.specs.declared.HeldLead.{HeldLead}
+use Rattle.play_office.specs.declared.HeldRounds.{HeldRounds}
 
--- the office at first; its array has seven records
-unfoldable pub fresh-office : ℕ → PlayedOffice
-unfolding fresh-members
-fresh-office n = record { tally = record { n = n; sent = 0; proposals = 0; decisions = 0; ghosts = 0 }; members = fresh-members n 0 7 }
+-- seven records for each slot
+abbrev pub RECORDS : ℕ
+RECORDS = 7 * SLOTS
 
--- the place of a member's record; a number above 6 has none, and takes the first
-abbrev pub place-of : ℕ → ℕ
-place-of k = cond (ltb k 7) k 0
+-- what is held of a member's record: all but who it is, which the event says
+pub record HeldRecord : Type 0 where
+  pub rounds : HeldRounds
+  pub lead : HeldLead
 
--- record i is m
-pub record RecordAt (ms : List MemberState) (i : ℕ) (m : MemberState) : Type 0 where
-  pub within : i < length ms
-  pub is : (d : MemberState) → getD ms i d ≡ m
+-- its rounds and its vote
+abbrev pub rounds-of : MemberState → HeldRounds
+rounds-of m =
+    record {
+      joined = m .durable .joined;
+      voted = m .durable .voted;
+      vote = m .durable .vote;
+      led = m .durable .led;
+      source = m .lead .source;
+    }
+
+-- its value to propose, its flags, and its phase, which in a sound record is at most 3: a byte holds it
+abbrev pub lead-of : MemberState → HeldLead
+lead-of m = record { value = m .lead .value; flags = m .lead .flags; phase = m .lead .phase % 256 }
+
+abbrev pub held-of : MemberState → HeldRecord
+held-of m = record { rounds = rounds-of m; lead = lead-of m }
+
+-- at first zeros, as of any fresh record
+abbrev pub no-record : HeldRecord
+no-record = held-of (fresh-record (slot-number 0) (member-number 0) 0)
+
+-- the record of an event's member, by what is held of it
+abbrev pub event-record : ℕ → Event → HeldRecord → MemberState
+event-record n e h =
+    record {
+      who = record { slot = slot-number (e .slot); me = member-number (at-member (e .event)); n = n };
+      durable = record { joined = h .rounds .joined; voted = h .rounds .voted; vote = h .rounds .vote; led = h .rounds .led };
+      lead = record { phase = h .lead .phase; source = h .rounds .source; value = h .lead .value; flags = h .lead .flags };
+    }
+
+-- nothing sent and nothing made
+abbrev pub fresh-tally : ℕ → Tally
+fresh-tally n = record { n = n; sent = 0; proposals = 0; decisions = 0; ghosts = 0 }
+
+-- the place of the record of member k of slot s; there is none above slot 7 or member 6, and the first stands in
+abbrev pub place-of : ℕ → ℕ → ℕ
+place-of s k = cond (not (no-slot s) && ltb k 7) (7 * s + k) 0
+
+abbrev pub event-place : Event → ℕ
+event-place e = place-of (e .slot) (at-member (e .event))
+
+-- the slot whose table is lent for an event; there is none above slot 7, and the first stands in
+abbrev pub table-slot : ℕ → ℕ
+table-slot s = cond (no-slot s) 0 s
+
+-- member k of slot s has the record m
+pub record HeldAt (ms : List HeldRecord) (s k : ℕ) (m : MemberState) : Type 0 where
+  pub within : 7 * s + k < length ms
+  pub is : (d : HeldRecord) → getD ms (7 * s + k) d ≡ held-of m
 
 -- the sizes of what is lent are those of the model, and allowed
-pub record MemorySizes (z : Sizes) (M : Memory) : Type 0 where
+pub record MemorySizes (z : Sizes) (store : List ℕ) (tables : ℕ → List ℕ) : Type 0 where
   pub allowed-size : allowed (z .n) ≡ true
-  pub store-length : store-sized (M .store) ≡ true
-  pub store-is : z .store ≡ store-rows (M .store)
-  pub table-length : sized (M .table) ≡ true
-  pub table-is : z .table ≡ rows (M .table)
+  pub store-length : store-sized store ≡ true
+  pub store-is : z .store ≡ store-rows store
+  pub table-length : (s : ℕ) → s < SLOTS → sized (tables s) ≡ true
+  pub table-is : (s : ℕ) → s < SLOTS → z .tables s ≡ rows (tables s)
 
 -- the shared store and its count represent the messages sent
 pub record RepresentsStore (sent : List Message) (count : ℕ) (store : List ℕ) : Type 0 where
   pub sent-count : count ≡ length sent
   pub messages : store ≡ stored (length store) sent
 
--- an array of members, their counts and a table represent the members and what they made
-pub record RepresentsSlot (z : Sizes) (o : Office) (t : Tally) (ms : List MemberState) (ws : List ℕ) : Type 0 where
+-- the records and the table of slot s represent its members and what they made
+pub record RepresentsSlot (z : Sizes) (o : Office) (s : ℕ) (ms : List HeldRecord) (ws : List ℕ) : Type 0 where
+  pub members : (k : ℕ) → k < z .n → HeldAt ms s k (member-at z o s k)
+  pub nodes-are : ws ≡ table (length ws) (made-tree z o s)
+
+-- records, counts, store and tables represent the state o
+pub record Represents (z : Sizes) (o : Office) (t : Tally) (ms : List HeldRecord) (store : List ℕ) (tables : ℕ → List ℕ) : Type 0 where
   pub size : t .n ≡ z .n
-  pub seven : length ms ≡ 7
-  pub members : take (z .n) ms ≡ o .members
-  pub proposed : t .proposals ≡ proposals (o .made)
-  pub decided : t .decisions ≡ decisions (o .made)
-  pub struck : t .ghosts ≡ made-ghosts z o
-  pub nodes-are : ws ≡ table (length ws) (made-tree z o)
+  pub places : length ms ≡ RECORDS
+  pub shared : RepresentsStore (o .sent) (t .sent) store
+  pub slots : (s : ℕ) → s < SLOTS → RepresentsSlot z o s ms (tables s)
+  -- the counts run over all slots
+  pub proposed : t .proposals ≡ over-slots (λ s. proposals (made-in o s))
+  pub decided : t .decisions ≡ over-slots (λ s. decisions (made-in o s))
+  pub struck : t .ghosts ≡ over-slots (made-ghosts z o)
 
--- the memory represents the state o
-pub record Represents (z : Sizes) (o : Office) (t : Tally) (ms : List MemberState) (M : Memory) : Type 0 where
-  pub shared : RepresentsStore (o .sent) (t .sent) (M .store)
-  pub slot : RepresentsSlot z o t ms (M .table)
-
--- before a step: the memory represents some state that a step may start from
-pub record StepBefore (t : Tally) (M : Memory) : Type 0 where
+-- before a step: store and tables represent some state that a step may start from
+pub record StepBefore (t : Tally) (store : List ℕ) : Type 0 where
   pub z : Sizes
   pub o : Office
-  pub members : List MemberState
-  pub sizes : MemorySizes z M
+  pub members : List HeldRecord
+  pub tables : ℕ → List ℕ
+  pub sizes : MemorySizes z store tables
   pub sound : SoundOffice z o
-  pub represents : Represents z o t members M
+  pub represents : Represents z o t members store tables
 
--- what an event leaves: the member's record, the tally, its number
-pub record AfterEvent : Type 0 where
-  pub state : MemberState
-  pub tally : Tally
-  pub number : ℕ
+-- the tables with that of slot s written over; any other is what it was
+abbrev pub tables-with : (ℕ → List ℕ) → ℕ → List ℕ → ℕ → List ℕ
+tables-with tables s ws u = cond (eqb u s) ws (tables u)
 
--- a refused event leaves the record m, an accepted one has taken the step to m′
-abbrev pub after-event : MemberState → MemberState → EventEffect → AfterEvent
-after-event m m′ w = record { state = cond (eqb (w .number) OK) m′ m; tally = w .tally; number = w .number }
+-- the records after an event at place i: a refused one leaves them, an accepted one has taken the step to m
+abbrev pub records-after : List HeldRecord → ℕ → MemberState → ℕ → List HeldRecord
+records-after ms i m number = cond (eqb number OK) (set ms i (held-of m)) ms
 
--- after the step of the event e at the record of place i: the model's number, and the memory represents the model's next state
-pub record StepAfter {t : Tally} {M : Memory} (B : StepBefore t M) (e : Event) (i : ℕ) (w : AfterEvent) (M′ : Memory) : Type 0 where
+-- after the event e, to which the table of its slot was lent and whose step leads to the record m: the model's number, and the memory represents the
+-- model's next state
+pub record StepAfter {t : Tally} {store : List ℕ} (B : StepBefore t store) (e : Event) (m : MemberState) (w : EventEffect) (M′ : Memory) : Type 0 where
   pub number-is : w .number ≡ event-answer (B .z) (B .o) e
   -- an answer byte holds it
   pub small : w .number < 256
-  pub represents : Represents (B .z) (next (B .z) (B .o) e) (w .tally) (set (B .members) i (w .state)) M′
+  pub represents : Represents (B .z) (next (B .z) (B .o) e) (w .tally) (records-after (B .members) (event-place e) m (w .number)) (M′ .store)
+      (tables-with (B .tables) (table-slot (e .slot)) (M′ .table))
 
--- before an event: m is the record of its member
-pub record EventBefore (t : Tally) (m : MemberState) (e : Event) (M : Memory) : Type 0 where
-  pub before : StepBefore t M
-  pub record-at : RecordAt (before .members) (place-of (at-member e)) m
+-- before an event: m is the record of its member, if it has one
+pub record EventBefore (t : Tally) (m : MemberState) (e : Event) (store : List ℕ) : Type 0 where
+  pub before : StepBefore t store
+  pub is : e .slot < SLOTS → at-member (e .event) < before .z .n → m ≡ member-at (before .z) (before .o) (e .slot) (at-member (e .event))
 
--- an event was worked: whatever the memory represented before
-abbrev pub EventWorked : Tally → MemberState → Event → Memory → AfterEvent → Memory → Type 0
-EventWorked t m e M w M′ = (E : EventBefore t m e M) → StepAfter (E .before) e (place-of (at-member e)) w M′
-
--- the step of the member with record i at the event e comes to u
-pub record ModelStep (z : Sizes) (o : Office) (e : Event) (i : ℕ) (u : Outcome) : Type 0 where
-  pub at : i ≡ at-member e
-  pub member : at-member e < z .n
-  pub there : unsent o e ≡ false
+-- the step of the event's member comes to u
+pub record ModelStep (z : Sizes) (o : Office) (e : Event) (u : Outcome) : Type 0 where
+  pub slot : e .slot < SLOTS
+  pub member : at-member (e .event) < z .n
+  pub there : unsent o (e .event) ≡ false
+  pub own : foreign o (e .slot) (e .event) ≡ false
   pub equals : u ≡ event-outcome z o e
 
 -- the event e is refused with k
@@ -115,47 +164,46 @@ pub record RefusedWith (z : Sizes) (o : Office) (e : Event) (k : ℕ) : Type 0 w
   pub small : k < 256
 
 -- what an answer to the event e says of the model: its refusal, or a step of its member to the record m
-unfoldable pub AnswerIs : Sizes → Office → Event → ℕ → MemberState → StepAnswer → Type 0
-AnswerIs z o e i m (Refused k) = RefusedWith z o e k
-AnswerIs z o e i m (Sent g) = ModelStep z o e i (answer-outcome m (Sent g))
-AnswerIs z o e i m Done = ModelStep z o e i (answer-outcome m Done)
-AnswerIs z o e i m (Proposed g r x b) = ModelStep z o e i (answer-outcome m (Proposed g r x b))
-AnswerIs z o e i m (Decided r x) = ModelStep z o e i (answer-outcome m (Decided r x))
+unfoldable pub AnswerIs : Sizes → Office → Event → MemberState → StepAnswer → Type 0
+AnswerIs z o e m (Refused k) = RefusedWith z o e k
+AnswerIs z o e m (Sent b) = ModelStep z o e (answer-outcome m (Sent b))
+AnswerIs z o e m Done = ModelStep z o e (answer-outcome m Done)
+AnswerIs z o e m (Proposed b r x p) = ModelStep z o e (answer-outcome m (Proposed b r x p))
+AnswerIs z o e m (Decided r x) = ModelStep z o e (answer-outcome m (Decided r x))
 
--- 29: no such member or message
-abbrev pub missed-step : MemberState → MemberStep
-missed-step m = record { state = m; answer = Refused NO-MEMBER-OR-MESSAGE; lasting = false }
+-- refused before the member's step: the record stays
+abbrev pub missed-step : MemberState → ℕ → MemberStep
+missed-step m k = record { state = m; answer = Refused k; lasting = false }
 
--- before the step of an event, which is lent the store alone; that of a start isn't lent even that
-pub record StepDue (t : Tally) (m : MemberState) (e : Event) (store : List ℕ) : Type 0 where
-  pub table : List ℕ
-  pub event : EventBefore t m e (in-memory store table)
-
-pub record StartDue (t : Tally) (m : MemberState) (e : Event) : Type 0 where
-  pub memory : Memory
-  pub event : EventBefore t m e memory
+-- in front of the member's step, of any event: 32 its slot is above 7; 29 its member is N or above
+abbrev pub event-row : Tally → ℕ → ℕ → List Cause
+event-row t s k = no-slot s gives WRONG-SLOT ∷ leb (t .n) k gives NO-MEMBER-OR-MESSAGE ∷ []
 
 -- the step is an answer to the event
-abbrev pub AnswerTo : {t : Tally} {m : MemberState} {e : Event} {M : Memory} → EventBefore t m e M → MemberStep → Type 0
-AnswerTo {e = e} E s = AnswerIs (E .before .z) (E .before .o) e (place-of (at-member e)) (s .state) (s .answer)
+abbrev pub AnswerTo : {t : Tally} {m : MemberState} {e : Event} {store : List ℕ} → EventBefore t m e store → MemberStep → Type 0
+AnswerTo {e = e} E s = AnswerIs (E .before .z) (E .before .o) e (s .state) (s .answer)
 
 -- the step was taken: whatever the memory represented
 abbrev pub StepTaken : Tally → MemberState → Event → List ℕ → MemberStep → Type 0
-StepTaken t m e store s = (table : List ℕ) (E : EventBefore t m e (in-memory store table)) → AnswerTo E s
+StepTaken t m e store s = (E : EventBefore t m e store) → AnswerTo E s
+
+-- a start isn't lent the store
+pub record StartDue (t : Tally) (m : MemberState) (e : Event) : Type 0 where
+  pub store : List ℕ
+  pub event : EventBefore t m e store
 
 abbrev pub StartTaken : Tally → MemberState → Event → MemberStep → Type 0
-StartTaken t m e s = (M : Memory) (E : EventBefore t m e M) → AnswerTo E s
+StartTaken t m e s = (store : List ℕ) (E : EventBefore t m e store) → AnswerTo E s
 
--- before an answer takes effect: it was given to the event e, and its step leads to the record m
-pub record AnswerBefore (t : Tally) (a : StepAnswer) (M : Memory) : Type 0 where
-  pub before : StepBefore t M
+-- before an answer takes effect, on the store and the table of its slot: it was given to the event e, and its step leads to the record m
+pub record AnswerBefore (t : Tally) (slot : Slot) (a : StepAnswer) (M : Memory) : Type 0 where
+  pub before : StepBefore t (M .store)
   pub e : Event
-  pub i : ℕ
+  pub of-slot : e .slot ≡ slot .0
+  pub lent : before .tables (table-slot (e .slot)) ≡ M .table
   pub m : MemberState
-  pub is : AnswerIs (before .z) (before .o) e i m a
+  pub is : AnswerIs (before .z) (before .o) e m a
 
--- the answer took effect: whatever the memory represented before, and whatever the event and its member's record were
-abbrev pub AnswerSettled : Tally → StepAnswer → Memory → EventEffect → Memory → Type 0
-AnswerSettled t a M w M′ =
-    (F : AnswerBefore t a M) (was : MemberState) → RecordAt (F .before .members) (F .i) was →
-    StepAfter (F .before) (F .e) (F .i) (after-event was (F .m) w) M′
+-- the answer took effect: whatever the memory represented before, and whatever the event was
+abbrev pub AnswerSettled : Tally → Slot → StepAnswer → Memory → EventEffect → Memory → Type 0
+AnswerSettled t slot a M w M′ = (F : AnswerBefore t slot a M) → StepAfter (F .before) (F .e) (F .m) w M′

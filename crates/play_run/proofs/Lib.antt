@@ -1,2 +1,3 @@
 -- Laws for the walk over the events.
+pub mod Held
 pub mod Running

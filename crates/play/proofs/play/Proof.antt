@@ -1,4 +1,4 @@
--- `play::play` meets its contract: each refusal in its order, then the events on a cleared store and a fresh table. Assumes nothing.
+-- `play::play` meets its contract: each refusal in its order, then the events on a cleared store and fresh tables. Assumes nothing.
 use mathlib.Core.Path.{_≡_, sym, ap, _∙_}
 use mathlib.Core.Bool.{true}
 use Prim.Native.Nat.{_≤_}
@@ -6,14 +6,15 @@ use native.Mathlib.Omega.{arith}
 use lib.ListN.{length}
 use borrow.Author.Tests.{not-true, not-false}
 use denote.Ref.{now}
-use Rattle.tree_theory.specs.Table.{sized}
 use Rattle.member_record.specs.Record.{allowed}
 use Rattle.play_events.specs.declared.ListHead.{ListHead}
 use Rattle.play_events.specs.List.{members-of, count-of, list-fits}
 use Rattle.play_store.specs.Rows.{store-sized}
+use Rattle.play_tables.specs.Tables.{TablesFit}
+use Rattle.play_tables.proofs.Sizes.{number-fits}
 use Rattle.play_run.specs.Lent.{Lent, as-lent}
 use Rattle.play_run.proofs.Running.{list-parts}
-use Rattle.play.proofs.Giving.{PassedList, as-given, not-exact, not-allowed, store-odd, answers-few, table-odd, ready-to-run, given-taken, fresh-zero}
+use Rattle.play.proofs.Giving.{PassedList, as-given, not-exact, not-allowed, store-odd, answers-few, tables-odd, ready-to-run, given-taken}
 use borrow.Author.Needs.{needs}
 use Rattle.play.proofs.play.Statement.{statement}
 use Rattle.play.proofs.play.Tie as tie
@@ -28,12 +29,15 @@ first-test c = c .before .before
 abbrev second-test : tie.After-has-store-length → tie.Else2
 second-test c = c .before .before
 
-abbrev fourth-test : tie.After-fresh → tie.Else4
+abbrev fourth-test : tie.After-tables-number → tie.Else4
 fourth-test c = c .before .before
 
--- the table made fresh, from its number; the store cleared, from where the events are run; and that, from the end
-abbrev made-fresh : tie.After-slice-known4 → tie.After-fresh
-made-fresh c = c .before .before
+-- the tables made fresh, from where the store is cleared; that, from where the events are run; and that, from the end
+abbrev made-fresh : tie.After-clear → tie.After-fresh-tables
+made-fresh c = c .before .before .before .before
+
+abbrev last-test : tie.After-fresh-tables → tie.Else5
+last-test c = c .before .before
 
 abbrev store-back : tie.After-run-arg3 → tie.After-slice-known5
 store-back c = c .before .before .before
@@ -54,8 +58,8 @@ entry-3 c = entry-2 (second-test c .before)
 abbrev entry-4 : tie.After-struct-known → tie.Start
 entry-4 c = entry-3 (c .before .before)
 
-abbrev entry-5 : tie.After-slice-known4 → tie.Start
-entry-5 c = entry-4 (fourth-test (made-fresh c) .before)
+abbrev entry-5 : tie.After-tables-number → tie.Start
+entry-5 c = entry-4 (fourth-test c .before)
 
 abbrev lent : tie.Start → Lent
 lent s = as-lent (now (s .args .messages)) (now (s .args .nodes)) (now (s .args .answered))
@@ -79,12 +83,12 @@ count-read c = ap (λ (h : ListHead). h .count) (c .read-head .ensures)
 enough : (c : tie.Else4) → count-of (now (entry-4 (c .before) .args .list)) ≤ length (now (entry-4 (c .before) .args .answered))
 enough c = omega (arith, count-read (second-test (c .before .before .before) .before .before))
 
-right-length : (c : tie.Else5) → sized (now (entry-5 (c .before) .args .nodes)) ≡ true
-right-length c = fresh-zero _ (sym (made-fresh (c .before) .fresh .ensures .0) ∙ c .if5 .left)
+tables-fit : (c : tie.Else5) → TablesFit (now (entry-5 (c .before) .args .lengths)) (now (entry-5 (c .before) .args .nodes))
+tables-fit c = number-fits _ _ (sym (c .before .tables-number .ensures) ∙ c .if5 .left)
 
-passed-list : (c : tie.Else5) → PassedList (now (entry-5 (c .before) .args .list)) (lent (entry-5 (c .before)))
+passed-list : (c : tie.Else5) → PassedList (now (entry-5 (c .before) .args .list)) (now (entry-5 (c .before) .args .lengths)) (lent (entry-5 (c .before)))
 passed-list c =
-    let t4 = fourth-test (made-fresh (c .before)) in
+    let t4 = fourth-test (c .before) in
     let t3 = t4 .before .before in
     let t2 = second-test (t3 .before) in
     record {
@@ -92,7 +96,7 @@ passed-list c =
       members = few-members t2;
       store-length = whole-rows t3;
       room = enough t4;
-      table-length = right-length c;
+      tables-fit = tables-fit c;
     }
 
 list-fits-requires : tie.Need-list-fits-requires
@@ -150,8 +154,8 @@ returns-4 c =
     as-given _ (c .refused-list4 .ensures)
     (answers-few (fitting (first-test (t2 .before))) (few-members t2) (whole-rows t3) (omega (arith, count-read (t2 .before .before))))
 
-fresh-requires : tie.Need-fresh-requires
-fresh-requires c κs = search needs
+tables-number-requires : tie.Need-tables-number-requires
+tables-number-requires c κs = search needs
 
 refused-list-requires-5 : tie.Need-refused-list-requires-5
 refused-list-requires-5 c κs = search needs
@@ -165,13 +169,14 @@ same-length-4 c = search needs
 returns-5 : tie.Need-returns-5
 returns-5 c =
     let test = c .before in
-    let f = made-fresh (test .before) in
-    let t4 = fourth-test f in
+    let t4 = fourth-test (test .before) in
     let t3 = t4 .before .before in
     let t2 = second-test (t3 .before) in
     as-given _ (c .refused-list5 .ensures)
-    (table-odd (fitting (first-test (t2 .before))) (few-members t2) (whole-rows t3) (enough t4)
-    (λ q. test .if5 .taken (f .fresh .ensures .0 ∙ q)) (f .fresh .ensures .1))
+    (tables-odd (fitting (first-test (t2 .before))) (few-members t2) (whole-rows t3) (enough t4) (test .before .tables-number .ensures) (test .if5 .taken))
+
+fresh-tables-requires : tie.Need-fresh-tables-requires
+fresh-tables-requires c κs = tables-fit (c .before)
 
 clear-requires : tie.Need-clear-requires
 clear-requires c κs = search needs
@@ -179,8 +184,8 @@ clear-requires c κs = search needs
 run-requires : tie.Need-run-requires
 run-requires c κs =
     let d = cleared c in
-    let t5 = d .before .before in
-    ready-to-run (passed-list t5) (d .clear .ensures) (made-fresh (t5 .before) .fresh .ensures .1)
+    let f = made-fresh d in
+    ready-to-run (passed-list (last-test f)) (d .clear .ensures) (f .fresh-tables .ensures)
 
 same-length-5 : tie.Need-same-length-5
 same-length-5 c = search needs
@@ -195,8 +200,8 @@ returns-6 : tie.Need-returns-6
 returns-6 c =
     let r = was-run c in
     let d = cleared (r .before) in
-    let t5 = d .before .before in
-    given-taken (passed-list t5) (d .clear .ensures) (made-fresh (t5 .before) .fresh .ensures .1) (r .run .ensures)
+    let f = made-fresh d in
+    given-taken (passed-list (last-test f)) (d .clear .ensures) (f .fresh-tables .ensures) (r .run .ensures)
 
 pub play-spec : {M : Type 1} → statement M
 play-spec =
@@ -217,11 +222,12 @@ play-spec =
     refused-list-requires-4
     same-length-2
     returns-4
-    fresh-requires
+    tables-number-requires
     refused-list-requires-5
     same-length-3
     same-length-4
     returns-5
+    fresh-tables-requires
     clear-requires
     run-requires
     same-length-5
