@@ -1,4 +1,4 @@
--- How much of an input tells what is printed for it: a list that fits has at most 20,008 bytes, and of a longer input as many and one more give the
+-- How much of an input tells what is printed for it: a list that fits has at most 24,008 bytes, and of a longer input as many and one more give the
 -- same number as all of it. Assumes nothing.
 use mathlib.Core.Path.{_≡_, refl}
 use mathlib.Core.Bool.{true, false, not}

@@ -17,8 +17,8 @@ use Rattle.decimal.proofs.Decimal.{decimal-of-64-bits, decimal-of-8-bits}
 use Rattle.tree_theory.specs.Machine.{Node}
 use Rattle.tree_theory.specs.Table.{row, rows-of}
 use Rattle.tree_theory.proofs.Words.{rows-suc}
-use Rattle.rehearsal_output.specs.Output.{LINE-FEED, in-line, behind-blanks, spaced, line, node-line, node-lines}
-use Rattle.rehearsal_output.specs.Promise.{ROOM-FOR-ANSWER, ROOM-FOR-NUMBER, ROOM-FOR-NODE, PutWithin}
+use Rattle.rehearsal_output.specs.Output.{LINE-FEED, in-line, behind-blanks, spaced, line, node-line, node-lines, slots-lines}
+use Rattle.rehearsal_output.specs.Promise.{ROOM-FOR-ANSWER, ROOM-FOR-NUMBER, ROOM-FOR-NODE, ROOM-FOR-SLOT, PutWithin}
 
 -- one number more behind others
 behind-blanks-last : (l : List ℕ) (x : ℕ) → behind-blanks (l ++ x ∷ []) ≡ behind-blanks l ++ in-line false x
@@ -88,6 +88,9 @@ within-more {u = u} {w = w} j k P Q short h =
 pub within-room : {out u mid : List ℕ} {at to : ℕ} (j k : ℕ) → PutWithin out at u to mid j → at + j + k ≤ length out → to + k ≤ length mid
 within-room j k P h = text-room k (P .put) (omega (arith, P .within))
 
+pub within-wider : {out u new : List ℕ} {at next : ℕ} (j k : ℕ) → PutWithin out at u next new j → j ≤ k → PutWithin out at u next new k
+within-wider j k P h = record { put = P .put; within = omega (arith, P .within) }
+
 -- one number of 64 bits more
 pub room-for-next : {out u mid : List ℕ} {at to : ℕ} (j : ℕ) (first : Bool) (n : ℕ) → PutWithin out at u to mid j → at + j + ROOM-FOR-NUMBER ≤ length out →
     n < BELOW-64-BITS → to + length (in-line first n) ≤ length mid
@@ -120,3 +123,21 @@ pub node-more : {out mid new : List ℕ} {at to next : ℕ} (ws : List ℕ) (i :
 node-more ws i P Q h =
     let both = within-more (ROOM-FOR-NODE * i) ROOM-FOR-NODE P (Q .put) (Q .within) h in
     record { put = rw (lines-more ws i) (both .put); within = rw (lines-more ws i) (omega (arith, both .within)) }
+
+-- the same nodes are the same lines
+pub slots-same : (f g : ℕ → List Node) (k : ℕ) → ((s : ℕ) → s < k → f s ≡ g s) → slots-lines f k ≡ slots-lines g k
+unfolding slots-lines
+slots-same f g zero h = refl
+slots-same f g (suc k) h = rw (slots-same f g k (λ s b. h s (omega arith)), h k (omega arith)) refl
+
+-- one slot more
+slots-more : (f : ℕ → List Node) (k : ℕ) → slots-lines f (k + 1) ≡ slots-lines f k ++ node-lines (f k)
+unfolding slots-lines
+slots-more f k = rw (add-one k) refl
+
+pub slot-more : {out mid new : List ℕ} {at to next : ℕ} (f : ℕ → List Node) (k : ℕ) → PutWithin out at (slots-lines f k) to mid (ROOM-FOR-SLOT * k) →
+    PutWithin mid to (node-lines (f k)) next new ROOM-FOR-SLOT → at + ROOM-FOR-SLOT * k + ROOM-FOR-SLOT ≤ length out →
+    PutWithin out at (slots-lines f (k + 1)) next new (ROOM-FOR-SLOT * (k + 1))
+slot-more f k P Q h =
+    let both = within-more (ROOM-FOR-SLOT * k) ROOM-FOR-SLOT P (Q .put) (Q .within) h in
+    record { put = rw (slots-more f k) (both .put); within = rw (slots-more f k) (omega (arith, both .within)) }

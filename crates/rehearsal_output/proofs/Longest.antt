@@ -1,4 +1,4 @@
--- Nor do fewer bytes tell it: the front of 20,008 bytes of the longest list with a byte behind it is taken, and all of it is refused. Assumes nothing.
+-- Nor do fewer bytes tell it: the front of 24,008 bytes of the longest list with a byte behind it is taken, and all of it is refused. Assumes nothing.
 use mathlib.Core.Path.{_≡_, refl}
 use mathlib.Core.Bool.{true}
 use mathlib.Core.List.{List, [], _∷_, _++_}
@@ -17,7 +17,7 @@ use Rattle.rehearsal_output.proofs.Enough.{too-long}
 
 -- a start before l
 abbrev pub start-before : List ℕ → List ℕ
-start-before l = 0 ∷ 0 ∷ 0 ∷ 1 ∷ 0 ∷ 0 ∷ 0 ∷ 0 ∷ 0 ∷ 0 ∷ 0 ∷ 0 ∷ 0 ∷ 0 ∷ 0 ∷ 0 ∷ 0 ∷ 0 ∷ 0 ∷ 0 ∷ l
+start-before l = 0 ∷ 0 ∷ 0 ∷ 1 ∷ 0 ∷ 0 ∷ 0 ∷ 0 ∷ 0 ∷ 0 ∷ 0 ∷ 0 ∷ 0 ∷ 0 ∷ 0 ∷ 0 ∷ 0 ∷ 0 ∷ 0 ∷ 0 ∷ 0 ∷ 0 ∷ 0 ∷ 0 ∷ l
 
 unfoldable pub so-many-starts : ℕ → List ℕ
 so-many-starts zero = []

@@ -1,16 +1,16 @@
--- 01's rehearsal ("Cases from the rig"): the list as bytes, and the four lines of its output.
+-- 01's rehearsal ("Cases from the rig"), all in slot 0 (02, ticket 6): the list as bytes, the four lines of its output, and the roots of the other slots.
 use mathlib.Core.List.{List, [], _∷_, _++_}
 use Prim.Native.Nat.{ℕ}
 use Rattle.xdr.specs.Words.{word, hyper}
 use Rattle.play_events.specs.List.{EVENT-START, EVENT-DELIVER}
 
--- s(member, round, offer)
+-- s(member, round, offer) in slot 0
 abbrev s : ℕ → ℕ → ℕ → List ℕ
-s member round offer = word EVENT-START ++ word member ++ word round ++ hyper offer
+s member round offer = word EVENT-START ++ word 0 ++ word member ++ word round ++ hyper offer
 
--- d(message, member)
+-- d(message, member) in slot 0
 abbrev d : ℕ → ℕ → List ℕ
-d message member = word EVENT-DELIVER ++ word message ++ word member
+d message member = word EVENT-DELIVER ++ word 0 ++ word message ++ word member
 
 -- N = 3, 15 events
 unfoldable pub rehearsal-list : List ℕ
@@ -41,3 +41,7 @@ first-line =
 abbrev pub second-line : List ℕ
 second-line =
     50 ∷ 32 ∷ 49 ∷ 32 ∷ 55 ∷ 48 ∷ 32 ∷ 49 ∷ 10 ∷ []
+
+-- 0 0 0 3 for each of slots 1 to 7
+abbrev pub seven-roots : List ℕ
+seven-roots = root-line ++ root-line ++ root-line ++ root-line ++ root-line ++ root-line ++ root-line

@@ -1,15 +1,18 @@
-// What the rehearsal prints (01, "Play" and "Cases from the rig"), put into lent bytes.
+// What the rehearsal prints (01, "Play" and "Cases from the rig"; 02, ticket 6), put into lent bytes.
+use ids::SLOTS;
 use play_events::MOST_EVENTS;
 use play_store::ROW_LENGTH;
 ghost use mathlib.Core.Path.{_≡_};
 ghost use mathlib.Core.List.{[], _∷_, _++_};
 ghost use Prim.Native.Nat.{_+_, _*_, _≤_, _<_};
 ghost use lib.ListN.{length, take};
+ghost use Rattle.ids.specs.Ranges.{SLOTS};
 ghost use Rattle.decimal.specs.Text.{PutText};
 ghost use Rattle.tree_theory.specs.Table.{row, used};
 ghost use Rattle.tree_theory.specs.Table.{nodes as nodes-of};
-ghost use Rattle.rehearsal_output.specs.Output.{LINE-FEED, in-line, line, node-line, node-lines};
-ghost use Rattle.rehearsal_output.specs.Promise.{ROOM-FOR-ANSWER, ROOM-FOR-NUMBER, ROOM-FOR-NODE, PutWithin, Printed, RehearsalLent, TakenFits};
+ghost use Rattle.rehearsal_output.specs.Output.{LINE-FEED, in-line, line, node-line, node-lines, slot-nodes, slots-lines};
+ghost use Rattle.rehearsal_output.specs.Promise.{ROOM-FOR-ANSWER, ROOM-FOR-NUMBER, ROOM-FOR-NODE, ROOM-FOR-SLOT, ROOM-FOR-SLOTS, PutWithin};
+ghost use Rattle.rehearsal_output.specs.Promise.{Printed, RehearsalLent, SlotFits, SlotsFit, TakenFits};
 
 const LINE_FEED: u8 = 10;
 
@@ -18,10 +21,12 @@ const STORE_ROWS: usize = 1000;
 
 const STORE_BYTES: usize = ROW_LENGTH * STORE_ROWS;
 
-// The table's rows, and their words.
+// The rows of each slot's table, their words, and the words of all tables.
 const TABLE_ROWS: usize = 64;
 
 const TABLE_WORDS: usize = 4 * TABLE_ROWS;
+
+const ALL_WORDS: usize = TABLE_WORDS * SLOTS;
 
 // Room for an answer: a blank, and the three digits of a byte.
 const ROOM_FOR_ANSWER: usize = 4;
@@ -32,8 +37,11 @@ const ROOM_FOR_NUMBER: usize = 21;
 // Room for a node: four numbers and a line feed.
 const ROOM_FOR_NODE: usize = 4 * ROOM_FOR_NUMBER + 1;
 
-// Room for any output: the answers, a line feed, the nodes.
-pub const ROOM_FOR_OUTPUT: usize = ROOM_FOR_ANSWER * MOST_EVENTS + 1 + ROOM_FOR_NODE * TABLE_ROWS;
+// Room for the nodes of a slot.
+const ROOM_FOR_SLOT: usize = ROOM_FOR_NODE * TABLE_ROWS;
+
+// Room for any output: the answers, a line feed, the nodes of all slots.
+pub const ROOM_FOR_OUTPUT: usize = ROOM_FOR_ANSWER * MOST_EVENTS + 1 + ROOM_FOR_SLOT * SLOTS;
 
 // A byte, as a wider number.
 fn wide(b: u8) -> u64
@@ -116,6 +124,30 @@ fn put_nodes(nodes: &[u64], out: &mut [u8], at: usize) -> usize
     next
 }
 
+// The nodes of slot s, from the tables of all slots.
+fn put_slot(nodes: &[u64], s: usize, out: &mut [u8], at: usize) -> usize
+    requires { ⌜ SlotFits (now nodes) s at (now out) ⌝ }
+    ensures { λ r. ⌜ PutWithin (now (out .entry)) at (node-lines (slot-nodes (now (nodes .entry)) s)) r (now (out .exit)) ROOM-FOR-SLOT ⌝ }
+{
+    let from = TABLE_WORDS * s;
+    let to = from + TABLE_WORDS;
+    put_nodes(&nodes[from..to], out, at)
+}
+
+// The nodes of all slots, slot after slot.
+fn put_slots(nodes: &[u64], out: &mut [u8], at: usize) -> usize
+    requires { ⌜ SlotsFit (now nodes) at (now out) ⌝ }
+    ensures { λ r. ⌜ PutWithin (now (out .entry)) at (slots-lines (slot-nodes (now (nodes .entry))) SLOTS) r (now (out .exit)) ROOM-FOR-SLOTS ⌝ }
+{
+    let mut next = at;
+    let mut s: usize = 0;
+    while s < SLOTS {
+        next = put_slot(nodes, s, out, next);
+        s += 1;
+    }
+    next
+}
+
 // A line with only a number.
 fn put_refusal(out: &mut [u8], number: u32) -> usize
     requires { ⌜ ROOM-FOR-NUMBER < length (now out) ⌝ }
@@ -125,14 +157,14 @@ fn put_refusal(out: &mut [u8], number: u32) -> usize
     end_line(out, end)
 }
 
-// The answers, then the nodes.
+// The answers, then the nodes of all slots.
 fn put_taken(count: usize, answered: &[u8], nodes: &[u64], out: &mut [u8]) -> usize
     requires { ⌜ TakenFits count (now answered) (now nodes) (now out) ⌝ }
     ensures { λ n. ⌜ PutText (now (out .entry)) 0
-        (line (take count (now (answered .entry))) ++ node-lines (nodes-of (now (nodes .entry)))) n (now (out .exit)) ⌝ }
+        (line (take count (now (answered .entry))) ++ slots-lines (slot-nodes (now (nodes .entry))) SLOTS) n (now (out .exit)) ⌝ }
 {
     let next = put_answers(&answered[0..count], out, 0);
-    put_nodes(nodes, out, next)
+    put_slots(nodes, out, next)
 }
 
 // Plays the list in what is lent, and puts what is printed of it.
@@ -146,7 +178,8 @@ fn put_played(
     requires { ⌜ RehearsalLent (now messages) (now nodes) (now answered) (now out) ⌝ }
     ensures { λ n. ⌜ Printed (now (list .entry)) (now (out .entry)) n (now (out .exit)) ⌝ }
 {
-    let a = play::play(list, messages, nodes, answered);
+    let lengths = [TABLE_WORDS; SLOTS];
+    let a = play::play(list, messages, nodes, &lengths, answered);
     if a.number != numbers::OK {
         return put_refusal(out, a.number);
     }
@@ -154,12 +187,12 @@ fn put_played(
     put_taken(count, answered, nodes, out)
 }
 
-// Plays the list with 64 table rows and 1,000 store rows: puts what is printed at the front of `out`, and answers its length.
+// Plays the list with 64 table rows for each slot and 1,000 store rows: puts what is printed at the front of `out`, and answers its length.
 pub fn rehearse(list: &[u8], out: &mut [u8; ROOM_FOR_OUTPUT]) -> usize
     ensures { λ n. ⌜ Printed (now (list .entry)) (now (out .entry)) n (now (out .exit)) ⌝ }
 {
     let mut messages = [0u8; STORE_BYTES];
-    let mut nodes = [0u64; TABLE_WORDS];
+    let mut nodes = [0u64; ALL_WORDS];
     let mut answered = [0u8; MOST_EVENTS];
     put_played(list, &mut messages, &mut nodes, &mut answered, out)
 }

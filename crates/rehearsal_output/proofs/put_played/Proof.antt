@@ -7,6 +7,7 @@ use Rattle.play_events.specs.declared.ListHead.{ListHead}
 use Rattle.play_run.specs.Lent.{as-lent}
 use Rattle.play_run.proofs.Running.{list-parts}
 use Rattle.play.proofs.Giving.{PassedList, taken-passed}
+use Rattle.rehearsal_output.specs.Output.{rehearsal-lengths}
 use Rattle.rehearsal_output.proofs.Playing.{as-printed, refused-output, taken-output}
 use Rattle.rehearsal_output.proofs.put_played.Statement.{statement}
 use Rattle.rehearsal_output.proofs.put_played.Tie as tie
@@ -16,11 +17,11 @@ abbrev played : tie.After-struct-known → tie.After-play
 played c = c .before .before .before .before .before .before .before
 
 abbrev entry : tie.After-play → tie.Start
-entry c = let lent = c .before .before .before in lent .before .before .before .before .before .before
+entry c = let lent = c .before .before .before .before in lent .before .before .before .before .before .before
 
 passed-list : (c : tie.Else1) →
     let a = entry (played (c .before)) .args in
-    PassedList (now (a .list)) (as-lent (now (a .messages)) (now (a .nodes)) (now (a .answered)))
+    PassedList (now (a .list)) rehearsal-lengths (as-lent (now (a .messages)) (now (a .nodes)) (now (a .answered)))
 passed-list c = taken-passed (played (c .before) .play .ensures) (c .if1 .left)
 
 play-requires : tie.Need-play-requires
@@ -64,8 +65,8 @@ put-taken-requires c κs =
     let count-is = ap (λ (h : ListHead). h .count) (head .read-head .ensures) in
     record {
       few = omega (arith, count-is, list-parts (P .fits) .few);
-      said = omega (arith, count-is, P .room, p .play .kept .1 .1 .1 .0);
-      rows = p .play .kept .1 .1 .0 ∙ R .table-length;
+      said = omega (arith, count-is, P .room, p .play .kept .1 .1 .1 .1 .0);
+      words = p .play .kept .1 .1 .0 ∙ R .tables-length;
       room = R .room;
     }
 

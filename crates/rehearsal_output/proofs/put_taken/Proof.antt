@@ -1,4 +1,4 @@
--- `rehearsal_output::put_taken` meets its contract: the nodes stand behind the answers. Assumes nothing.
+-- `rehearsal_output::put_taken` meets its contract: the nodes of all slots stand behind the answers. Assumes nothing.
 use mathlib.Core.Path.{_≡_}
 use Prim.Native.Nat.{_+_, _-_, _*_, _≤_}
 use native.Mathlib.Omega.{arith}
@@ -6,10 +6,8 @@ use lib.ListN.{length, take}
 use lib.Seq.{length-take-le}
 use borrow.Author.Needs.{needs}
 use denote.Ref.{now}
-use Rattle.tree_theory.specs.Table.{used}
-use Rattle.tree_theory.proofs.Words.{used-rows}
-use Rattle.rehearsal_output.specs.Output.{REHEARSAL-TABLE-ROWS, line}
-use Rattle.rehearsal_output.specs.Promise.{ROOM-FOR-ANSWER, ROOM-FOR-NODE, PutWithin}
+use Rattle.rehearsal_output.specs.Output.{line}
+use Rattle.rehearsal_output.specs.Promise.{ROOM-FOR-ANSWER, ROOM-FOR-SLOTS, PutWithin}
 use Rattle.decimal.proofs.Text.{text-behind, text-room}
 use Rattle.rehearsal_output.proofs.put_taken.Statement.{statement}
 use Rattle.rehearsal_output.proofs.put_taken.Tie as tie
@@ -42,16 +40,15 @@ answers-put c =
 -- behind them there is room for the nodes
 nodes-fit : (c : tie.After-put-answers) →
     let a = begun c .args in
-    length (line (take (a .count) (now (a .answered)))) + ROOM-FOR-NODE * used (now (a .nodes)) ≤ length (now (a .out))
+    length (line (take (a .count) (now (a .answered)))) + ROOM-FOR-SLOTS ≤ length (now (a .out))
 nodes-fit c =
     let s = begun c in
-    let few : used (now (s .args .nodes)) ≤ REHEARSAL-TABLE-ROWS = omega (arith, used-rows (now (s .args .nodes)), s .pre .rows) in
     omega (arith, answers-put c .within, length-take-le (s .args .count) (now (s .args .answered)) (s .pre .said), s .pre .few, s .pre .room)
 
-put-nodes-requires : tie.Need-put-nodes-requires
-put-nodes-requires c κs =
+put-slots-requires : tie.Need-put-slots-requires
+put-slots-requires c κs =
     let put = c .before .before .before in
-    text-room (ROOM-FOR-NODE * used (now (begun put .args .nodes))) (answers-put put .put) (omega (arith, nodes-fit put))
+    record { words = begun put .pre .words; room = text-room ROOM-FOR-SLOTS (answers-put put .put) (omega (arith, nodes-fit put)) }
 
 same-length : tie.Need-same-length
 same-length c = search needs
@@ -60,9 +57,9 @@ returns : tie.Need-returns
 returns c =
     let end = c .before .before in
     let put = end .before .before .before .before in
-    text-behind (answers-put put .put) (end .put-nodes .ensures .put) (omega (arith, nodes-fit put, end .put-nodes .ensures .within))
+    text-behind (answers-put put .put) (end .put-slots .ensures .put) (omega (arith, nodes-fit put, end .put-slots .ensures .within))
 
 pub put-taken-spec : {M : Type 1} → statement M
 put-taken-spec =
     tie.close
-    (tie.spec sub-put-answers part-put-answers-start part-put-answers-end put-answers-requires put-nodes-requires same-length returns)
+    (tie.spec sub-put-answers part-put-answers-start part-put-answers-end put-answers-requires put-slots-requires same-length returns)
