@@ -2,6 +2,8 @@
 // a pointer and a count of elements. A number is 0 for OK, else a refusal.
 use ids::Member;
 use ids::Round;
+use ids::Slot;
+use message::Body;
 use message::JOIN_KIND;
 use message::Message;
 use message::PROPOSE_KIND;
@@ -13,17 +15,18 @@ ghost use mathlib.Core.Bool.{true, false};
 ghost use Rattle.tree_theory.specs.Machine.{add, commit};
 ghost use Rattle.tree_theory.specs.Table.{fresh-number, fresh-table};
 ghost use Rattle.tree.specs.Promises.{CalledOnTable, CountedOnTable, Previewed, PathGiven};
+ghost use Rattle.ids.specs.Ranges.{no-slot};
 ghost use Rattle.message.specs.Reading.{reading};
 ghost use Rattle.play_run.specs.Lent.{as-lent};
 ghost use Rattle.play.specs.Promise.{Given};
 ghost use Rattle.exports.specs.Results.{as-play-answer, voteless, message-result, refused-result, read-result};
 
 // The version of the C functions, one number for both archives. It goes up with each change that a caller of either sees.
-const VERSION: u32 = 5;
+const VERSION: u32 = 6;
 
 #[no_mangle]
 pub extern "C" fn kalebasin_version() -> u32
-    ensures { λ v. ⌜ v ≡ 5 ⌝ }
+    ensures { λ v. ⌜ v ≡ 6 ⌝ }
 {
     VERSION
 }
@@ -39,18 +42,20 @@ pub struct PlayResult {
     pub ghosts: u32,
 }
 
-// Plays a list of events over an office: list, store, table and answers are lent.
+// Plays a list of events over an office: list, store, tables and answers are lent. `nodes` holds the tables of the eight slots one after another, and
+// `lengths` how many words each has.
 #[no_mangle]
 pub extern "C" fn kalebasin_play(
     list: &[u8],
     messages: &mut [u8],
     nodes: &mut [u64],
+    lengths: &[usize; 8],
     answered: &mut [u8],
 ) -> PlayResult
-    ensures { λ r. ⌜ Given (now (list .entry)) (as-lent (now (messages .entry)) (now (nodes .entry)) (now (answered .entry))) (as-play-answer r)
-        (as-lent (now (messages .exit)) (now (nodes .exit)) (now (answered .exit))) ⌝ }
+    ensures { λ r. ⌜ Given (now (list .entry)) (now (lengths .entry)) (as-lent (now (messages .entry)) (now (nodes .entry)) (now (answered .entry)))
+        (as-play-answer r) (as-lent (now (messages .exit)) (now (nodes .exit)) (now (answered .exit))) ⌝ }
 {
-    let p = play::play(list, messages, nodes, answered);
+    let p = play::play(list, messages, nodes, lengths, answered);
     PlayResult {
         number: p.number,
         accepted: p.accepted,
@@ -65,6 +70,7 @@ pub extern "C" fn kalebasin_play(
 #[repr(C)]
 pub struct MessageResult {
     pub number: u32,
+    pub slot: u32,
     // 1 START, 2 JOIN, 3 PROPOSE, 4 VOTE.
     pub kind: u32,
     pub round: u32,
@@ -76,11 +82,12 @@ pub struct MessageResult {
 }
 
 // A message that tells no vote.
-fn voteless(kind: u32, round: Round, sender: Member, value: u64) -> MessageResult
-    ensures { λ r. ⌜ r ≡ voteless kind round sender value ⌝ }
+fn voteless(slot: Slot, kind: u32, round: Round, sender: Member, value: u64) -> MessageResult
+    ensures { λ r. ⌜ r ≡ voteless slot kind round sender value ⌝ }
 {
     MessageResult {
         number: numbers::OK,
+        slot: slot.0,
         kind,
         round: round.0,
         sender: sender.0,
@@ -94,16 +101,19 @@ fn voteless(kind: u32, round: Round, sender: Member, value: u64) -> MessageResul
 fn message_result(m: Message) -> MessageResult
     ensures { λ r. ⌜ r ≡ message-result m ⌝ }
 {
-    match m {
-        Message::Start { round, sender } => voteless(START_KIND, round, sender, 0),
-        Message::Join { round, sender } => voteless(JOIN_KIND, round, sender, 0),
-        Message::JoinVoted {
+    let slot = m.slot;
+    let body = m.body;
+    match body {
+        Body::Start { round, sender } => voteless(slot, START_KIND, round, sender, 0),
+        Body::Join { round, sender } => voteless(slot, JOIN_KIND, round, sender, 0),
+        Body::JoinVoted {
             round,
             sender,
             voted,
             value,
         } => MessageResult {
             number: numbers::OK,
+            slot: slot.0,
             kind: JOIN_KIND,
             round: round.0,
             sender: sender.0,
@@ -111,12 +121,12 @@ fn message_result(m: Message) -> MessageResult
             voted: voted.0,
             value,
         },
-        Message::Propose {
+        Body::Propose {
             round,
             sender,
             value,
-        } => voteless(PROPOSE_KIND, round, sender, value),
-        Message::Vote { round, sender } => voteless(VOTE_KIND, round, sender, 0),
+        } => voteless(slot, PROPOSE_KIND, round, sender, value),
+        Body::Vote { round, sender } => voteless(slot, VOTE_KIND, round, sender, 0),
     }
 }
 
@@ -126,6 +136,7 @@ fn refused_result(number: u32) -> MessageResult
 {
     MessageResult {
         number,
+        slot: 0,
         kind: 0,
         round: 0,
         sender: 0,
@@ -135,10 +146,10 @@ fn refused_result(number: u32) -> MessageResult
     }
 }
 
-// Reads one message, neither more nor fewer bytes.
+// Reads one message, neither more nor fewer bytes, of any slot that there is.
 #[no_mangle]
 pub extern "C" fn kalebasin_read_message(s: &[u8]) -> MessageResult
-    ensures { λ r. ⌜ r ≡ read-result (reading (now (s .entry))) ⌝ }
+    ensures { λ r. ⌜ r ≡ read-result (reading no-slot (now (s .entry))) ⌝ }
 {
     let m = message_reader::read_message(s);
     match m {
