@@ -1,7 +1,7 @@
 //! The member record and its steps.
 
 use super::message;
-use kalebasin::{Made, Member, MemberFields, Message, Refusal, Report, Round, Vote};
+use kalebasin::{Made, Member, MemberFields, Message, Refusal, Report, Round, Slot, Vote};
 
 /// The phase of a member that has led no round.
 pub const IDLE: u32 = 0;
@@ -15,6 +15,8 @@ pub const DECIDED: u32 = 3;
 /// The member record. The fields have document 01's letters.
 #[derive(Clone, Copy, Debug, PartialEq, Eq, Hash)]
 pub struct Record {
+    /// The slot that it takes messages of.
+    pub slot: Slot,
     /// Own number.
     pub number: Member,
     /// The number of members.
@@ -78,12 +80,13 @@ pub fn quorum(n: u32) -> u32 {
     }
 }
 
-/// A fresh member.
-pub fn fresh(number: Member, n: u32) -> Result<Record, Refusal> {
-    if !size_allowed(n) || number.0 >= n {
+/// A fresh member of a slot.
+pub fn fresh(slot: Slot, number: Member, n: u32) -> Result<Record, Refusal> {
+    if !slot.in_range() || !size_allowed(n) || number.0 >= n {
         return Err(Refusal::RecordUnsound);
     }
     Ok(Record {
+        slot,
         number,
         n,
         j: Round(0),
@@ -110,7 +113,7 @@ pub fn start(record: &mut Record, reply: &mut [u8], round: Round, offer: u64) ->
 /// Delivers the bytes of a message: the sent length and the step, with what is sent at the front of the reply.
 pub fn deliver(record: &mut Record, reply: &mut [u8], bytes: &[u8]) -> Result<(usize, Step), Refusal> {
     check_lent(record, reply)?;
-    let message = message::read(bytes)?;
+    let message = message::read_of(record.slot, bytes)?;
     let mut after = *record;
     let step = after.deliver(&message)?;
     let sent = send(&step, reply)?;
@@ -119,8 +122,8 @@ pub fn deliver(record: &mut Record, reply: &mut [u8], bytes: &[u8]) -> Result<(u
 }
 
 /// [`fresh`], as fields.
-pub fn fresh_fields(number: Member, n: u32) -> Result<MemberFields, Refusal> {
-    fresh(number, n).map(|record| record.fields())
+pub fn fresh_fields(slot: Slot, number: Member, n: u32) -> Result<MemberFields, Refusal> {
+    fresh(slot, number, n).map(|record| record.fields())
 }
 
 /// [`start`] on the record of these fields.
@@ -178,6 +181,7 @@ impl Record {
     /// The record as a host keeps it.
     pub fn fields(&self) -> MemberFields {
         let mut fields = MemberFields::default();
+        fields.slot = self.slot;
         fields.number = self.number;
         fields.members = self.n;
         fields.joined = self.j;
@@ -194,6 +198,7 @@ impl Record {
     /// The record of these fields; none where a bit is set that is no flag.
     pub fn from_fields(fields: &MemberFields) -> Option<Record> {
         (fields.flags < 1 << 7).then(|| Record {
+            slot: fields.slot,
             number: fields.number,
             n: fields.members,
             j: fields.joined,
@@ -207,9 +212,10 @@ impl Record {
         })
     }
 
-    /// What document 01 asks of a sound record, in its order.
+    /// What document 01 asks of a sound record, in its order, behind document 02's slot.
     pub fn is_sound(&self) -> bool {
-        size_allowed(self.n)
+        self.slot.in_range()
+            && size_allowed(self.n)
             && self.number.0 < self.n
             && self.phase <= DECIDED
             && self.v <= self.j
@@ -248,11 +254,14 @@ impl Record {
         self.x = offer;
         self.b = Round(0);
         self.flags = [false; 7];
-        Ok(sends(Message::start(round, self.number)))
+        Ok(self.sends(Message::start(round, self.number)))
     }
 
-    /// Takes the step of a message, or changes nothing.
+    /// Takes the step of a message of its slot, or changes nothing.
     pub fn deliver(&mut self, message: &Message) -> Result<Step, Refusal> {
+        if message.slot() != self.slot {
+            return Err(Refusal::WrongSlot);
+        }
         match *message {
             Message::Start { round, sender, .. } => self.on_start(round, sender),
             Message::Join { round, sender, vote, .. } => self.on_join(round, sender, vote),
@@ -271,7 +280,7 @@ impl Record {
         }
         let vote = if self.v > Round(0) { Some(Vote { round: self.v, value: self.w }) } else { None };
         self.j = round;
-        Ok(sends(Message::join(round, self.number, vote)))
+        Ok(self.sends(Message::join(round, self.number, vote)))
     }
 
     fn on_join(&mut self, round: Round, sender: Member, vote: Option<Vote>) -> Result<Step, Refusal> {
@@ -289,7 +298,7 @@ impl Record {
         self.flags = [false; 7];
         let proposal = Proposal { round, value: self.x, parent: self.b };
         let message = Message::propose(round, self.number, self.x);
-        Ok(Step { proposal: Some(proposal), ..sends(message) })
+        Ok(Step { proposal: Some(proposal), ..self.sends(message) })
     }
 
     fn on_propose(&mut self, round: Round, sender: Member, value: u64) -> Result<Step, Refusal> {
@@ -305,7 +314,7 @@ impl Record {
         self.j = round;
         self.v = round;
         self.w = value;
-        Ok(sends(Message::vote(round, self.number)))
+        Ok(self.sends(Message::vote(round, self.number)))
     }
 
     fn on_vote(&mut self, round: Round, sender: Member) -> Result<Step, Refusal> {
@@ -333,6 +342,11 @@ impl Record {
         Ok(())
     }
 
+    /// The step that sends this message, in the member's slot, and makes nothing.
+    fn sends(&self, message: Message) -> Step {
+        Step { sent: Some(message.in_slot(self.slot)), ..Step::default() }
+    }
+
     fn leads(&self, round: Round) -> bool {
         round.leader(self.n) == Some(self.number)
     }
@@ -341,8 +355,4 @@ impl Record {
     pub fn counted(&self) -> u32 {
         self.flags.iter().filter(|flag| **flag).count() as u32
     }
-}
-
-fn sends(message: Message) -> Step {
-    Step { sent: Some(message), ..Step::default() }
 }

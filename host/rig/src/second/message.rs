@@ -1,61 +1,79 @@
-//! The bytes of the four messages: XDR unsigned words, high byte first.
+//! The bytes of the four messages: XDR unsigned words, high byte first, the slot in front.
 
-use kalebasin::{Member, Message, Refusal, Round, Vote};
+use kalebasin::{Member, Message, Refusal, Round, Slot, Vote};
 
 const HIGHEST_SENDER: Member = Member(6);
 
-/// Reads a message.
+/// Reads a message of any slot, as a host does.
 pub fn read(bytes: &[u8]) -> Result<Message, Refusal> {
-    if bytes.len() < 4 {
+    read_if(bytes, Slot::in_range)
+}
+
+/// Reads a message of one slot, as its members do.
+pub fn read_of(slot: Slot, bytes: &[u8]) -> Result<Message, Refusal> {
+    read_if(bytes, |of| of == slot)
+}
+
+/// Reads a message, if its slot may be taken.
+fn read_if(bytes: &[u8], may_take: impl Fn(Slot) -> bool) -> Result<Message, Refusal> {
+    if bytes.len() < 8 {
         return Err(Refusal::MessageLength);
     }
-    let message = match word(bytes, 0) {
+    let slot = Slot(word(bytes, 0));
+    if !may_take(slot) {
+        return Err(Refusal::WrongSlot);
+    }
+    let message = match word(bytes, 4) {
         1 => {
-            exact_length(bytes, 12)?;
+            exact_length(bytes, 16)?;
             Message::start(round(bytes), sender(bytes))
         }
         2 => read_join(bytes)?,
         3 => {
-            exact_length(bytes, 20)?;
-            Message::propose(round(bytes), sender(bytes), double(bytes, 12))
+            exact_length(bytes, 24)?;
+            Message::propose(round(bytes), sender(bytes), double(bytes, 16))
         }
         4 => {
-            exact_length(bytes, 12)?;
+            exact_length(bytes, 16)?;
             Message::vote(round(bytes), sender(bytes))
         }
         _ => return Err(Refusal::MessageKind),
     };
     check_fields(&message)?;
-    Ok(message)
+    Ok(message.in_slot(slot))
 }
 
-/// Under 16 bytes, presence, the rest of the length.
+/// Under 20 bytes, presence, the rest of the length.
 fn read_join(bytes: &[u8]) -> Result<Message, Refusal> {
-    if bytes.len() < 16 {
+    if bytes.len() < 20 {
         return Err(Refusal::MessageLength);
     }
-    let vote = match word(bytes, 12) {
+    let vote = match word(bytes, 16) {
         0 => {
-            exact_length(bytes, 16)?;
+            exact_length(bytes, 20)?;
             None
         }
         1 => {
-            exact_length(bytes, 28)?;
-            Some(Vote { round: Round(word(bytes, 16)), value: double(bytes, 20) })
+            exact_length(bytes, 32)?;
+            Some(Vote { round: Round(word(bytes, 20)), value: double(bytes, 24) })
         }
         _ => return Err(Refusal::MessageField),
     };
     Ok(Message::join(round(bytes), sender(bytes), vote))
 }
 
-/// Writes a message to the front of the buffer; the number of bytes written. A buffer without room for any message and
-/// fields out of range are refused, in that order, before anything is written.
+/// Writes a message to the front of the buffer; the number of bytes written. A slot above 7, a buffer without room for any
+/// message and other fields out of range are refused, in that order, before anything is written.
 pub fn write(message: &Message, buffer: &mut [u8]) -> Result<usize, Refusal> {
+    if !message.slot().in_range() {
+        return Err(Refusal::WrongSlot);
+    }
     if buffer.len() < Message::LONGEST {
         return Err(Refusal::ReplyTooShort);
     }
     check_fields(message)?;
     let mut writer = Writer { buffer, at: 0 };
+    writer.words(&[message.slot().0]);
     let (round, sender) = (message.round(), message.sender());
     match *message {
         Message::Start { .. } => writer.words(&[1, round.0, sender.0]),
@@ -95,11 +113,11 @@ fn exact_length(bytes: &[u8], length: usize) -> Result<(), Refusal> {
 }
 
 fn round(bytes: &[u8]) -> Round {
-    Round(word(bytes, 4))
+    Round(word(bytes, 8))
 }
 
 fn sender(bytes: &[u8]) -> Member {
-    Member(word(bytes, 8))
+    Member(word(bytes, 12))
 }
 
 /// The word that starts at a byte.

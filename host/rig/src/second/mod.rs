@@ -1,4 +1,4 @@
-//! The second implementation: document 01, and Tickets 1 to 5 of document 02, in plain Rust, written from the
+//! The second implementation: document 01, and Tickets 1 to 6 of document 02, in plain Rust, written from the
 //! documents alone.
 //!
 //! It is the reference for tests: the proved core is compared with it call for call, lent memory included. It has no
@@ -7,8 +7,8 @@
 //! - [`tree`]: the node table and its calls, for trees of values and of commands
 //! - [`message`]: the bytes of the four messages
 //! - [`member`]: the member record and its steps
-//! - [`play`](mod@play): a list of events over a whole office
-//! - [`model`]: the model and the third demand, as a check of a run
+//! - [`play`](mod@play): a list of events over a whole office, slot by slot
+//! - [`model`]: the model and the third demand for each slot, as a check of a run
 
 pub mod member;
 pub mod message;
