@@ -8,11 +8,12 @@
  *
  * and a program needs only the one that it calls. They ask for functions of <string.h> that copy, fill or compare memory, and for nothing else.
  *
- * A slice is a pointer and a count of elements (bytes or 64-bit words). Bytes may start at any address; table, second
- * and out start at a multiple of 8. Where the count is 0 the pointer isn't followed and may be null. The call then
- * answers as it does to any slice of no elements: 26 to a list, 28 to a store, 1 to a table, 31 to second, 14 to a
- * message, 13 to out, 18 to a reply or buffer; and no answer bytes are enough for a list of no events. What is lent for
- * writing overlaps nothing else. Nothing is kept after a call, and nothing is allocated.
+ * A slice is a pointer and a count of elements (bytes or 64-bit words). Bytes may start at any address; words, lengths,
+ * table, second and out start at a multiple of 8. Where the count is 0 the pointer isn't followed and may be null. The call
+ * then answers as it does to any slice of no elements: 26 to a list, 28 to a store, 1 to words or a table, 31 to second, 14
+ * to a message, 13 to out, 18 to a reply or buffer; and no answer bytes are enough for a list of no events. lengths has no
+ * count: it stands at eight numbers. What is lent for writing overlaps nothing else. Nothing is kept after a call, and
+ * nothing is allocated.
  *
  * Each number is 0 for OK, or a refusal. A call gives the first refusal that applies, in the order noted at the call; it
  * then changes nothing, and every other field of its result is 0, but for a record, which comes back as it came.
@@ -59,7 +60,8 @@ enum KalebasinNumber {
     KALEBASIN_STORE_OR_ANSWERS = 28,
     KALEBASIN_NO_MEMBER_OR_MESSAGE = 29,
     KALEBASIN_STORE_FULL = 30,
-    KALEBASIN_LENGTHS_DIFFER = 31
+    KALEBASIN_LENGTHS_DIFFER = 31,
+    KALEBASIN_WRONG_SLOT = 32
 };
 
 /* The cause of a number in words; never null. */
@@ -83,7 +85,7 @@ static inline const char *kalebasin_cause(uint32_t number) {
     case KALEBASIN_MESSAGE_KIND: return "the message's kind isn't 1 to 4";
     case KALEBASIN_MESSAGE_FIELD: return "a field of the message is out of range";
     case KALEBASIN_RECORD_UNSOUND: return "the member record isn't sound";
-    case KALEBASIN_REPLY_TOO_SHORT: return "the reply buffer is under 28 bytes";
+    case KALEBASIN_REPLY_TOO_SHORT: return "the reply buffer is under 32 bytes";
     case KALEBASIN_NOT_LEADER: return "the member isn't the leader of the round";
     case KALEBASIN_NOT_ABOVE_LED: return "the round isn't above the one the member led last";
     case KALEBASIN_WRONG_SENDER: return "the sender is no member, or doesn't lead the round";
@@ -93,22 +95,26 @@ static inline const char *kalebasin_cause(uint32_t number) {
     case KALEBASIN_COUNTED_ALREADY: return "the sender is counted already";
     case KALEBASIN_LIST_SHAPE: return "the count is above 1,000, or bytes, count and kinds don't match exactly";
     case KALEBASIN_OFFICE_SIZE: return "the number of members isn't 3, 5 or 7";
-    case KALEBASIN_STORE_OR_ANSWERS: return "the store isn't 1 to 2,000 whole rows of 28 bytes, or there are too few answer bytes";
+    case KALEBASIN_STORE_OR_ANSWERS: return "the store isn't 1 to 2,000 whole rows of 32 bytes, or there are too few answer bytes";
     case KALEBASIN_NO_MEMBER_OR_MESSAGE: return "there is no such member or no such message";
     case KALEBASIN_STORE_FULL: return "the store is full";
     case KALEBASIN_LENGTHS_DIFFER: return "the two tables differ in length";
+    case KALEBASIN_WRONG_SLOT: return "the slot of a message or event is above 7, or a message is of another slot";
     default: return "no refusal has this number";
     }
 }
 
 /* The version of the functions that this header declares, and that which each archive has. A program that starts asks that they
  * be equal: the version goes up with each change that a caller sees. */
-enum { KALEBASIN_VERSION = 5 };
+enum { KALEBASIN_VERSION = 6 };
 uint32_t kalebasin_version(void);
 uint32_t kalebasin_member_version(void);
 
+/* The slots: 0 to 7, each with its own members and its own table. */
+enum { KALEBASIN_SLOTS = 8 };
+
 /* A row of the store in bytes, and a row of a table in words. */
-enum { KALEBASIN_STORE_ROW = 28, KALEBASIN_TABLE_ROW = 4 };
+enum { KALEBASIN_STORE_ROW = 32, KALEBASIN_TABLE_ROW = 4 };
 
 /* The status of a table's row; a free row is all 0. */
 enum { KALEBASIN_ADDED = 1, KALEBASIN_GHOST = 2, KALEBASIN_COMMITTED = 3 };
@@ -120,27 +126,30 @@ typedef struct {
     uint32_t number;
     uint32_t accepted;  /* events with the answer 0 */
     uint32_t messages;  /* rows of the store that hold a message */
-    uint32_t proposals; /* nodes beside the root */
-    uint32_t decisions; /* COMMITTED nodes beside the root */
+    uint32_t proposals; /* nodes beside the roots */
+    uint32_t decisions; /* COMMITTED nodes beside the roots */
     uint32_t ghosts;    /* rounds made GHOST, the sum over its adds; a node that was GHOST from the first isn't counted */
 } KalebasinPlayResult;
 
-/* Runs a list of events over a whole office. 26, 27, 28, 1.
+/* Runs a list of events over a whole office; each count of the result is that of all slots. 26, 27, 28, 1.
  *
- * list:    XDR words, high byte first: N, the count, then for each event 1, member, round, offer (8 bytes),
- *          or 2, message number, member.
- * store:   1 to 2,000 rows of 28 bytes. It is cleared; message k, from 0, stands at the front of row k.
- * table:   1 to 256 rows of 4 words: round, parent, value, status. It is made fresh before the first event. In what it is left, a
- *          GHOST node with a higher round in a row above was GHOST from the first; the other GHOST nodes are those that ghosts counts.
- * answers: at least a byte for each event, which gets 0, 3, 9, 19, 20, 22, 24, 25, 29 or 30; bytes behind them stay.
+ * list:    XDR words, high byte first: N, the count, then for each event 1, slot, member, round, offer (8 bytes),
+ *          or 2, slot, message number, member.
+ * store:   1 to 2,000 rows of 32 bytes, which all slots share. It is cleared; message k, from 0, stands at the front of row k.
+ * words:   the tables of the eight slots, one after another in slot order, each of 1 to 256 rows of 4 words: round, parent, value,
+ *          status. They are made fresh before the first event. In what a table is left, a GHOST node with a higher round in a row
+ *          above was GHOST from the first; the other GHOST nodes are those that ghosts counts.
+ * lengths: the words of each table. They may differ, and their sum is words_len; else 1.
+ * answers: at least a byte for each event, which gets 0, 3, 9, 19, 20, 22, 24, 25, 29, 30 or 32; bytes behind them stay.
  */
 KalebasinPlayResult kalebasin_play(const uint8_t *list, size_t list_len,
                                    uint8_t *store, size_t store_len,
-                                   uint64_t *table, size_t table_len,
+                                   uint64_t *words, size_t words_len, const size_t lengths[KALEBASIN_SLOTS],
                                    uint8_t *answers, size_t answers_len);
 
 typedef struct {
     uint32_t number;
+    uint32_t slot;
     uint32_t kind;
     uint32_t round;
     uint32_t sender;
@@ -149,8 +158,8 @@ typedef struct {
     uint64_t value;   /* PROPOSE: the value; JOIN that tells a vote: its value */
 } KalebasinMessageResult;
 
-/* Reads one message, neither more nor fewer bytes. 14 (under 4 bytes), 15, 14 (wrong length; a JOIN: under 16 bytes), 16
- * (presence), 14 (a JOIN: wrong length), 16 (other fields). A field that the kind doesn't have is 0. */
+/* Reads one message, neither more nor fewer bytes. 14 (under 8 bytes), 32 (a slot above 7), 15, 14 (wrong length; a JOIN: under 20
+ * bytes), 16 (presence), 14 (a JOIN: wrong length), 16 (other fields). A field that the kind doesn't have is 0. */
 KalebasinMessageResult kalebasin_read_message(const uint8_t *bytes, size_t len);
 
 typedef struct {
@@ -159,12 +168,13 @@ typedef struct {
 } KalebasinWriteResult;
 
 /* Writes the message with these fields to the front of buffer; bytes behind it stay. A field that the kind doesn't have
- * is 0, as the reader gives it. 15, 16 (presence; a field that the kind doesn't have isn't 0), 18 (under 28 bytes), 16
- * (ranges). */
-KalebasinWriteResult kalebasin_write_message(uint32_t kind, uint32_t round, uint32_t sender, uint32_t present,
-                                             uint32_t voted, uint64_t value, uint8_t *buffer, size_t len);
+ * is 0, as the reader gives it. 32 (a slot above 7), 15, 16 (presence; a field that the kind doesn't have isn't 0), 18 (under 32
+ * bytes), 16 (ranges). */
+KalebasinWriteResult kalebasin_write_message(uint32_t slot, uint32_t kind, uint32_t round, uint32_t sender,
+                                             uint32_t present, uint32_t voted, uint64_t value,
+                                             uint8_t *buffer, size_t len);
 
-/* A member record. Any numbers may stand here: what is no sound record gets 17. */
+/* A member record, of one slot. Any numbers may stand here: what is no sound record gets 17. */
 typedef struct {
     uint32_t me;     /* own number */
     uint32_t n;      /* N, the number of members: a quorum is 2 of 3, 3 of 5 or 4 of 7 */
@@ -176,6 +186,7 @@ typedef struct {
     uint64_t value;  /* X, the value to propose */
     uint32_t source; /* B, the round that it came from */
     uint32_t flags;  /* bit s: member s is counted in this phase; none from bit 7 on */
+    uint32_t slot;   /* 0 to 7: the slot that it takes messages of */
 } KalebasinMemberRecord;
 
 typedef struct {
@@ -187,16 +198,16 @@ typedef struct {
     KalebasinMemberRecord record; /* after the call; with a refusal as it came */
 } KalebasinMemberResult;
 
-/* The record of a member that has done nothing yet; zeros, where it is refused. 17. */
-KalebasinMemberResult kalebasin_member_fresh(uint32_t number, uint32_t members);
+/* The record of a member that has done nothing yet in this slot; zeros, where it is refused. 17. */
+KalebasinMemberResult kalebasin_member_fresh(uint32_t slot, uint32_t number, uint32_t members);
 
-/* Starts a round. reply has at least 28 bytes; what is sent stands at its front, and bytes behind it stay.
+/* Starts a round. reply has at least 32 bytes; what is sent stands at its front, and bytes behind it stay.
  * 17, 18, 3, 19, 20. */
 KalebasinMemberResult kalebasin_member_start(KalebasinMemberRecord record, uint32_t round, uint64_t offer,
                                              uint8_t *reply, size_t len);
 
-/* Delivers the bytes of one message; reply as above. 17, 18, those of the reader; then START 21, 22; JOIN 21, 24, 25;
- * PROPOSE 21, 22, 23; VOTE 21, 24, 25.
+/* Delivers the bytes of one message; reply as above. 17, 18, those of the reader, but 32 for every slot beside the record's own;
+ * then START 21, 22; JOIN 21, 24, 25; PROPOSE 21, 22, 23; VOTE 21, 24, 25.
  *
  * A START or PROPOSE that comes again, as where its answer was lost, leaves the record as it is and sends the same JOIN or
  * VOTE. It gets 22 once the member has joined or voted in a higher round, a START also once the member has voted in its own. */
@@ -206,8 +217,8 @@ KalebasinMemberResult kalebasin_member_deliver(KalebasinMemberRecord record, con
 /* Makes a table fresh: the root 0, 0, 0, 3 and zeros. It is then a tree of either kind. 1. */
 uint32_t kalebasin_tree_fresh(uint64_t *table, size_t len);
 
-/* The next four are the calls of a tree of values, as play leaves one: a node has its parent's value, unless that is the root. A
- * table is such a tree if they can leave it, from a fresh one; else it gets 2. */
+/* The next four are the calls of a tree of values, as play leaves one in each slot: a node has its parent's value, unless that
+ * is the root. A table is such a tree if they can leave it, from a fresh one; else it gets 2. */
 
 typedef struct {
     uint32_t number;

@@ -1,10 +1,11 @@
-//! A program to start a host from: an office of three, in which member 2 takes over member 1's value, and member 0 takes over none,
-//! which makes both their rounds GHOST.
+//! A program to start a host from: an office of three. In slot 0 member 2 takes over member 1's value, and member 0 takes over none,
+//! which makes both their rounds GHOST. In slot 3 a value is decided meanwhile.
 //!
 //! Run it with `cargo run --release --example office`.
 
-use kalebasin::{made_ghost, nodes, play, read_message, sent};
-use kalebasin::{EventList, Member, MessageNumber, Played, Refusal, Round, ValueTree, STORE_ROW, TABLE_ROW};
+use kalebasin::{made_ghost, nodes, read_message, sent};
+use kalebasin::{Event, EventList, Member, MessageNumber, Played, Refusal, Round, Slot, Tables, ValueTree};
+use kalebasin::{SLOTS, STORE_ROW};
 use std::error::Error;
 use std::io::{self, Write};
 use std::process::ExitCode;
@@ -21,7 +22,7 @@ fn main() -> ExitCode {
 }
 
 fn office(out: &mut dyn Write) -> Result<(), Box<dyn Error>> {
-    // What happened in the office. Messages count from 0 in the order they are sent.
+    // What happened in slot 0 of the office. Messages count from 0 in the order they are sent, in whatever slot.
     let mut list = EventList::new(3);
     list.start(Member(1), Round(1), 70)
         .deliver(MessageNumber(0), Member(0)) // START to 0, which joins
@@ -40,11 +41,18 @@ fn office(out: &mut dyn Write) -> Result<(), Box<dyn Error>> {
         .deliver(MessageNumber(10), Member(0))
         .deliver(MessageNumber(11), Member(0)); // round 3 proposes 90: rounds 1 and 2 can't be decided any more
 
-    // The memory that play works in. What it holds before doesn't matter.
+    // And in slot 3, where round 1 is another than that of slot 0.
+    list.events.push(Event::start(Member(1), Round(1), 60).in_slot(Slot(3)));
+    for (message, member) in [(13, 0), (13, 1), (14, 1), (15, 1), (16, 0), (16, 1), (17, 1), (18, 1)] {
+        list.events.push(Event::deliver(MessageNumber(message), Member(member)).in_slot(Slot(3)));
+    }
+    list.deliver(MessageNumber(18), Member(1)); // a VOTE of slot 3 isn't for members of slot 0
+
+    // The memory that play works in: 64 rows for each slot. What it holds before doesn't matter.
     let mut store = [0; 100 * STORE_ROW];
-    let mut table = [0; 64 * TABLE_ROW];
+    let mut tables = Tables::new([64; SLOTS]);
     let mut answers = [0; EventList::MOST];
-    let played = play(&list.to_bytes(), &mut store, &mut table, &mut answers)?;
+    let played = tables.play(&list.to_bytes(), &mut store, &mut answers)?;
 
     writeln!(out, "Answers")?;
     for (event, answer) in list.events.iter().zip(answers) {
@@ -59,15 +67,18 @@ fn office(out: &mut dyn Write) -> Result<(), Box<dyn Error>> {
         writeln!(out, "  {number}: {}", read_message(bytes)?)?;
     }
 
-    writeln!(out, "Tree")?;
-    for node in nodes(&table) {
-        writeln!(out, "  round {}, parent {}, value {}, {}", node.round, node.parent, node.value, node.status)?;
+    for slot in [Slot(0), Slot(3)] {
+        writeln!(out, "Tree of slot {slot}")?;
+        for node in nodes(tables.slot(slot)) {
+            writeln!(out, "  round {}, parent {}, value {}, {}", node.round, node.parent, node.value, node.status)?;
+        }
     }
 
-    // The proposals once more, on a tree of our own: each add says how many rounds it makes GHOST, a copy from before it which.
+    // The proposals of slot 0 once more, on a tree of our own: each add says how many rounds it makes GHOST, a copy from before it which.
     writeln!(out, "Made GHOST")?;
+    let table = tables.slot(Slot(0));
     let mut tree = ValueTree::fresh(vec![0; table.len()])?;
-    for node in nodes(&table).skip(1) {
+    for node in nodes(table).skip(1) {
         let before = tree.clone();
         let ghosts = tree.add(node.round, node.value, node.parent)?;
         if ghosts > 0 {

@@ -1,20 +1,23 @@
 //! Event lists: what play takes.
 
 use crate::notation::{self, Mistake};
-use crate::{Member, MessageNumber, Refusal, Round};
+use crate::{Member, MessageNumber, Refusal, Round, Slot};
 use std::fmt;
 use std::str::FromStr;
 
 /// One event of a list.
 ///
 /// Later versions have more kinds, and more fields in each, so a match has a last arm for others, a pattern ends in `..`,
-/// and an event is made by the function of its kind.
+/// and an event is made by the function of its kind. That makes it one of slot 0; [`Event::in_slot`] makes of it one of another
+/// slot.
 #[derive(Clone, Copy, Debug, PartialEq, Eq, Hash)]
 #[non_exhaustive]
 pub enum Event {
     /// A member starts a round that it leads and offers a value.
     #[non_exhaustive]
     Start {
+        /// The slot that it is of.
+        slot: Slot,
         /// The member that starts.
         member: Member,
         /// The round that it starts.
@@ -25,7 +28,9 @@ pub enum Event {
     /// A message sent earlier reaches a member.
     #[non_exhaustive]
     Deliver {
-        /// The message's place among those sent.
+        /// The slot that it is of.
+        slot: Slot,
+        /// The message's place among those sent, in whatever slot.
         message: MessageNumber,
         /// The member that it reaches.
         member: Member,
@@ -35,12 +40,28 @@ pub enum Event {
 impl Event {
     /// A member starts a round and offers a value.
     pub fn start(member: Member, round: Round, offer: u64) -> Event {
-        Event::Start { member, round, offer }
+        Event::Start { slot: Slot(0), member, round, offer }
     }
 
     /// A message reaches a member.
     pub fn deliver(message: MessageNumber, member: Member) -> Event {
-        Event::Deliver { message, member }
+        Event::Deliver { slot: Slot(0), message, member }
+    }
+
+    /// The same event in another slot.
+    #[must_use]
+    pub fn in_slot(mut self, other: Slot) -> Event {
+        match &mut self {
+            Event::Start { slot, .. } | Event::Deliver { slot, .. } => *slot = other,
+        }
+        self
+    }
+
+    /// The slot that it is of.
+    pub fn slot(&self) -> Slot {
+        match *self {
+            Event::Start { slot, .. } | Event::Deliver { slot, .. } => slot,
+        }
     }
 
     /// The member that takes the event.
@@ -52,29 +73,34 @@ impl Event {
 
     fn write(&self, bytes: &mut Vec<u8>) {
         match *self {
-            Event::Start { member, round, offer } => {
-                put_words(bytes, &[1, member.0, round.0]);
+            Event::Start { slot, member, round, offer } => {
+                put_words(bytes, &[1, slot.0, member.0, round.0]);
                 bytes.extend(offer.to_be_bytes());
             }
-            Event::Deliver { message, member } => put_words(bytes, &[2, message.0, member.0]),
+            Event::Deliver { slot, message, member } => put_words(bytes, &[2, slot.0, message.0, member.0]),
         }
     }
 
     fn read(rest: &mut Words) -> Option<Event> {
-        match rest.word()? {
-            1 => Some(Event::Start { member: Member(rest.word()?), round: Round(rest.word()?), offer: rest.double()? }),
-            2 => Some(Event::Deliver { message: MessageNumber(rest.word()?), member: Member(rest.word()?) }),
-            _ => None,
-        }
+        let (kind, slot) = (rest.word()?, Slot(rest.word()?));
+        let event = match kind {
+            1 => Event::start(Member(rest.word()?), Round(rest.word()?), rest.double()?),
+            2 => Event::deliver(MessageNumber(rest.word()?), Member(rest.word()?)),
+            _ => return None,
+        };
+        Some(event.in_slot(slot))
     }
 }
 
 impl fmt::Display for Event {
-    /// The rig's notation: `s(1,1,70)` or `d(0,2)`.
+    /// The rig's notation: `s(1,1,70)` or `d(0,2)`, and in a slot other than 0 `3:s(1,1,70)` or `3:d(0,2)`.
     fn fmt(&self, f: &mut fmt::Formatter) -> fmt::Result {
+        if self.slot() != Slot(0) {
+            write!(f, "{}:", self.slot())?;
+        }
         match self {
-            Event::Start { member, round, offer } => write!(f, "s({member},{round},{offer})"),
-            Event::Deliver { message, member } => write!(f, "d({message},{member})"),
+            Event::Start { member, round, offer, .. } => write!(f, "s({member},{round},{offer})"),
+            Event::Deliver { message, member, .. } => write!(f, "d({message},{member})"),
         }
     }
 }
@@ -89,6 +115,16 @@ impl fmt::Display for Event {
 /// assert_eq!(list.to_string(), "n=3 s(1,1,70) d(0,2)");
 /// assert_eq!("s(1,1,70) d(0,2)".parse().as_ref(), Ok(&list));
 /// assert_eq!(EventList::from_bytes(&list.to_bytes()), Ok(list));
+/// ```
+///
+/// [`EventList::start`] and [`EventList::deliver`] put events of slot 0 in the list. Those of other slots are made apart:
+///
+/// ```
+/// use kalebasin::{Event, EventList, Member, Round, Slot};
+///
+/// let mut list = EventList::new(3);
+/// list.events.push(Event::start(Member(1), Round(1), 70).in_slot(Slot(3)));
+/// assert_eq!(list.to_string(), "n=3 3:s(1,1,70)");
 /// ```
 ///
 /// A round number can't be given for a member number, nor the other way round:
@@ -118,13 +154,13 @@ impl EventList {
         EventList { n, events: Vec::new() }
     }
 
-    /// Puts a start behind the other events.
+    /// Puts a start in slot 0 behind the other events.
     pub fn start(&mut self, member: Member, round: Round, offer: u64) -> &mut EventList {
         self.events.push(Event::start(member, round, offer));
         self
     }
 
-    /// Puts a delivery behind the other events.
+    /// Puts a delivery in slot 0 behind the other events.
     pub fn deliver(&mut self, message: MessageNumber, member: Member) -> &mut EventList {
         self.events.push(Event::deliver(message, member));
         self
@@ -132,7 +168,7 @@ impl EventList {
 
     /// The bytes that play takes: N, the count, the events.
     pub fn to_bytes(&self) -> Vec<u8> {
-        let mut bytes = Vec::with_capacity(8 + 20 * self.events.len());
+        let mut bytes = Vec::with_capacity(8 + 24 * self.events.len());
         put_words(&mut bytes, &[self.n, u32::try_from(self.events.len()).unwrap_or(u32::MAX)]);
         self.events.iter().for_each(|event| event.write(&mut bytes));
         bytes

@@ -8,7 +8,9 @@
 //! isn't followed and may be null. Words (`u64`) start at a multiple of 8, bytes anywhere. What a `*mut` stands at may be
 //! written, and overlaps nothing else that is passed.
 
-/// What [`kalebasin_play`] returns: on a refusal all but `number` is 0. Later versions count more.
+use crate::SLOTS;
+
+/// What [`kalebasin_play`] returns, counted over all slots: on a refusal all but `number` is 0. Later versions count more.
 #[repr(C)]
 #[derive(Clone, Copy, Debug, Default, PartialEq, Eq, Hash)]
 #[non_exhaustive]
@@ -19,12 +21,12 @@ pub struct PlayResult {
     pub accepted: u32,
     /// Rows of the store that hold a message.
     pub messages: u32,
-    /// Nodes of the tree beside the root.
+    /// Nodes of the trees beside their roots.
     pub proposals: u32,
-    /// COMMITTED nodes beside the root.
+    /// COMMITTED nodes beside the roots.
     pub decisions: u32,
-    /// Rounds that were made GHOST, each by a later proposal; a node that was GHOST from the first isn't among them.
-    /// [`Played`](crate::Played) says how to tell them in the table left.
+    /// Rounds that were made GHOST, each by a later proposal of its slot; a node that was GHOST from the first isn't among them.
+    /// [`Played`](crate::Played) says how to tell them in the tables left.
     pub ghosts: u32,
 }
 
@@ -36,6 +38,8 @@ pub struct PlayResult {
 pub struct MessageResult {
     /// 0, or why the message is refused.
     pub number: u32,
+    /// The slot it is of.
+    pub slot: u32,
     /// 1 START, 2 JOIN, 3 PROPOSE, 4 VOTE.
     pub kind: u32,
     /// The round it is of.
@@ -97,6 +101,8 @@ pub struct MemberRecord {
     pub source: u32,
     /// Bit s is the flag of member s.
     pub flags: u32,
+    /// The slot that it takes messages of.
+    pub slot: u32,
 }
 
 /// What the calls of a member return: on a refusal the record is as it came, and all else but `number` is 0.
@@ -130,7 +136,7 @@ pub struct WriteResult {
 
 /// The version of the C functions that this crate is written for. A call of the front of this crate panics
 /// where an archive's version ([`kalebasin_version`], [`kalebasin_member_version`]) is another.
-pub const API_VERSION: u32 = 5;
+pub const API_VERSION: u32 = 6;
 
 extern "C" {
     /// The version of these functions that `libexports.a` has.
@@ -148,14 +154,15 @@ extern "C" {
     /// [`play`](crate::play).
     ///
     /// # Safety
-    /// What [the module](self) says of slices.
+    /// What [the module](self) says of slices; `lengths` stands at eight numbers.
     pub fn kalebasin_play(
         list: *const u8,
         list_len: usize,
         store: *mut u8,
         store_len: usize,
-        table: *mut u64,
-        table_len: usize,
+        words: *mut u64,
+        words_len: usize,
+        lengths: *const [usize; SLOTS],
         answers: *mut u8,
         answers_len: usize,
     ) -> PlayResult;
@@ -247,6 +254,7 @@ extern "C" {
     /// # Safety
     /// What [the module](self) says of slices.
     pub fn kalebasin_write_message(
+        slot: u32,
         kind: u32,
         round: u32,
         sender: u32,
@@ -261,7 +269,7 @@ extern "C" {
     ///
     /// # Safety
     /// It asks for nothing.
-    pub fn kalebasin_member_fresh(number: u32, members: u32) -> MemberResult;
+    pub fn kalebasin_member_fresh(slot: u32, number: u32, members: u32) -> MemberResult;
 
     /// [`MemberRecord::start`](crate::MemberRecord::start).
     ///

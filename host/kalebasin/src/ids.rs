@@ -1,4 +1,4 @@
-//! Numbers of three sorts that never stand for one another.
+//! Numbers of four sorts that never stand for one another.
 
 use std::fmt;
 
@@ -24,7 +24,58 @@ sort_of_number!(
     "A round number: 1 to 1,000,000, or 0 for the root. Any number can be named; a call refuses one out of range."
 );
 sort_of_number!(Member, "A member number: 0 to N - 1. Any number can be named; a call refuses one out of range.");
+sort_of_number!(
+    Slot,
+    "A slot number: 0 to 7. Any number can be named; a call refuses one out of range.
+
+A slot is a password set that is agreed on by itself:
+
+```
+use kalebasin::{Event, Member, Round, Slot};
+assert_eq!(Event::start(Member(1), Round(1), 70).in_slot(Slot(3)).slot(), Slot(3));
+```
+
+Neither a round nor a member stands for one, nor a slot for one of these:
+
+```compile_fail
+use kalebasin::{Event, Member, Round, Slot};
+assert_eq!(Event::start(Member(1), Round(1), 70).in_slot(Round(3)).slot(), Slot(3));
+```
+
+```compile_fail
+use kalebasin::{Event, Member, Round, Slot};
+assert_eq!(Event::start(Member(1), Round(1), 70).in_slot(Member(3)).slot(), Slot(3));
+```
+
+```compile_fail
+use kalebasin::{Event, Member, Round, Slot};
+assert_eq!(Event::start(Slot(1), Round(1), 70).in_slot(Slot(3)).slot(), Slot(3));
+```
+
+```compile_fail
+use kalebasin::{Event, Member, Round, Slot};
+assert_eq!(Event::start(Member(1), Slot(1), 70).in_slot(Slot(3)).slot(), Slot(3));
+```
+
+```compile_fail
+use kalebasin::{Event, Member, Round, Slot};
+assert_eq!(Event::start(Member(1), Round(1), 70).in_slot(Slot(3)).slot(), Round(3));
+```"
+);
 sort_of_number!(MessageNumber, "The place of a sent message in the store, from 0.");
+
+/// How many slots there are.
+pub const SLOTS: usize = 8;
+
+impl Slot {
+    /// The slots in order.
+    pub const ALL: [Slot; SLOTS] = [Slot(0), Slot(1), Slot(2), Slot(3), Slot(4), Slot(5), Slot(6), Slot(7)];
+
+    /// 0 to 7.
+    pub fn in_range(self) -> bool {
+        (self.0 as usize) < SLOTS
+    }
+}
 
 impl Round {
     /// The root of every tree.

@@ -3,15 +3,16 @@
 //!
 //! The core runs a list of events over a whole office: members start rounds, and messages reach members in any order,
 //! any number of times or never. It answers each event, keeps the messages sent, and leaves a quorum tree of what was
-//! proposed and decided. That the decided values are all equal is proved.
+//! proposed and decided. An office has eight slots, each with its own members and its own tree. That the decided values of a slot
+//! are all equal is proved.
 //!
 //! # Calling the core
 //!
-//! Build an [`EventList`], lend [`play`] the memory it works in, and read what it left:
-//! the answers by [`Refusal::from_number`], the messages by [`sent`] and [`read_message`], the tree by [`nodes`].
+//! Build an [`EventList`], lend [`play`] the memory it works in, or let [`Tables::play`] bring the tables along, and read what it
+//! left: the answers by [`Refusal::from_number`], the messages by [`sent`] and [`read_message`], a slot's tree by [`nodes`].
 //! `examples/office.rs` is a program to start from.
 //!
-//! A machine that runs one member keeps a [`MemberRecord`]: [`MemberRecord::start`] begins a round that it leads,
+//! A machine that runs one member keeps a [`MemberRecord`] for each slot: [`MemberRecord::start`] begins a round that it leads,
 //! [`MemberRecord::deliver`] takes the bytes that come in, and what each of them leaves in its reply goes out. A leader that
 //! misses answers sends its START or PROPOSE again, from the bytes that it has kept (a second [`MemberRecord::start`] of the
 //! round gets 20), and it is answered again. What is proved of the values decided is proved of play, for members that never
@@ -50,12 +51,13 @@ mod played;
 mod proved;
 mod refusal;
 mod store;
+mod tables;
 #[cfg(feature = "core")]
 pub mod tree;
 mod tree_call;
 
 pub use event::{Event, EventList};
-pub use ids::{Member, MessageNumber, Round};
+pub use ids::{Member, MessageNumber, Round, Slot, SLOTS};
 pub use member::{Made, MemberFields, Report};
 pub use message::{Message, Vote};
 pub use node::{made_ghost, nodes, Node, Status};
@@ -64,6 +66,7 @@ pub use played::{Played, STORE_ROW, STORE_ROWS, TABLE_ROW, TABLE_ROWS};
 pub use proved::{play, read_message, MemberRecord};
 pub use refusal::{number_of, NoRefusal, Refusal};
 pub use store::sent;
+pub use tables::Tables;
 #[cfg(feature = "core")]
 #[doc(inline)]
 pub use tree::{CommandTree, ValueTree};

@@ -1,6 +1,6 @@
 //! One member: the fields of its record, and what a call on it comes to.
 
-use crate::{Member, Round};
+use crate::{Member, Round, Slot};
 
 /// The fields of a member record, with document 01's letters: what a host keeps on disk, or shows.
 ///
@@ -10,6 +10,8 @@ use crate::{Member, Round};
 #[derive(Clone, Copy, Debug, Default, PartialEq, Eq, Hash)]
 #[non_exhaustive]
 pub struct MemberFields {
+    /// The slot that the member takes messages of.
+    pub slot: Slot,
     /// The member's own number.
     pub number: Member,
     /// N: the number of members.

@@ -1,7 +1,7 @@
-//! The rig's notation: events `s(member,round,offer)` and `d(message,member)`, with the number of members in front as
-//! `n=5`, or 3 members where that is left out; and calls of a tree, `add(round,value,parent)`,
-//! `preview(round,value,parent)`, `commit(round)`, `path(round)` and `fresh`, with the kind of tree in front as
-//! `kind=command`, or a tree of values where that is left out.
+//! The rig's notation: events `s(member,round,offer)` and `d(message,member)`, each with its slot in front as `3:d(0,2)`, or of
+//! slot 0 where that is left out, and the number of members in front of all as `n=5`, or 3 members where that is left out; and
+//! calls of a tree, `add(round,value,parent)`, `preview(round,value,parent)`, `commit(round)`, `path(round)` and `fresh`, with
+//! the kind of tree in front as `kind=command`, or a tree of values where that is left out.
 //! Blanks and line feeds may stand between any two parts; `#` starts a comment that runs to the end of its line.
 //!
 //! ```
@@ -10,6 +10,7 @@
 //! let list = parse("n=5 s(1,1,70)\n# to member 0\nd(0, 0)", None).unwrap();
 //! assert_eq!(list.to_string(), "n=5 s(1,1,70) d(0,0)");
 //! assert_eq!(parse("s(1,1,70) d(0,0)", None).unwrap().to_string(), "n=3 s(1,1,70) d(0,0)");
+//! assert_eq!(parse("0:s(1,1,70) 3:s(1,1,80)", None).unwrap().to_string(), "n=3 s(1,1,70) 3:s(1,1,80)");
 //! let mistake = parse("n=3\ns(1,x,70)", None).unwrap_err();
 //! assert_eq!(mistake.to_string(), "line 2, column 5: a round number is missing here");
 //! ```
@@ -24,7 +25,7 @@
 //! assert_eq!(mistake.to_string(), "line 1, column 9: , is missing after the value");
 //! ```
 
-use crate::{Event, EventList, Member, MessageNumber, Round, TreeCall, TreeCallList, TreeKind};
+use crate::{Event, EventList, Member, MessageNumber, Round, Slot, TreeCall, TreeCallList, TreeKind};
 use std::fmt;
 use std::str::FromStr;
 
@@ -80,6 +81,33 @@ fn event(reader: &mut Reader) -> Result<Option<Event>, Mistake> {
     reader.skip_blanks();
     match reader.rest.chars().next() {
         None => Ok(None),
+        Some('s' | 'd') => event_in(reader, Slot(0)).map(Some),
+        Some('0'..='9') => {
+            let slot = slot(reader)?;
+            event_in(reader, slot).map(Some)
+        }
+        Some('n') => Err(reader.mistake("n= stands once, in front of the events")),
+        Some(other) => {
+            let starts = "an event starts with s( or d(, or with its slot as in 3:d(";
+            Err(reader.mistake(&format!("{starts}, not with {other:?}")))
+        }
+    }
+}
+
+/// `3:`. What has no colon behind its digits may be no slot at all, so that is told before a number that is too large.
+fn slot(reader: &mut Reader) -> Result<Slot, Mistake> {
+    let mut behind = reader.clone();
+    behind.take_all(char::is_ascii_digit);
+    behind.expect(':', "after the slot number")?;
+    let slot = Slot(reader.number("slot number")?);
+    *reader = behind;
+    Ok(slot)
+}
+
+/// `s(1,1,70)` or `d(0,2)`, in this slot.
+fn event_in(reader: &mut Reader, slot: Slot) -> Result<Event, Mistake> {
+    reader.skip_blanks();
+    match reader.rest.chars().next() {
         Some('s') => {
             reader.take('s');
             reader.expect('(', "after s")?;
@@ -89,7 +117,7 @@ fn event(reader: &mut Reader) -> Result<Option<Event>, Mistake> {
             reader.expect(',', "after the round number")?;
             let offer = reader.number("offer")?;
             reader.expect(')', "after the offer")?;
-            Ok(Some(Event::Start { member, round, offer }))
+            Ok(Event::Start { slot, member, round, offer })
         }
         Some('d') => {
             reader.take('d');
@@ -98,10 +126,9 @@ fn event(reader: &mut Reader) -> Result<Option<Event>, Mistake> {
             reader.expect(',', "after the message number")?;
             let member = Member(reader.number("member number")?);
             reader.expect(')', "after the member number")?;
-            Ok(Some(Event::Deliver { message, member }))
+            Ok(Event::Deliver { slot, message, member })
         }
-        Some('n') => Err(reader.mistake("n= stands once, in front of the events")),
-        Some(other) => Err(reader.mistake(&format!("an event starts with s( or d(, not with {other:?}"))),
+        _ => Err(reader.mistake(&format!("s( or d( is missing after {slot}:"))),
     }
 }
 

@@ -62,7 +62,7 @@ refusals! {
     15 MessageKind "the message's kind isn't 1 to 4"
     16 MessageField "a field of the message is out of range"
     17 RecordUnsound "the member record isn't sound"
-    18 ReplyTooShort "the reply buffer is under 28 bytes"
+    18 ReplyTooShort "the reply buffer is under 32 bytes"
     19 NotLeader "the member isn't the leader of the round"
     20 NotAboveLed "the round isn't above the one the member led last"
     21 WrongSender "the sender is no member, or doesn't lead the round"
@@ -72,10 +72,11 @@ refusals! {
     25 CountedAlready "the sender is counted already"
     26 ListShape "the count is above 1,000, or bytes, count and kinds don't match exactly"
     27 OfficeSize "the number of members isn't 3, 5 or 7"
-    28 StoreOrAnswers "the store isn't 1 to 2,000 whole rows of 28 bytes, or there are too few answer bytes"
+    28 StoreOrAnswers "the store isn't 1 to 2,000 whole rows of 32 bytes, or there are too few answer bytes"
     29 NoMemberOrMessage "there is no such member or no such message"
     30 StoreFull "the store is full"
     31 LengthsDiffer "the two tables differ in length"
+    32 WrongSlot "the slot of a message or event is above 7, or a message is of another slot"
 }
 
 impl Refusal {

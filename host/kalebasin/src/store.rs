@@ -6,10 +6,10 @@ use crate::STORE_ROW;
 /// part that is the message, as `read_message` takes it.
 ///
 /// ```
-/// let mut store = [0; 28 * 2];
-/// store[..12].copy_from_slice(&[0, 0, 0, 1, 0, 0, 0, 9, 0, 0, 0, 2]);
+/// let mut store = [0; 32 * 2];
+/// store[..16].copy_from_slice(&[0, 0, 0, 3, 0, 0, 0, 1, 0, 0, 0, 9, 0, 0, 0, 2]);
 /// let sent: Vec<&[u8]> = kalebasin::sent(&store, 1).collect();
-/// assert_eq!(sent, [&store[..12]]);
+/// assert_eq!(sent, [&store[..16]]);
 /// ```
 pub fn sent(store: &[u8], messages: u32) -> impl Iterator<Item = &[u8]> {
     store.chunks_exact(STORE_ROW).take(messages as usize).map(|row| &row[..message_length(row)])
@@ -17,10 +17,10 @@ pub fn sent(store: &[u8], messages: u32) -> impl Iterator<Item = &[u8]> {
 
 /// The length of the message at the front of a row, by its kind, and of a JOIN by its presence.
 fn message_length(row: &[u8]) -> usize {
-    match (row[3], row[15]) {
-        (1 | 4, _) => 12,
-        (2, 0) => 16,
-        (3, _) => 20,
+    match (row[7], row[19]) {
+        (1 | 4, _) => 16,
+        (2, 0) => 20,
+        (3, _) => 24,
         _ => STORE_ROW,
     }
 }
