@@ -1,6 +1,6 @@
 //! The calls as a set, so that two implementations can stand side by side.
 
-use kalebasin::{Member, MemberFields, Message, Played, Refusal, Report, Round, TreeCall, TreeKind};
+use kalebasin::{Member, MemberFields, Message, Played, Refusal, Report, Round, Slot, TreeCall, TreeKind, SLOTS};
 
 /// The calls of one implementation. Each has the meaning of the function or method of `kalebasin` that is named with it.
 #[allow(clippy::type_complexity)]
@@ -9,13 +9,13 @@ pub struct Calls {
     /// Which implementation this is, for people.
     pub name: &'static str,
     /// `play`.
-    pub play: fn(&[u8], &mut [u8], &mut [u64], &mut [u8]) -> Result<Played, Refusal>,
+    pub play: fn(&[u8], &mut [u8], &mut [u64], &[usize; SLOTS], &mut [u8]) -> Result<Played, Refusal>,
     /// `read_message`.
     pub read_message: fn(&[u8]) -> Result<Message, Refusal>,
     /// `Message::write`.
     pub write_message: fn(&Message, &mut [u8]) -> Result<usize, Refusal>,
     /// `MemberRecord::fresh`; a record is its fields here and below.
-    pub member_fresh: fn(Member, u32) -> Result<MemberFields, Refusal>,
+    pub member_fresh: fn(Slot, Member, u32) -> Result<MemberFields, Refusal>,
     /// `MemberRecord::start`.
     pub member_start: fn(&mut MemberFields, Round, u64, &mut [u8]) -> Result<Report, Refusal>,
     /// `MemberRecord::deliver`.

@@ -1,6 +1,6 @@
-//! A tree, or the trees before and after an add side by side, as text, as DOT and as SVG.
+//! A tree, the trees of some slots, or the trees before and after an add side by side, as text, as DOT and as SVG.
 
-use kalebasin::{nodes, Node, Round, Status};
+use kalebasin::{nodes, Node, Round, Slot, Status};
 use std::fmt::Write;
 
 /// The tree as text, a node below and right of its parent.
@@ -27,6 +27,36 @@ fn text_below(nodes: &[Node], round: Round, indent: &str, out: &mut String) {
         let (branch, below) = if last { ("└─", "   ") } else { ("├─", "│  ") };
         let _ = writeln!(out, "{indent}{branch} round {}, value {}, {}", child.round, child.value, child.status);
         text_below(nodes, child.round, &format!("{indent}{below}"), out);
+    }
+}
+
+/// The tables of some slots, each with its slot.
+pub type Trees<'a> = [(Slot, &'a [u64])];
+
+/// The trees of some slots as text, one below the other, each below its slot. The tree of slot 0 alone has no heading, nor has it in
+/// the other forms.
+///
+/// ```
+/// use kalebasin::Slot;
+///
+/// let (root, grown) = ([0, 0, 0, 3], [0, 0, 0, 3, 1, 0, 70, 3]);
+/// assert_eq!(kalebasin_rig::draw::text_of(&[(Slot(0), &root), (Slot(3), &grown)]), "\
+/// slot 0
+/// root
+///
+/// slot 3
+/// root
+/// └─ round 1, value 70, COMMITTED
+/// ");
+/// assert_eq!(kalebasin_rig::draw::text_of(&[(Slot(0), &root)]), "root\n");
+/// ```
+pub fn text_of(trees: &Trees) -> String {
+    match trees {
+        [(Slot(0), table)] => text(table),
+        _ => {
+            let each = trees.iter().map(|(slot, table)| format!("slot {slot}\n{}", text(table)));
+            each.collect::<Vec<_>>().join("\n")
+        }
     }
 }
 
@@ -70,14 +100,32 @@ pub fn dot(table: &[u64]) -> String {
     format!("{DOT_HEAD}{}}}\n", dot_nodes(table, "  ", "r"))
 }
 
+/// The trees of some slots in the DOT language, each in a box with its slot, their roots at one height.
+pub fn dot_of(trees: &Trees) -> String {
+    match trees {
+        [(Slot(0), table)] => dot(table),
+        _ => {
+            let name = |slot: &Slot| format!("slot{slot}_");
+            let boxes = trees.iter().map(|(slot, table)| (name(slot), format!("slot {slot}"), *table));
+            dot_boxes(&boxes.collect::<Vec<_>>())
+        }
+    }
+}
+
 /// Two trees side by side in the DOT language, each in a box with its heading, their roots at one height.
 pub fn dot_beside(before: &[u64], after: &[u64]) -> String {
-    let mut out = format!("{DOT_HEAD}  newrank = true;\n  {{ rank = same; before0; after0; }}\n");
-    for (heading, table) in [("before", before), ("after", after)] {
-        let nodes = dot_nodes(table, "    ", heading);
+    dot_boxes(&[("before", before), ("after", after)].map(|(heading, table)| (heading.into(), heading.into(), table)))
+}
+
+/// Trees in boxes, each with a name, which stands in front of its rounds, and a heading.
+fn dot_boxes(boxes: &[(String, String, &[u64])]) -> String {
+    let roots: String = boxes.iter().map(|(name, ..)| format!(" {name}0;")).collect();
+    let mut out = format!("{DOT_HEAD}  newrank = true;\n  {{ rank = same;{roots} }}\n");
+    for (name, heading, table) in boxes {
+        let nodes = dot_nodes(table, "    ", name);
         // rankdir = BT turns a box over, its label too
         let label = format!("    label = \"{heading}\";\n    labelloc = b;\n");
-        let _ = write!(out, "  subgraph cluster_{heading} {{\n{label}{nodes}  }}\n");
+        let _ = write!(out, "  subgraph cluster_{name} {{\n{label}{nodes}  }}\n");
     }
     out + "}\n"
 }
@@ -148,11 +196,23 @@ pub fn svg(table: &[u64]) -> String {
     svg_picture(tree.width, tree.height, &tree.drawn)
 }
 
+/// The trees of some slots side by side as an SVG picture, each below its slot.
+pub fn svg_of(trees: &Trees) -> String {
+    match trees {
+        [(Slot(0), table)] => svg(table),
+        _ => svg_side_by_side(trees.iter().map(|(slot, table)| (format!("slot {slot}"), *table))),
+    }
+}
+
 /// Two trees side by side as an SVG picture, each below its heading.
 pub fn svg_beside(before: &[u64], after: &[u64]) -> String {
-    let [left, right] = [before, after].map(SvgTree::new);
-    let mut drawn = String::new();
-    for (heading, tree, at) in [("before", &left, 0), ("after", &right, left.width)] {
+    svg_side_by_side([("before".into(), before), ("after".into(), after)].into_iter())
+}
+
+fn svg_side_by_side<'a>(trees: impl Iterator<Item = (String, &'a [u64])>) -> String {
+    let (mut drawn, mut at, mut height) = (String::new(), 0, 0);
+    for (heading, table) in trees {
+        let tree = SvgTree::new(table);
         let (middle, line) = (at + tree.width / 2, HEADING - LINE / 2);
         let _ = write!(
             drawn,
@@ -160,8 +220,10 @@ pub fn svg_beside(before: &[u64], after: &[u64]) -> String {
              <g transform=\"translate({at} {HEADING})\">\n{}</g>\n",
             tree.drawn
         );
+        at += tree.width;
+        height = height.max(tree.height);
     }
-    svg_picture(left.width + right.width, HEADING + left.height.max(right.height), &drawn)
+    svg_picture(at, HEADING + height, &drawn)
 }
 
 fn svg_picture(width: usize, height: usize, drawn: &str) -> String {

@@ -1,10 +1,10 @@
-//! A run in words, event by event: who, which message, which answer and why.
+//! A run in words, event by event: who, which message, which answer and why. The slot is named where it isn't 0.
 
 use crate::explain_tree::ghosts_in_words;
 use crate::second::member::{quorum, Proposal, Record, Step, COLLECTING, DECIDED, IDLE, PROPOSED};
-use crate::second::model::{Breach, Model};
+use crate::second::model::{Breach, Model, OfSlot, SlotBreach};
 use crate::trace::model_ghosts;
-use kalebasin::{Event, EventList, Member, Message, MessageNumber, Refusal, Round};
+use kalebasin::{Event, EventList, Member, Message, MessageNumber, Refusal, Round, Slot, SLOTS};
 
 /// An event, or a call of a tree, in words.
 #[derive(Clone, Debug, PartialEq, Eq, Hash)]
@@ -17,24 +17,34 @@ pub struct Explained {
     pub words: String,
 }
 
-/// A list in words, for a store and a table of so many rows.
+/// ` in slot 3`, or nothing for slot 0.
+pub fn in_slot(slot: Slot) -> String {
+    match slot {
+        Slot(0) => String::new(),
+        other => format!(" in slot {other}"),
+    }
+}
+
+/// A list in words, for a store and for each slot a table of so many rows.
 ///
 /// ```
 /// use kalebasin::notation::parse;
 /// use kalebasin_rig::explain::explain;
 ///
-/// let list = parse("n=3 s(1,1,70) s(1,2,80)", None).unwrap();
-/// let words: Vec<String> = explain(&list, 1000, 64)?.into_iter().map(|explained| explained.words).collect();
+/// let list = parse("n=3 s(1,1,70) s(1,2,80) 3:s(1,1,90) 3:d(0,1)", None).unwrap();
+/// let words: Vec<String> = explain(&list, 1000, [64; 8])?.into_iter().map(|explained| explained.words).collect();
 /// assert_eq!(words, [
 ///     "member 1 starts round 1 with the offer 70 and sends START (message 0)",
 ///     "member 1 can't start round 2: member 2 leads it",
+///     "slot 3: member 1 starts round 1 with the offer 90 and sends START (message 1)",
+///     "slot 3: member 1 doesn't take message 0, START of round 1 from member 1: the message is of slot 0",
 /// ]);
 /// # Ok::<(), kalebasin::Refusal>(())
 /// ```
 ///
 /// # Errors
 /// 27 where N isn't 3, 5 or 7.
-pub fn explain(list: &EventList, store_rows: usize, table_rows: usize) -> Result<Vec<Explained>, Refusal> {
+pub fn explain(list: &EventList, store_rows: usize, table_rows: [usize; SLOTS]) -> Result<Vec<Explained>, Refusal> {
     let mut model = Model::new(list.n, store_rows, table_rows)?;
     Ok(list.events.iter().map(|event| explain_event(&mut model, event)).collect())
 }
@@ -48,12 +58,12 @@ pub fn ghosts_otherwise(
     list: &EventList,
     ghosts: u32,
     store_rows: usize,
-    table_rows: usize,
+    table_rows: [usize; SLOTS],
 ) -> Result<Option<String>, Refusal> {
     let (model, _) = Model::run(list, store_rows, table_rows)?;
-    let made: u32 = match model_ghosts(&model.made, table_rows) {
+    let made: u32 = match model_ghosts(&model) {
         Ok(of_adds) => of_adds.iter().map(|(_, ghosts)| ghosts).sum(),
-        Err(Breach::Table(refusal)) => return Err(refusal),
+        Err(SlotBreach { breach: Breach::Table(refusal), .. }) => return Err(refusal),
         Err(breach) => return Ok(Some(format!("BREAKS THE THIRD DEMAND: {breach}"))),
     };
     Ok((ghosts != made).then(|| format!("MAKES {made} GHOST")))
@@ -66,6 +76,10 @@ pub fn explain_event(model: &mut Model, event: &Event) -> Explained {
         Ok(step) => (0, accepted(&before, model, event, &step)),
         Err(refusal) => (refusal.number(), refused(&before, event, refusal)),
     };
+    let words = match event.slot() {
+        Slot(0) => words,
+        other => format!("slot {other}: {words}"),
+    };
     Explained { notation: event.to_string(), answer, words }
 }
 
@@ -76,12 +90,14 @@ fn sent_as(before: &Model, step: &Step) -> String {
 
 fn accepted(before: &Model, after: &Model, event: &Event, step: &Step) -> String {
     let sent = sent_as(before, step);
+    let slot = event.slot().0 as usize;
+    let (before_in, after_in) = (&before.slots[slot], &after.slots[slot]);
     match event {
         Event::Start { member, round, offer, .. } => {
             format!("member {member} starts round {round} with the offer {offer} and sends {sent}")
         }
         Event::Deliver { message, member, .. } => {
-            let (was, is) = (&before.members[member.0 as usize], &after.members[member.0 as usize]);
+            let (was, is) = (&before_in.members[member.0 as usize], &after_in.members[member.0 as usize]);
             match &before.sent[message.0 as usize] {
                 Message::Start { round, .. } => {
                     let (again, same) = join_before(before, step);
@@ -97,7 +113,7 @@ fn accepted(before: &Model, after: &Model, event: &Event, step: &Step) -> String
                     let again = if was.v == *round { " again" } else { "" };
                     format!("member {member} votes{again} for {value} in round {round} and sends {sent}")
                 }
-                Message::Join { sender, .. } => counted_join(before, *sender, is, step, &sent),
+                Message::Join { sender, .. } => counted_join(before_in, *sender, is, step, &sent),
                 Message::Vote { sender, .. } => counted_vote(*sender, is, step),
             }
         }
@@ -113,7 +129,7 @@ fn join_before(before: &Model, step: &Step) -> (&'static str, String) {
     }
 }
 
-fn counted_join(before: &Model, sender: Member, is: &Record, step: &Step, sent: &str) -> String {
+fn counted_join(before: &OfSlot, sender: Member, is: &Record, step: &Step, sent: &str) -> String {
     let was = &before.members[is.number.0 as usize];
     let needed = quorum(is.n);
     let count = was.counted() + 1;
@@ -133,9 +149,9 @@ fn counted_join(before: &Model, sender: Member, is: &Record, step: &Step, sent: 
     words
 }
 
-/// The rounds that a proposal makes GHOST: those that its edge crosses and no edge of an earlier one did. No edge crosses a decided
-/// round, by the third demand.
-fn first_crossed(before: &Model, proposal: Proposal) -> Vec<Round> {
+/// The rounds of its slot that a proposal makes GHOST: those that its edge crosses and no edge of an earlier one did. No edge crosses a
+/// decided round, by the third demand.
+fn first_crossed(before: &OfSlot, proposal: Proposal) -> Vec<Round> {
     let crosses = |edge: Proposal, round: Round| edge.parent < round && round < edge.round;
     let crossed = before.proposals().map(|made| made.round).filter(|round| crosses(proposal, *round));
     crossed.filter(|round| !before.proposals().any(|edge| crosses(edge, *round))).collect()
@@ -167,10 +183,14 @@ fn refused(before: &Model, event: &Event, refusal: Refusal) -> String {
 }
 
 fn why(before: &Model, event: &Event, member: Member, refusal: Refusal) -> String {
-    let Some(record) = before.member(member) else {
+    let Some(of_slot) = before.slot(event.slot()) else {
+        return format!("the office has slots 0 to {}", SLOTS - 1);
+    };
+    let Some(record) = before.member(event.slot(), member) else {
         return format!("the office has members 0 to {}", before.n() - 1);
     };
     match (refusal, event) {
+        (Refusal::WrongSlot, Event::Deliver { message, .. }) => another_slot(before, *message),
         (Refusal::NoMemberOrMessage, _) => match before.sent.len() {
             0 => "no message was sent yet".into(),
             1 => "only message 0 was sent yet".into(),
@@ -187,7 +207,7 @@ fn why(before: &Model, event: &Event, member: Member, refusal: Refusal) -> Strin
             format!("it would send, and the {} messages sent fill the store", before.sent.len())
         }
         (Refusal::NoFreeRow, _) => {
-            format!("it would propose, and the {} proposals fill the table", before.proposals().count())
+            format!("it would propose, and the {} proposals fill the table", of_slot.proposals().count())
         }
         _ => refusal.cause().into(),
     }
@@ -198,6 +218,13 @@ fn moved_past(before: &Model, message: MessageNumber, record: &Record) -> String
     match before.message(message) {
         Some(sent) if sent.round() == record.j => format!("it has voted in round {} already", record.v),
         _ => format!("it has joined or voted in round {}", record.j),
+    }
+}
+
+fn another_slot(before: &Model, message: MessageNumber) -> String {
+    match before.message(message) {
+        Some(sent) => format!("the message is of slot {}", sent.slot()),
+        None => Refusal::WrongSlot.cause().into(),
     }
 }
 

@@ -3,9 +3,8 @@
 use crate::compare::Lent;
 use crate::random::Random;
 use crate::second::model::Model;
-use kalebasin::{
-    Event, EventList, Member, Message, MessageNumber, Refusal, Round, STORE_ROW, STORE_ROWS, TABLE_ROW, TABLE_ROWS,
-};
+use kalebasin::{Event, EventList, Member, Message, MessageNumber, Refusal, Round, Slot};
+use kalebasin::{SLOTS, STORE_ROW, STORE_ROWS, TABLE_ROW, TABLE_ROWS};
 
 /// A list and the memory lent with it.
 #[derive(Clone, Debug, PartialEq, Eq, Hash)]
@@ -33,12 +32,45 @@ struct Style {
     again: usize,
 }
 
+/// The slots of a list.
+#[derive(Clone, Debug)]
+pub struct Slots {
+    /// Those that rounds are started in, at least one.
+    pub used: Vec<Slot>,
+    /// Events in any other slot, there or not, in a hundred.
+    pub stray: usize,
+}
+
+impl Slots {
+    /// One slot alone.
+    pub fn one(slot: Slot) -> Slots {
+        Slots { used: vec![slot], stray: 0 }
+    }
+
+    /// Mostly one, and mostly slot 0.
+    pub fn any(random: &mut Random) -> Slots {
+        let used = match random.below(100) {
+            0..=54 => vec![Slot(0)],
+            55..=74 => vec![*random.pick(&Slot::ALL)],
+            other => {
+                let mut slots = Slot::ALL;
+                random.shuffle(&mut slots);
+                slots[..if other < 90 { 2 } else { random.between(3, SLOTS) }].to_vec()
+            }
+        };
+        Slots { used, stray: *random.pick(&[0, 0, 0, 0, 3, 15]) }
+    }
+}
+
 /// A list of 0 to 1,000 events for 3, 5 or 7 members, with memory of any allowed size.
 pub fn case(random: &mut Random) -> Case {
     let n = *random.pick(&[3, 3, 3, 5, 5, 7]);
+    let slots = Slots::any(random);
+    // Two slots take twice the events of one to get as far; more of them get less far.
+    let times = slots.used.len().min(2);
     let events = match random.below(100) {
-        0..=69 => random.between(0, 60),
-        70..=95 => random.between(40, 160),
+        0..=69 => random.between(0, 60 * times),
+        70..=95 => random.between(40, 160 * times),
         _ => random.between(160, EventList::MOST),
     };
     let store_rows = match random.below(100) {
@@ -48,22 +80,25 @@ pub fn case(random: &mut Random) -> Case {
         _ => STORE_ROWS,
     };
     let table_rows = match random.below(100) {
-        0..=59 => 64,
-        60..=89 => random.between(1, 4),
-        _ => random.between(1, TABLE_ROWS),
+        0..=59 => [64; SLOTS],
+        60..=67 => [random.between(1, 4); SLOTS],
+        68..=89 => std::array::from_fn(|_| random.between(1, 4)),
+        90..=97 => [random.between(1, TABLE_ROWS); SLOTS],
+        _ => std::array::from_fn(|_| random.between(1, TABLE_ROWS)),
     };
     let spare = if random.chance(50) { 0 } else { random.between(1, 20) };
     let lent = Lent {
         store: store_rows * STORE_ROW,
-        table: table_rows * TABLE_ROW,
+        tables: table_rows.map(|rows| rows * TABLE_ROW),
+        misfit: 0,
         answers: events + spare,
         dirt: random.number(),
     };
-    let list = list(random, n, events, store_rows, table_rows).expect("n is 3, 5 or 7");
+    let list = list_in(&slots, random, n, events, store_rows, table_rows).expect("n is 3, 5 or 7");
     Case { list, lent }
 }
 
-/// A list of so many events for `n` members and memory of so many rows.
+/// A list of so many events for `n` members and memory of so many rows, in any slots.
 ///
 /// # Errors
 /// 27 where `n` isn't 3, 5 or 7.
@@ -72,7 +107,26 @@ pub fn list(
     n: u32,
     events: usize,
     store_rows: usize,
-    table_rows: usize,
+    table_rows: [usize; SLOTS],
+) -> Result<EventList, Refusal> {
+    let slots = Slots::any(random);
+    list_in(&slots, random, n, events, store_rows, table_rows)
+}
+
+/// The same in these slots.
+///
+/// # Errors
+/// 27 where `n` isn't 3, 5 or 7.
+///
+/// # Panics
+/// Where no slot is used, or one above 7.
+pub fn list_in(
+    slots: &Slots,
+    random: &mut Random,
+    n: u32,
+    events: usize,
+    store_rows: usize,
+    table_rows: [usize; SLOTS],
 ) -> Result<EventList, Refusal> {
     let mut model = Model::new(n, store_rows, table_rows)?;
     let style = Style {
@@ -85,19 +139,34 @@ pub fn list(
     };
     let mut list = EventList::new(n);
     while list.events.len() < events {
-        let event = next(random, &model, style);
+        let mut event = next(random, &model, style, slots);
+        if slots.stray > 0 && random.chance(slots.stray) {
+            event = event.in_slot(any_slot(random));
+        }
         let _ = model.take(&event);
         list.events.push(event);
     }
     Ok(list)
 }
 
-fn next(random: &mut Random, model: &Model, style: Style) -> Event {
+/// A slot from 0 to 8, now and then any number.
+fn any_slot(random: &mut Random) -> Slot {
+    Slot(match random.below(20) {
+        0 => random.number() as u32,
+        _ => random.below(SLOTS + 1) as u32,
+    })
+}
+
+fn next(random: &mut Random, model: &Model, style: Style, slots: &Slots) -> Event {
+    let slot = match slots.used[..] {
+        [one] => one,
+        _ => *random.pick(&slots.used),
+    };
     if random.chance(style.wild) {
-        return wild(random, model);
+        return wild(random, model).in_slot(slot);
     }
     if model.sent.is_empty() || random.chance(style.hurry) {
-        return start(random, model, style);
+        return start(random, model, style, slot);
     }
     let mut tried = delivery(random, model, style);
     for _ in 0..12 {
@@ -107,7 +176,7 @@ fn next(random: &mut Random, model: &Model, style: Style) -> Event {
         tried = delivery(random, model, style);
     }
     if random.chance(60) {
-        start(random, model, style)
+        start(random, model, style, slot)
     } else {
         tried
     }
@@ -116,7 +185,7 @@ fn next(random: &mut Random, model: &Model, style: Style) -> Event {
 /// Whether this brings a START to a member that has joined its round.
 fn joins_again(model: &Model, event: &Event) -> bool {
     let Event::Deliver { message, member, .. } = event else { return false };
-    match (model.message(*message), model.member(*member)) {
+    match (model.message(*message), model.member(event.slot(), *member)) {
         (Some(Message::Start { round, .. }), Some(record)) => record.j == *round,
         _ => false,
     }
@@ -146,11 +215,12 @@ fn wild(random: &mut Random, model: &Model) -> Event {
 }
 
 /// A start by a leader, of a round that it hasn't led.
-fn start(random: &mut Random, model: &Model, style: Style) -> Event {
+fn start(random: &mut Random, model: &Model, style: Style, slot: Slot) -> Event {
     let n = model.n();
     let member = random.below(n as usize) as u32;
-    let highest = model.members.iter().map(|record| record.l.0).max().unwrap_or(0);
-    let own = model.members[member as usize].l.0;
+    let members = &model.slots[slot.0 as usize].members;
+    let highest = members.iter().map(|record| record.l.0).max().unwrap_or(0);
+    let own = members[member as usize].l.0;
     let above = if random.chance(style.below) { own } else { highest };
     let mut round = above + 1;
     while round % n != member {
@@ -161,7 +231,7 @@ fn start(random: &mut Random, model: &Model, style: Style) -> Event {
         1..=30 => round += n * random.between(1, 3) as u32,
         _ => {}
     }
-    Event::start(Member(member), Round(round), offer(random))
+    Event::start(Member(member), Round(round), offer(random)).in_slot(slot)
 }
 
 fn offer(random: &mut Random) -> u64 {
@@ -173,12 +243,13 @@ fn offer(random: &mut Random) -> u64 {
     }
 }
 
-/// A message sent earlier, to a member that could await it.
+/// A message sent earlier, to a member of its slot that could await it.
 fn delivery(random: &mut Random, model: &Model, style: Style) -> Event {
     let mut message = sent_earlier(random, model, style);
-    let highest = model.proposals().map(|proposal| proposal.round).max();
+    let highest =
+        |slot: Slot| model.slot(slot).and_then(|of_slot| of_slot.proposals().map(|proposal| proposal.round).max());
     for _ in 0..6 {
-        if matches!(model.sent[message], Message::Vote { round, .. } if Some(round) == highest)
+        if matches!(model.sent[message], Message::Vote { slot, round, .. } if Some(round) == highest(slot))
             && random.chance(style.put_off)
         {
             message = sent_earlier(random, model, style);
@@ -188,7 +259,7 @@ fn delivery(random: &mut Random, model: &Model, style: Style) -> Event {
         Message::Join { round, .. } | Message::Vote { round, .. } => model.leader(round),
         Message::Start { .. } | Message::Propose { .. } => Member(random.below(model.n() as usize) as u32),
     };
-    Event::deliver(MessageNumber(message as u32), member)
+    Event::deliver(MessageNumber(message as u32), member).in_slot(model.sent[message].slot())
 }
 
 fn sent_earlier(random: &mut Random, model: &Model, style: Style) -> usize {

@@ -88,17 +88,17 @@ fn or_null<T>(one: Option<T>, json: impl Fn(T) -> Json) -> Json {
 /// ```
 /// use kalebasin_rig::{json::event, second, trace::trace};
 ///
-/// let list = kalebasin::notation::parse("s(2,1,70)", None).unwrap();
-/// let happened = &trace(&second::CALLS, &list, &[19], 10, 10)?[0];
-/// assert!(event(0, happened).to_string().starts_with(
-///     r#"{"number":0,"event":{"notation":"s(2,1,70)","kind":"start","member":2,"round":1,"offer":"70"},"answer":19,"#
+/// let list = kalebasin::notation::parse("3:s(2,1,70)", None).unwrap();
+/// let happened = &trace(&second::CALLS, &list, &[19], 10, [10; 8])?.events[0];
+/// assert!(event(happened).to_string().starts_with(
+///     r#"{"number":0,"event":{"notation":"3:s(2,1,70)","kind":"start","slot":3,"member":2,"round":1,"offer":"70"},"#
 /// ));
 /// # Ok::<(), kalebasin::Refusal>(())
 /// ```
-pub fn event(at: usize, happened: &Happened) -> Json {
+pub fn event(happened: &Happened) -> Json {
     let refusal = Refusal::from_number(happened.answer);
     Json::Object(vec![
-        ("number", Json::Number(at as u64)),
+        ("number", Json::Number(happened.place as u64)),
         ("event", event_fields(&happened.event)),
         ("answer", number(happened.answer)),
         ("model_answer", number(happened.explained.answer)),
@@ -119,15 +119,19 @@ pub fn event(at: usize, happened: &Happened) -> Json {
 fn event_fields(event: &Event) -> Json {
     let mut fields = vec![("notation", Json::Text(event.to_string()))];
     fields.extend(match event {
-        Event::Start { member, round, offer, .. } => vec![
+        Event::Start { slot, member, round, offer, .. } => vec![
             ("kind", text("start")),
+            ("slot", number(slot.0)),
             ("member", number(member.0)),
             ("round", number(round.0)),
             ("offer", value(*offer)),
         ],
-        Event::Deliver { message, member, .. } => {
-            vec![("kind", text("deliver")), ("message", number(message.0)), ("member", number(member.0))]
-        }
+        Event::Deliver { slot, message, member, .. } => vec![
+            ("kind", text("deliver")),
+            ("slot", number(slot.0)),
+            ("message", number(message.0)),
+            ("member", number(member.0)),
+        ],
         _ => Vec::new(),
     });
     Json::Object(fields)
@@ -136,6 +140,7 @@ fn event_fields(event: &Event) -> Json {
 fn message_fields(message: &Message) -> Vec<(&'static str, Json)> {
     let mut fields = vec![
         ("kind", text(message.kind())),
+        ("slot", number(message.slot().0)),
         ("round", number(message.round().0)),
         ("sender", number(message.sender().0)),
     ];
@@ -174,6 +179,7 @@ fn made(made: Made) -> Json {
 pub fn record(record: &Record) -> Json {
     let counted = (0..).zip(record.flags).filter(|(_, flag)| *flag).map(|(member, _)| Json::Number(member)).collect();
     Json::Object(vec![
+        ("slot", number(record.slot.0)),
         ("member", number(record.number.0)),
         ("n", number(record.n)),
         ("j", number(record.j.0)),

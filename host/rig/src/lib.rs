@@ -1,7 +1,7 @@
 //! The rig of Kalebasin: what compares the proved core with a second implementation, and what the program `kalebasin` and
 //! the tests are made of. A vault needs none of it; it depends on the crate `kalebasin` alone.
 //!
-//! - [`second`]: document 01, and Tickets 1 to 5 of document 02, in plain Rust, written from the documents alone, the
+//! - [`second`]: document 01, and Tickets 1 to 6 of document 02, in plain Rust, written from the documents alone, the
 //!   reference for tests
 //! - [`quick`]: play in plain Rust, written for speed, and the plain Rust with one walk that play's time is measured by
 //! - [`Calls`]: the calls of one implementation as a set; `proved::CALLS` are those of the core

@@ -2,7 +2,7 @@
 
 use crate::Calls;
 use kalebasin::{play, read_message, CommandTree, ValueTree};
-use kalebasin::{Member, MemberFields, MemberRecord, Message, Refusal, Report, Round, TreeKind};
+use kalebasin::{Member, MemberFields, MemberRecord, Message, Refusal, Report, Round, Slot, TreeKind};
 
 /// The proved core, as a set of calls.
 pub const CALLS: Calls = Calls {
@@ -20,8 +20,8 @@ pub const CALLS: Calls = Calls {
     tree_path,
 };
 
-fn member_fresh(number: Member, members: u32) -> Result<MemberFields, Refusal> {
-    MemberRecord::fresh(number, members).map(|record| record.fields())
+fn member_fresh(slot: Slot, number: Member, members: u32) -> Result<MemberFields, Refusal> {
+    MemberRecord::fresh(slot, number, members).map(|record| record.fields())
 }
 
 fn member_start(fields: &mut MemberFields, round: Round, offer: u64, reply: &mut [u8]) -> Result<Report, Refusal> {

@@ -4,9 +4,10 @@
 //! It goes once over the nodes for a proposal and once for a decision. It is play alone, in one piece, without proofs; a test
 //! compares it with the second implementation, lent memory included. The office's host program calls the core, not this.
 
-use crate::second::{self, play::TreeSteps};
+use crate::second::play::{split, TreeSteps};
+use crate::second::{self, tree};
 use crate::Calls;
-use kalebasin::{EventList, Member, Played, Refusal, Round, STORE_ROW, STORE_ROWS, TABLE_ROW};
+use kalebasin::{EventList, Member, Played, Refusal, Round, Slot, SLOTS, STORE_ROW, STORE_ROWS, TABLE_ROW};
 
 /// The second implementation with the quick play in place of its own.
 pub const CALLS: Calls = Calls { name: "the quick play", play, ..second::CALLS };
@@ -14,36 +15,55 @@ pub const CALLS: Calls = Calls { name: "the quick play", play, ..second::CALLS }
 /// The second implementation with the quick play's tree: one walk for a proposal, one for a decision.
 pub const ONE_WALK: Calls = Calls { name: "the same with one walk", play: one_walk, ..second::CALLS };
 
-fn one_walk(list: &[u8], store: &mut [u8], table: &mut [u64], answers: &mut [u8]) -> Result<Played, Refusal> {
+fn one_walk(
+    list: &[u8],
+    store: &mut [u8],
+    words: &mut [u64],
+    lengths: &[usize; SLOTS],
+    answers: &mut [u8],
+) -> Result<Played, Refusal> {
     let steps = TreeSteps {
         add: |words, nodes, made| {
             Tree { words, used: nodes * TABLE_ROW }.add(made.round.0.into(), made.value, made.parent.0.into())
         },
         commit: |words, r| Tree { words, used: 0 }.commit(r),
     };
-    second::play::play_by(&steps, list, store, table, answers)
+    second::play::play_by(&steps, list, store, words, lengths, answers)
 }
 
-/// Runs the list, with the messages in the store, the tree in the table and one answer byte for each event.
-pub fn play(list: &[u8], store: &mut [u8], table: &mut [u64], answers: &mut [u8]) -> Result<Played, Refusal> {
+/// Runs the list, with the messages in the store, the trees in the tables, which stand in the words one after another, and
+/// one answer byte for each event.
+pub fn play(
+    list: &[u8],
+    store: &mut [u8],
+    words: &mut [u64],
+    lengths: &[usize; SLOTS],
+    answers: &mut [u8],
+) -> Result<Played, Refusal> {
     let (n, count, mut rest) = check_list(list).ok_or(Refusal::ListShape)?;
     if !matches!(n, 3 | 5 | 7) {
         return Err(Refusal::OfficeSize);
     }
     let whole_rows = store.len() % STORE_ROW == 0 && (1..=STORE_ROWS).contains(&(store.len() / STORE_ROW));
     let answers = answers.get_mut(..count).filter(|_| whole_rows).ok_or(Refusal::StoreOrAnswers)?;
-    second::tree::fresh(table)?;
+    let mut tables = split(words, lengths)?;
+    tables.iter().try_for_each(|table| tree::check_length(table))?;
+    tables.iter_mut().try_for_each(|table| tree::fresh(table))?;
     store.fill(0);
 
-    let (store, tree) = (Store { bytes: store, sent: 0 }, Tree { words: table, used: TABLE_ROW });
-    let mut office = Office { n, members: [Record::default(); 7], store, tree };
+    let slots =
+        tables.map(|table| OfSlot { members: [Record::default(); 7], tree: Tree { words: table, used: TABLE_ROW } });
+    let mut office = Office { n, slots, store: Store { bytes: store, sent: 0 } };
     let mut played = Played::default();
     for answer in answers {
         let Some((event, behind)) = first_event(rest) else { break };
         rest = behind;
         let made = match event {
-            Event::Start(words) => office.start(Member(word(words, 4)), Round(word(words, 8)), double(words, 12)),
-            Event::Deliver(words) => office.deliver(word(words, 4), Member(word(words, 8))),
+            Event::Start(words) => {
+                let (slot, member) = (Slot(word(words, 4)), Member(word(words, 8)));
+                office.start(slot, member, Round(word(words, 12)), double(words, 16))
+            }
+            Event::Deliver(words) => office.deliver(Slot(word(words, 4)), word(words, 8), Member(word(words, 12))),
         };
         *answer = made.as_ref().map_or_else(|refusal| refusal.number() as u8, |_| 0);
         if let Ok(made) = made {
@@ -64,8 +84,8 @@ pub fn play(list: &[u8], store: &mut [u8], table: &mut [u64], answers: &mut [u8]
 
 /// An event's bytes.
 enum Event<'a> {
-    Start(&'a [u8; 20]),
-    Deliver(&'a [u8; 12]),
+    Start(&'a [u8; 24]),
+    Deliver(&'a [u8; 16]),
 }
 
 /// N, the event count and the events, if bytes, count and kinds match exactly.
@@ -110,7 +130,7 @@ enum Phase {
     Decided,
 }
 
-/// The member record. The fields have document 01's letters; number and N are the office's.
+/// The member record. The fields have document 01's letters; slot, number and N are the office's.
 #[derive(Clone, Copy, Default)]
 struct Record {
     j: Round,
@@ -152,18 +172,24 @@ const JOIN: u32 = 2;
 const PROPOSE: u32 = 3;
 const VOTE: u32 = 4;
 
-/// The members, what they have sent, and the tree.
+/// The slots, and what all their members have sent.
 struct Office<'a> {
     n: u32,
-    members: [Record; 7],
+    slots: [OfSlot<'a>; SLOTS],
     store: Store<'a>,
+}
+
+/// The members of a slot, and its tree.
+struct OfSlot<'a> {
+    members: [Record; 7],
     tree: Tree<'a>,
 }
 
 impl Office<'_> {
     /// Takes a start, or changes nothing.
-    fn start(&mut self, member: Member, round: Round, offer: u64) -> Result<Made, Refusal> {
-        let record = member_of(&mut self.members, self.n, member)?;
+    fn start(&mut self, slot: Slot, member: Member, round: Round, offer: u64) -> Result<Made, Refusal> {
+        let of_slot = self.slots.get_mut(slot.0 as usize).ok_or(Refusal::WrongSlot)?;
+        let record = member_of(&mut of_slot.members, self.n, member)?;
         if !round.in_range() {
             return Err(Refusal::RoundRange);
         }
@@ -173,18 +199,22 @@ impl Office<'_> {
         if round <= record.l {
             return Err(Refusal::NotAboveLed);
         }
-        self.store.send(START, round, member)?;
+        self.store.send(slot, START, round, member)?;
         *record = Record { l: round, phase: Phase::Collecting, x: offer, b: Round::ROOT, flags: 0, ..*record };
         Ok(Made::Nothing)
     }
 
     /// Takes a message sent earlier, or changes nothing.
-    fn deliver(&mut self, message: u32, member: Member) -> Result<Made, Refusal> {
+    fn deliver(&mut self, slot: Slot, message: u32, member: Member) -> Result<Made, Refusal> {
         let n = self.n;
-        let record = member_of(&mut self.members, n, member)?;
+        let of_slot = self.slots.get_mut(slot.0 as usize).ok_or(Refusal::WrongSlot)?;
+        let record = member_of(&mut of_slot.members, n, member)?;
         let words = self.store.message(message).ok_or(Refusal::NoMemberOrMessage)?;
-        let (round, sender) = (Round(word(words, 4)), Member(word(words, 8)));
-        match word(words, 0) {
+        if Slot(word(words, 0)) != slot {
+            return Err(Refusal::WrongSlot);
+        }
+        let (round, sender) = (Round(word(words, 8)), Member(word(words, 12)));
+        match word(words, 4) {
             START => {
                 if round.leader(n) != Some(sender) {
                     return Err(Refusal::WrongSender);
@@ -192,11 +222,11 @@ impl Office<'_> {
                 if record.j > round || (record.j == round && record.v == round) {
                     return Err(Refusal::MovedPast);
                 }
-                let join = self.store.send(JOIN, round, member)?;
+                let join = self.store.send(slot, JOIN, round, member)?;
                 if record.v > Round::ROOT {
-                    put(join, 12, 1);
-                    put(join, 16, record.v.0);
-                    put_double(join, 20, record.w);
+                    put(join, 16, 1);
+                    put(join, 20, record.v.0);
+                    put_double(join, 24, record.w);
                 }
                 record.j = round;
                 Ok(Made::Nothing)
@@ -204,8 +234,8 @@ impl Office<'_> {
             JOIN => {
                 let flags = record.count(n, round, sender, Phase::Collecting)?;
                 // Of a JOIN that never voted the voted round reads as 0.
-                let voted = Round(word(words, 16));
-                let (x, b) = if voted > record.b { (double(words, 20), voted) } else { (record.x, record.b) };
+                let voted = Round(word(words, 20));
+                let (x, b) = if voted > record.b { (double(words, 24), voted) } else { (record.x, record.b) };
                 if !is_quorum(n, flags) {
                     *record = Record { x, b, flags, ..*record };
                     return Ok(Made::Nothing);
@@ -213,14 +243,14 @@ impl Office<'_> {
                 if self.store.is_full() {
                     return Err(Refusal::StoreFull);
                 }
-                let ghosts = self.tree.add(round.0.into(), x, b.0.into())?;
-                let propose = self.store.send(PROPOSE, round, member)?;
-                put_double(propose, 12, x);
+                let ghosts = of_slot.tree.add(round.0.into(), x, b.0.into())?;
+                let propose = self.store.send(slot, PROPOSE, round, member)?;
+                put_double(propose, 16, x);
                 *record = Record { phase: Phase::Proposed, x, b, flags: 0, ..*record };
                 Ok(Made::Proposal { ghosts })
             }
             PROPOSE => {
-                let value = double(words, 12);
+                let value = double(words, 16);
                 if round.leader(n) != Some(sender) {
                     return Err(Refusal::WrongSender);
                 }
@@ -230,7 +260,7 @@ impl Office<'_> {
                 if record.v == round && record.w != value {
                     return Err(Refusal::AnotherValue);
                 }
-                self.store.send(VOTE, round, member)?;
+                self.store.send(slot, VOTE, round, member)?;
                 *record = Record { j: round, v: round, w: value, ..*record };
                 Ok(Made::Nothing)
             }
@@ -241,7 +271,7 @@ impl Office<'_> {
                     record.flags = flags;
                     return Ok(Made::Nothing);
                 }
-                self.tree.commit(round.0.into())?;
+                of_slot.tree.commit(round.0.into())?;
                 *record = Record { phase: Phase::Decided, flags, ..*record };
                 Ok(Made::Decision)
             }
@@ -273,13 +303,14 @@ impl Store<'_> {
     }
 
     /// Puts a message behind the others: its first words, and its row for the rest, which is zeros.
-    fn send(&mut self, kind: u32, round: Round, sender: Member) -> Result<&mut Row, Refusal> {
+    fn send(&mut self, slot: Slot, kind: u32, round: Round, sender: Member) -> Result<&mut Row, Refusal> {
         let free = self.bytes.chunks_exact_mut(STORE_ROW).nth(self.sent as usize);
         let row = free.and_then(|free| free.first_chunk_mut()).ok_or(Refusal::StoreFull)?;
         self.sent += 1;
-        put(row, 0, kind);
-        put(row, 4, round.0);
-        put(row, 8, sender.0);
+        put(row, 0, slot.0);
+        put(row, 4, kind);
+        put(row, 8, round.0);
+        put(row, 12, sender.0);
         Ok(row)
     }
 }

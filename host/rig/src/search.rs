@@ -1,17 +1,18 @@
 //! Searches random lists, random orders of one list, or all lists of a few events for a property that fails.
 
 use crate::compare::{self, Left, Lent};
+use crate::explain::in_slot;
 use crate::generate::{self, Case};
 use crate::random::Random;
-use crate::second::member::size_allowed;
+use crate::second::member::{size_allowed, Decision, Proposal};
 use crate::second::model::{Made, Model};
 use crate::second::{self, message};
 use crate::shrink::{shortest, shrink};
 use crate::trace::model_ghosts;
 use crate::Calls;
 use kalebasin::{
-    nodes, number_of, sent, Event, EventList, Member, Message, MessageNumber, Refusal, Round, Status, STORE_ROW,
-    STORE_ROWS, TABLE_ROW, TABLE_ROWS,
+    nodes, number_of, sent, Event, EventList, Member, Message, MessageNumber, Node, Refusal, Round, Slot, Status,
+    SLOTS, STORE_ROW, STORE_ROWS, TABLE_ROW, TABLE_ROWS,
 };
 use std::collections::{HashMap, HashSet};
 use std::sync::atomic::{AtomicU64, Ordering};
@@ -38,14 +39,14 @@ impl Run {
     /// # Errors
     /// 26, 27, 28 or 1, as play gives them.
     pub fn new(calls: &Calls, case: &Case) -> Result<Run, Refusal> {
-        let Lent { store, table, answers, .. } = case.lent;
+        let Lent { store, tables, misfit, answers, .. } = case.lent;
         let events = case.list.events.len();
         let whole = |length: usize, row: usize, most: usize| length % row == 0 && (1..=most).contains(&(length / row));
         let causes = [
             (events > EventList::MOST, Refusal::ListShape),
             (!size_allowed(case.list.n), Refusal::OfficeSize),
             (!whole(store, STORE_ROW, STORE_ROWS) || answers < events, Refusal::StoreOrAnswers),
-            (!whole(table, TABLE_ROW, TABLE_ROWS), Refusal::TableLength),
+            (misfit != 0 || tables.iter().any(|table| !whole(*table, TABLE_ROW, TABLE_ROWS)), Refusal::TableLength),
         ];
         if let Some((_, refusal)) = causes.into_iter().find(|(holds, _)| *holds) {
             return Err(refusal);
@@ -54,6 +55,27 @@ impl Run {
         let (model, steps) = Model::run(&case.list, store_rows, table_rows)?;
         let answers = steps.iter().map(number_of).collect();
         Ok(Run { case: case.clone(), model, answers, left: compare::play(calls, &case.list.to_bytes(), &case.lent) })
+    }
+
+    /// The model's proposals with their slots, in the order made.
+    pub fn proposals(&self) -> impl Iterator<Item = (Slot, Proposal)> {
+        self.model.made().into_iter().filter_map(|(slot, at)| match at.made {
+            Made::Proposal(made) => Some((slot, made)),
+            Made::Decision(_) => None,
+        })
+    }
+
+    /// The model's decisions with their slots, in the order made.
+    pub fn decisions(&self) -> impl Iterator<Item = (Slot, Decision)> {
+        self.model.made().into_iter().filter_map(|(slot, at)| match at.made {
+            Made::Proposal(_) => None,
+            Made::Decision(made) => Some((slot, made)),
+        })
+    }
+
+    /// The nodes that play left beside the roots, with their slots.
+    pub fn nodes(&self) -> impl Iterator<Item = (Slot, Node)> + '_ {
+        Slot::ALL.into_iter().flat_map(|slot| nodes(self.left.table(slot)).skip(1).map(move |node| (slot, node)))
     }
 }
 
@@ -71,17 +93,23 @@ pub struct Property {
 pub const ALWAYS: &[Property] = &[
     Property {
         name: "third-demand",
-        about: "proposals and decisions get OK in a fresh tree, the one left; decided values are equal and offered",
+        about:
+            "in each slot proposals and decisions get OK in a fresh tree, the one left; decided values are equal and \
+                offered",
         fails: third_demand,
     },
     Property { name: "model", about: "answers and store are those of the model", fails: model },
     Property {
         name: "counts",
-        about: "the result counts what answers, store and tree hold, and the rounds that adds made GHOST",
+        about: "the result counts what answers, store and trees hold, and the rounds that adds made GHOST",
         fails: counts,
     },
-    Property { name: "joins", about: "the JOINs of one member for one round are equal, byte for byte", fails: joins },
-    Property { name: "answers", about: "answers are only 0, 3, 9, 19, 20, 22, 24, 25, 29 and 30", fails: answers },
+    Property {
+        name: "joins",
+        about: "the JOINs of one member for one round of a slot are equal, byte for byte",
+        fails: joins,
+    },
+    Property { name: "answers", about: "answers are only 0, 3, 9, 19, 20, 22, 24, 25, 29, 30 and 32", fails: answers },
     Property { name: "same", about: "the second implementation leaves the same", fails: same },
 ];
 
@@ -91,32 +119,47 @@ pub const SOMETIMES: &[Property] = &[
         name: "no-proposal",
         about: "nothing is proposed",
         fails: |_, run| {
-            run.model.proposals().next().map(|made| format!("round {} proposes {}", made.round, made.value))
+            let (slot, made) = run.proposals().next()?;
+            Some(format!("round {} proposes {}{}", made.round, made.value, in_slot(slot)))
         },
     },
     Property {
         name: "no-decision",
         about: "nothing is decided",
-        fails: |_, run| run.model.decisions().next().map(|made| format!("round {} decides {}", made.round, made.value)),
+        fails: |_, run| {
+            let (slot, made) = run.decisions().next()?;
+            Some(format!("round {} decides {}{}", made.round, made.value, in_slot(slot)))
+        },
     },
     Property {
         name: "one-decision",
-        about: "at most one round is decided",
+        about: "at most one round of a slot is decided",
         fails: |_, run| {
-            run.model.decisions().nth(1).map(|made| format!("round {} decides {} too", made.round, made.value))
+            let mut decided = HashSet::new();
+            let (slot, made) = run.decisions().find(|(slot, _)| !decided.insert(*slot))?;
+            Some(format!("round {} decides {} too{}", made.round, made.value, in_slot(slot)))
+        },
+    },
+    Property {
+        name: "one-slot",
+        about: "rounds of at most one slot are decided",
+        fails: |_, run| {
+            let first = run.decisions().next()?.0;
+            let (slot, made) = run.decisions().find(|(slot, _)| *slot != first)?;
+            Some(format!("slot {first} has a decision, and round {} of slot {slot} decides {}", made.round, made.value))
         },
     },
     Property {
         name: "no-takeover",
         about: "no proposal has its value from an earlier round",
         fails: |_, run| {
-            let taken = run.model.proposals().find(|made| made.parent.0 > 0)?;
-            Some(format!("round {} takes {} from round {}", taken.round, taken.value, taken.parent))
+            let (slot, taken) = run.proposals().find(|(_, made)| made.parent.0 > 0)?;
+            Some(format!("round {} takes {} from round {}{}", taken.round, taken.value, taken.parent, in_slot(slot)))
         },
     },
     Property {
         name: "no-late-decision",
-        about: "no round is decided after a higher one was proposed",
+        about: "no round is decided after a higher one of its slot was proposed",
         fails: late_decision,
     },
     Property { name: "no-join-again", about: "no member sends the JOIN of a round again", fails: join_again },
@@ -124,8 +167,8 @@ pub const SOMETIMES: &[Property] = &[
         name: "no-ghost",
         about: "no node is GHOST",
         fails: |_, run| {
-            let ghost = nodes(run.left.table()).find(|node| node.status == Status::Ghost)?;
-            Some(format!("round {} is GHOST", ghost.round))
+            let (slot, ghost) = run.nodes().find(|(_, node)| node.status == Status::Ghost)?;
+            Some(format!("round {} is GHOST{}", ghost.round, in_slot(slot)))
         },
     },
     Property {
@@ -138,12 +181,19 @@ pub const SOMETIMES: &[Property] = &[
         about: "no event is refused with 9",
         fails: |_, run| refused(run, Refusal::NoFreeRow),
     },
+    Property {
+        name: "no-wrong-slot",
+        about: "no event is refused with 32",
+        fails: |_, run| refused(run, Refusal::WrongSlot),
+    },
 ];
 
 fn third_demand(_: &Calls, run: &Run) -> Option<String> {
     match run.model.third_demand() {
         Err(breach) => Some(breach.to_string()),
-        Ok(tree) if tree != run.left.table() => Some("the tree left isn't that of the proposals and decisions".into()),
+        Ok(trees) if trees != run.left.words() => {
+            Some("the trees left aren't those of the proposals and decisions".into())
+        }
         Ok(_) => None,
     }
 }
@@ -164,13 +214,13 @@ fn counts(_: &Calls, run: &Run) -> Option<String> {
     let Ok(played) = run.left.result else { return Some("the list is refused".into()) };
     let accepted = run.left.answers()[..run.answers.len()].iter().filter(|answer| **answer == 0).count();
     let rows = run.left.store().chunks(STORE_ROW).filter(|row| row.iter().any(|byte| *byte != 0)).count();
-    let added: Vec<_> = nodes(run.left.table()).skip(1).collect();
-    let committed = added.iter().filter(|node| node.status == Status::Committed).count();
-    let ghosts = match model_ghosts(&run.model.made, run.case.lent.whole_rows().1) {
+    let (added, committed) =
+        (run.nodes().count(), run.nodes().filter(|(_, node)| node.status == Status::Committed).count());
+    let ghosts = match model_ghosts(&run.model) {
         Ok(of_adds) => of_adds.iter().map(|(_, ghosts)| ghosts).sum(),
         Err(breach) => return Some(breach.to_string()),
     };
-    let [accepted, rows, added, committed] = [accepted, rows, added.len(), committed].map(|count| count as u32);
+    let [accepted, rows, added, committed] = [accepted, rows, added, committed].map(|count| count as u32);
     let held = [accepted, rows, added, committed, ghosts];
     let said = [played.accepted, played.messages, played.proposals, played.decisions, played.ghosts];
     (held != said).then(|| format!("{held:?} are held and {said:?} are said"))
@@ -178,17 +228,17 @@ fn counts(_: &Calls, run: &Run) -> Option<String> {
 
 fn answers(_: &Calls, run: &Run) -> Option<String> {
     let given = &run.left.answers()[..run.answers.len()];
-    let other = given.iter().find(|answer| !matches!(answer, 0 | 3 | 9 | 19 | 20 | 22 | 24 | 25 | 29 | 30))?;
+    let other = given.iter().find(|answer| !matches!(answer, 0 | 3 | 9 | 19 | 20 | 22 | 24 | 25 | 29 | 30 | 32))?;
     Some(format!("an event is answered {other}"))
 }
 
-/// Compares the JOINs in the store that play left, by what stands in front of their presence: kind, round and sender.
+/// Compares the JOINs in the store that play left, by what stands in front of their presence: slot, kind, round and sender.
 fn joins(_: &Calls, run: &Run) -> Option<String> {
     let Ok(played) = run.left.result else { return None };
     let messages = sent(run.left.store(), played.messages).enumerate();
     let mut first = HashMap::new();
-    for (number, join) in messages.filter(|(_, bytes)| bytes.starts_with(&[0, 0, 0, 2])) {
-        let (before, other) = *first.entry(&join[..12]).or_insert((number, join));
+    for (number, join) in messages.filter(|(_, bytes)| bytes[4..].starts_with(&[0, 0, 0, 2])) {
+        let (before, other) = *first.entry(&join[..16]).or_insert((number, join));
         if other != join {
             return Some(format!("messages {before} and {number} are JOINs of one member for one round, and differ"));
         }
@@ -202,12 +252,14 @@ fn same(calls: &Calls, run: &Run) -> Option<String> {
 }
 
 fn late_decision(_: &Calls, run: &Run) -> Option<String> {
-    let mut highest = Round::ROOT;
-    for at in &run.model.made {
+    let mut highest = [Round::ROOT; SLOTS];
+    for (slot, at) in run.model.made() {
+        let highest = &mut highest[slot.0 as usize];
         match at.made {
-            Made::Proposal(proposal) => highest = highest.max(proposal.round),
-            Made::Decision(decision) if decision.round < highest => {
-                return Some(format!("round {} is decided after round {highest} was proposed", decision.round));
+            Made::Proposal(proposal) => *highest = (*highest).max(proposal.round),
+            Made::Decision(decision) if decision.round < *highest => {
+                let decided = format!("round {} is decided after round {highest} was proposed", decision.round);
+                return Some(decided + &in_slot(slot));
             }
             Made::Decision(_) => {}
         }
@@ -218,8 +270,9 @@ fn late_decision(_: &Calls, run: &Run) -> Option<String> {
 fn join_again(_: &Calls, run: &Run) -> Option<String> {
     let mut before = HashSet::new();
     let mut joins = run.model.sent.iter().filter(|message| matches!(message, Message::Join { .. }));
-    let again = joins.find(|join| !before.insert((join.round(), join.sender())))?;
-    Some(format!("member {} sends the JOIN of round {} again", again.sender(), again.round()))
+    let again = joins.find(|join| !before.insert((join.slot(), join.round(), join.sender())))?;
+    let slot = in_slot(again.slot());
+    Some(format!("member {} sends the JOIN of round {} again{slot}", again.sender(), again.round()))
 }
 
 fn refused(run: &Run, refusal: Refusal) -> Option<String> {
@@ -405,8 +458,8 @@ impl Shared {
         let add = |count: &AtomicU64, more: u64| _ = count.fetch_add(more, Ordering::Relaxed);
         add(&self.lists, 1);
         add(&self.events, run.case.list.events.len() as u64);
-        add(&self.proposed, u64::from(run.model.proposals().next().is_some()));
-        add(&self.decided, u64::from(run.model.decisions().next().is_some()));
+        add(&self.proposed, u64::from(run.proposals().next().is_some()));
+        add(&self.decided, u64::from(run.decisions().next().is_some()));
     }
 
     fn first(&self) -> MutexGuard<'_, Option<(u64, &'static Property)>> {
@@ -485,7 +538,7 @@ impl Search<'_> {
     }
 }
 
-/// A case with clean memory of so many rows.
+/// A case with clean memory of so many rows, of each slot's table.
 pub fn clean_case(list: EventList, store_rows: usize, table_rows: usize) -> Case {
     let lent = Lent::rows(store_rows, table_rows, list.events.len());
     Case { list, lent }

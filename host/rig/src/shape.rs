@@ -33,8 +33,8 @@ const HEAD: usize = 8;
 ///
 /// let mut bytes = kalebasin::notation::parse("s(1,1,70) d(0,2)", None).unwrap().to_bytes();
 /// assert_eq!(misshape(&bytes), None);
-/// bytes[31] = 7;
-/// assert_eq!(misshape(&bytes).unwrap().to_string(), "byte 28, event 1: the kind is 7, not 1 or 2");
+/// bytes[35] = 7;
+/// assert_eq!(misshape(&bytes).unwrap().to_string(), "byte 32, event 1: the kind is 7, not 1 or 2");
 /// ```
 pub fn misshape(list: &[u8]) -> Option<Misshape> {
     let wrong = |byte, event, what: String| Some(Misshape { byte, event, what });
@@ -47,8 +47,8 @@ pub fn misshape(list: &[u8]) -> Option<Misshape> {
     let mut at = HEAD;
     for event in 0..count as usize {
         let (name, length) = match word(list, at) {
-            Some(1) => ("start", 20),
-            Some(2) => ("delivery", 12),
+            Some(1) => ("start", 24),
+            Some(2) => ("delivery", 16),
             Some(kind) => return wrong(at, Some(event), format!("the kind is {kind}, not 1 or 2")),
             None if at == list.len() => {
                 return wrong(at, Some(event), format!("the list ends here, and the count is {count}"));

@@ -4,7 +4,8 @@ use crate::compare::Lent;
 use crate::generate::{self, Case};
 use crate::random::Random;
 use crate::second::model::Model;
-use kalebasin::{Event, EventList, MessageNumber, Round, STORE_ROW, TABLE_ROW};
+use kalebasin::{Event, EventList, MessageNumber, Round, Slot, SLOTS, STORE_ROW, TABLE_ROW};
+use std::collections::BTreeSet;
 
 /// How many short lists are tried for one that fails too.
 const TRIES: usize = 20_000;
@@ -33,9 +34,10 @@ fn shorter(case: &Case, random: &mut Random) -> Case {
     let mut lent = Lent { answers: events, dirt: 0, ..case.lent };
     if random.chance(50) {
         lent.store = random.between(1, (lent.store / STORE_ROW).clamp(1, events + 1)) * STORE_ROW;
-        lent.table = random.between(1, (lent.table / TABLE_ROW).clamp(1, 4)) * TABLE_ROW;
+        lent.tables = lent.tables.map(|words| random.between(1, (words / TABLE_ROW).clamp(1, 4)) * TABLE_ROW);
     }
-    let list = generate::list(random, 3, events, lent.store.div_ceil(STORE_ROW), lent.table.div_ceil(TABLE_ROW).max(1));
+    let table_rows = lent.tables.map(|words| words.div_ceil(TABLE_ROW).max(1));
+    let list = generate::list(random, 3, events, lent.store.div_ceil(STORE_ROW), table_rows);
     Case { list: list.expect("3 members are an office"), lent }
 }
 
@@ -88,7 +90,8 @@ fn with_list(case: &Case, list: EventList) -> Case {
 /// Leaves out a stretch, and what delivers a message of an event left out; the other messages keep their meaning. None
 /// where play has no such office.
 fn renumbered(case: &Case, at: usize, length: usize) -> Option<EventList> {
-    let mut model = Model::new(case.list.n, case.lent.store / STORE_ROW, (case.lent.table / TABLE_ROW).max(1)).ok()?;
+    let (store_rows, table_rows) = case.lent.whole_rows();
+    let mut model = Model::new(case.list.n, store_rows, table_rows.map(|rows| rows.max(1))).ok()?;
     let mut new_numbers: Vec<Option<u32>> = Vec::new();
     let mut list = EventList::new(case.list.n);
     let mut kept = 0;
@@ -108,27 +111,49 @@ fn renumbered(case: &Case, at: usize, length: usize) -> Option<EventList> {
 fn moved(event: &Event, new_numbers: &[Option<u32>]) -> Option<Event> {
     match *event {
         Event::Deliver { message: MessageNumber(old), member, .. } => match new_numbers.get(old as usize) {
-            Some(new) => new.map(|new| Event::deliver(MessageNumber(new), member)),
+            Some(new) => new.map(|new| Event::deliver(MessageNumber(new), member).in_slot(event.slot())),
             None => Some(*event),
         },
         _ => Some(*event),
     }
 }
 
-/// Fewer members, lower rounds, and offers 10, 20, 30 and so on.
+/// Lower slots, fewer members, lower rounds, and offers 10, 20, 30 and so on.
 fn smaller_numbers(mut case: Case, fails: &mut dyn FnMut(&Case) -> bool) -> Case {
+    case = lower_slots(case, fails);
     let n = case.list.n;
     let fewer = [3, 5].into_iter().filter(|fewer| *fewer < n);
     case = first_that_fails(case, fails, fewer, |case, fewer| case.list.n = fewer);
     for at in 0..case.list.events.len() {
-        if let Event::Start { member, round, offer, .. } = case.list.events[at] {
-            let start = |round, offer| Event::start(member, round, offer);
+        if let Event::Start { slot, member, round, offer, .. } = case.list.events[at] {
+            let start = |round, offer| Event::start(member, round, offer).in_slot(slot);
             let turn = |turn: u32| Round((round.0 % n.max(1)).saturating_add(turn.saturating_mul(n)));
             let lower = (0..9).map(turn).filter(|lower| *lower < round);
             case = first_that_fails(case, fails, lower, |case, lower| case.list.events[at] = start(lower, offer));
         }
     }
     smaller_offers(case, fails)
+}
+
+/// All events of a slot in a lower one, which may have events of its own, 8 being the lowest that isn't there. The tables change
+/// places, so that each slot keeps its own where they don't come together.
+fn lower_slots(mut case: Case, fails: &mut dyn FnMut(&Case) -> bool) -> Case {
+    let slots: BTreeSet<Slot> = case.list.events.iter().map(Event::slot).collect();
+    for slot in slots {
+        let lower = (0..=SLOTS as u32).map(Slot).filter(|lower| *lower < slot);
+        case = first_that_fails(case, fails, lower, |case, lower| move_slot(case, slot, lower));
+    }
+    case
+}
+
+fn move_slot(case: &mut Case, from: Slot, to: Slot) {
+    for event in case.list.events.iter_mut().filter(|event| event.slot() == from) {
+        *event = event.in_slot(to);
+    }
+    let (from, to) = (from.0 as usize, to.0 as usize);
+    if from < SLOTS {
+        case.lent.tables.swap(from, to);
+    }
 }
 
 /// The offer of the start at this place.
@@ -140,8 +165,8 @@ fn offer_at(list: &EventList, at: usize) -> Option<u64> {
 }
 
 fn set_offer(list: &mut EventList, at: usize, offer: u64) {
-    if let Event::Start { member, round, .. } = list.events[at] {
-        list.events[at] = Event::start(member, round, offer);
+    if let Event::Start { slot, member, round, .. } = list.events[at] {
+        list.events[at] = Event::start(member, round, offer).in_slot(slot);
     }
 }
 
@@ -191,10 +216,14 @@ fn less_memory(mut case: Case, fails: &mut dyn FnMut(&Case) -> bool) -> Case {
         }
     };
     attempt(&|case| case.lent.dirt = 0);
+    attempt(&|case| case.lent.misfit = 0);
     attempt(&|case| case.lent.answers = case.lent.answers.min(case.list.events.len()));
     for rows in [1, 2, 4, 8, 16, 32, 64] {
         attempt(&|case| case.lent.store = case.lent.store.min(rows * STORE_ROW));
-        attempt(&|case| case.lent.table = case.lent.table.min(rows * TABLE_ROW));
+        attempt(&|case| case.lent.tables = case.lent.tables.map(|words| words.min(rows * TABLE_ROW)));
+        for slot in 0..SLOTS {
+            attempt(&|case| case.lent.tables[slot] = case.lent.tables[slot].min(rows * TABLE_ROW));
+        }
     }
     case
 }

@@ -10,7 +10,7 @@ use crate::Calls;
 use kalebasin::notation::parse;
 use kalebasin::{
     nodes, number_of, Event, EventList, Member, MemberFields, Message, MessageNumber, Node, Refusal, Report, Round,
-    TreeCall, TreeKind, Vote, STORE_ROW, TABLE_ROW,
+    Slot, TreeCall, TreeKind, Vote, SLOTS, STORE_ROW, TABLE_ROW,
 };
 use std::collections::BTreeSet;
 
@@ -72,6 +72,32 @@ pub fn rehearsal_tails(calls: Pair) -> Compared {
     Ok(compared)
 }
 
+/// Every list of up to 4 events for three members from 22: starts of round 1 in slots 0, 7 and 8, messages 0 to 2 to members 0
+/// and 1 there, and a member and a message that aren't there, in slot 8. The tables differ in length.
+pub fn slot_lists(calls: Pair) -> Compared {
+    let slots = [0, 7, 8].map(Slot);
+    let mut alphabet: Vec<Event> = slots.iter().map(|slot| start(1, 1, 7).in_slot(*slot)).collect();
+    alphabet.extend(slots.iter().flat_map(|slot| deliveries(3, 2).map(|event| event.in_slot(*slot))));
+    alphabet.push(Event::deliver(MessageNumber(9), Member(9)).in_slot(Slot(8)));
+    let tables = [2, 1, 3, 1, 1, 4, 1, 2].map(|rows| rows * TABLE_ROW);
+    each_tail(calls, &alphabet, 4, &mut EventList::new(3), Lent { dirt: 88, tables, ..Lent::rows(3, 0, 0) })
+}
+
+/// Each beginning of the rehearsal in slot 5, followed by every 2 events from 66: messages 0 to 9 to anyone, and later starts,
+/// in slots 5 and 0.
+pub fn slot_tails(calls: Pair) -> Compared {
+    let mut alphabet: Vec<Event> = deliveries(10, 3).collect();
+    alphabet.extend([start(2, 2, 80), start(0, 3, 90), start(1, 4, 60)]);
+    alphabet.extend(alphabet.clone().iter().map(|event| event.in_slot(Slot(5))));
+    let whole = rehearsal();
+    let mut compared = 0;
+    for length in 0..=whole.events.len() {
+        let mut list: EventList = whole.events[..length].iter().map(|event| event.in_slot(Slot(5))).collect();
+        compared += each_tail(calls, &alphabet, 2, &mut list, Lent { dirt: 66, ..Lent::rows(11, 3, 0) })?;
+    }
+    Ok(compared)
+}
+
 /// Compares the list and every longer one by up to `more` events.
 fn each_tail(calls: Pair, alphabet: &[Event], more: usize, list: &mut EventList, lent: Lent) -> Compared {
     let lent = Lent { answers: list.events.len() + 1, ..lent };
@@ -106,7 +132,12 @@ fn report_bytes(calls: Pair, bytes: &[u8], lent: &Lent) -> Option<String> {
 
 /// Every one-byte damage of some lists, each shorter one, and each longer by a byte.
 pub fn damaged_lists(calls: Pair) -> Compared {
-    let others = ["n=5 s(1,1,70) d(0,4) s(2,1000000,18446744073709551615)", "n=7 s(6,6,0) d(0,6) d(1,6)", "n=3"];
+    let others = [
+        "n=5 s(1,1,70) d(0,4) s(2,1000000,18446744073709551615)",
+        "n=7 s(6,6,0) d(0,6) d(1,6)",
+        "n=3 7:s(1,1,70) s(1,1,80) 7:d(0,1) 7:d(1,1) 7:d(2,1) 8:d(0,1)",
+        "n=3",
+    ];
     let mut lists = vec![rehearsal().to_bytes()];
     lists.extend(others.map(|text| parse(text, None).expect("the lists are written correctly").to_bytes()));
     let lent = Lent { dirt: 11, ..Lent::rows(12, 4, 16) };
@@ -131,6 +162,7 @@ pub fn small_list_bytes(calls: Pair) -> Compared {
     each_byte_string(2, &mut look)?;
     each_word_string(&[0, 1, 2, 3, 4, 5, 7, 1_000, 1_001, u32::MAX], 5, &mut look)?;
     each_word_string(&[0, 1, 2, 3], 8, &mut look)?;
+    each_word_string(&[1, 2, 3, 7, 8], 6, &mut look)?;
     Ok(compared)
 }
 
@@ -155,12 +187,16 @@ pub fn random_lists(calls: Pair, seed: u64, lists: usize, tell: &mut dyn FnMut(u
     Ok(lists)
 }
 
-/// Lengths and an N that may not be allowed.
+/// Lengths and an N that may not be allowed, and tables that may not fill the words lent.
 fn make_odd(case: &mut Case, random: &mut Random) {
-    match random.below(5) {
+    match random.below(6) {
         0 => case.lent.store = odd_length(case.lent.store, 2_001 * STORE_ROW, random),
-        1 | 2 => case.lent.table = odd_length(case.lent.table, 1_032, random),
-        3 => case.lent.answers = odd_length(case.list.events.len(), 1_100, random),
+        1 | 2 => {
+            let slot = random.below(SLOTS);
+            case.lent.tables[slot] = odd_length(case.lent.tables[slot], 1_032, random);
+        }
+        3 => case.lent.misfit = random.between(0, 8) as isize - 4,
+        4 => case.lent.answers = odd_length(case.list.events.len(), 1_100, random),
         _ => case.list.n = random.below(10) as u32,
     }
 }
@@ -173,7 +209,7 @@ fn odd_length(length: usize, most: usize, random: &mut Random) -> usize {
     }
 }
 
-/// Messages of every kind, in range and just within it.
+/// Messages of every kind, in range and just within it, in slots 0 and 7.
 pub fn valid_messages() -> Vec<Vec<u8>> {
     let mut messages = Vec::new();
     for round in [1, 2, 300, 1_000_000].map(Round) {
@@ -195,16 +231,26 @@ pub fn valid_messages() -> Vec<Vec<u8>> {
         buffer.truncate(length);
         buffer
     };
-    messages.iter().map(bytes).collect()
+    let in_slot = |slot| messages.iter().map(move |message| bytes(&message.in_slot(slot)));
+    in_slot(Slot(0)).chain(in_slot(Slot(7))).collect()
 }
 
-/// Looks at message bytes: every one-byte damage of valid messages, each shorter one, and each longer by a byte; every
-/// sequence of a few words; every byte string of up to 3 bytes.
+/// Looks at message bytes: all that [`each_spelt_message`] gives, and every byte string of up to 3 bytes.
 pub fn each_message(look: &mut Look) -> Result<(), String> {
-    valid_messages().iter().try_for_each(|message| each_damage(message, look))?;
-    each_word_string(&[0, 1, 2, 5, 7, 1_000_001], 7, look)?;
-    each_word_string(&[0, 1, 2, 3, 4, 5, 6, 7, 1_000_000, 1_000_001, u32::MAX], 5, look)?;
+    each_spelt_message(look)?;
     each_byte_string(3, look)
+}
+
+/// Looks at every one-byte damage of valid messages, each shorter one, and each longer by a byte; and at every sequence of a few
+/// words behind slots there and not.
+fn each_spelt_message(look: &mut Look) -> Result<(), String> {
+    valid_messages().iter().try_for_each(|message| each_damage(message, look))?;
+    for slot in [0, 7, 8, u32::MAX] {
+        let mut behind = |words: &[u8]| look(&[&slot.to_be_bytes(), words].concat());
+        each_word_string(&[0, 1, 2, 5, 7, 1_000_001], if slot == 0 { 7 } else { 6 }, &mut behind)?;
+        each_word_string(&[0, 1, 2, 3, 4, 5, 6, 7, 1_000_000, 1_000_001, u32::MAX], 5, &mut behind)?;
+    }
+    Ok(())
 }
 
 /// The message reader on all that [`each_message`] gives.
@@ -222,7 +268,21 @@ pub fn messages(calls: Pair) -> Compared {
     Ok(compared)
 }
 
-/// The writer on messages in range and out of it, and on buffers of every length up to 30 bytes.
+/// All that [`each_spelt_message`] gives, delivered to the leader of round 2 of seven members, in slots 0 and 7.
+pub fn delivered_messages(calls: Pair) -> Compared {
+    let (mut compared, mut reply) = (0, [0; Message::LONGEST]);
+    for slot in [Slot(0), Slot(7)] {
+        let mut leader = (calls[1].member_fresh)(slot, Member(2), 7).map_err(|refusal| refusal.to_string())?;
+        (calls[1].member_start)(&mut leader, Round(2), 70, &mut reply).map_err(|refusal| refusal.to_string())?;
+        each_spelt_message(&mut |bytes| {
+            compared += 1;
+            compare_member(calls, &leader, &MemberCall::Deliver(bytes.to_vec()), Message::LONGEST).map(|_| ())
+        })?;
+    }
+    Ok(compared)
+}
+
+/// The writer on messages in range and out of it, and on buffers of every length up to 34 bytes.
 pub fn written_messages(calls: Pair) -> Compared {
     let mut compared = 0;
     for round in [0, 1, 2, 300, 1_000_000, 1_000_001, u32::MAX].map(Round) {
@@ -236,12 +296,13 @@ pub fn written_messages(calls: Pair) -> Compared {
             for voted in [0, 1, round.0.wrapping_sub(1), round.0].map(Round) {
                 messages.push(Message::join(round, sender, Some(Vote { round: voted, value: 0x0102_0304_0506_0708 })));
             }
-            for message in &messages {
-                for room in 0..=30 {
+            let slots = [0, 3, 7, 8, u32::MAX].map(Slot);
+            for message in messages.iter().flat_map(|message| slots.map(|slot| message.in_slot(slot))) {
+                for room in 0..=34 {
                     compared += 1;
                     let left = calls.map(|calls| {
                         let mut buffer = vec![0xaa; room];
-                        ((calls.write_message)(message, &mut buffer), buffer)
+                        ((calls.write_message)(&message, &mut buffer), buffer)
                     });
                     if left[0] != left[1] {
                         let names = calls.map(|calls| calls.name);
@@ -261,7 +322,7 @@ pub fn written_messages(calls: Pair) -> Compared {
 /// A call of a member.
 #[derive(Clone, Debug, PartialEq, Eq, Hash)]
 enum MemberCall {
-    Fresh(Member, u32),
+    Fresh(Slot, Member, u32),
     Start(Round, u64),
     Deliver(Vec<u8>),
 }
@@ -278,7 +339,7 @@ fn member_call(calls: &Calls, fields: &MemberFields, call: &MemberCall, room: us
     let mut left = MemberLeft { answer: Ok(Report::default()), fields: *fields, reply: vec![0xaa; room + GUARD] };
     let reply = &mut left.reply[..room];
     left.answer = match call {
-        MemberCall::Fresh(number, n) => (calls.member_fresh)(*number, *n).map(|fresh| {
+        MemberCall::Fresh(slot, number, n) => (calls.member_fresh)(*slot, *number, *n).map(|fresh| {
             left.fields = fresh;
             Report::default()
         }),
@@ -302,7 +363,7 @@ fn compare_member(calls: Pair, fields: &MemberFields, call: &MemberCall, room: u
 }
 
 /// The numbers that member calls give.
-const MEMBER_NUMBERS: [u32; 14] = [0, 3, 14, 15, 16, 17, 18, 19, 20, 21, 22, 23, 24, 25];
+const MEMBER_NUMBERS: [u32; 15] = [0, 3, 14, 15, 16, 17, 18, 19, 20, 21, 22, 23, 24, 25, 32];
 
 /// The members that a START can find, by what they have joined and voted in.
 const FOUND: [&str; 5] = [
@@ -335,11 +396,11 @@ pub fn random_members(calls: Pair, seed: u64, members: usize) -> Compared {
     let (mut compared, mut given, mut found) = (0, BTreeSet::new(), BTreeSet::new());
     for _ in 0..members {
         let n = *random.pick(&[3, 3, 5, 7]);
-        let number = Member(random.below(n as usize) as u32);
-        let mut fields = (calls[1].member_fresh)(number, n).map_err(|refusal| refusal.to_string())?;
+        let (slot, number) = (*random.pick(&Slot::ALL), Member(random.below(n as usize) as u32));
+        let mut fields = (calls[1].member_fresh)(slot, number, n).map_err(|refusal| refusal.to_string())?;
         for _ in 0..random.between(1, 40) {
             let call = random_member_call(&mut random, &fields);
-            let room = *random.pick(&[28, 28, 28, 28, 40, 27, 0]);
+            let room = *random.pick(&[32, 32, 32, 32, 40, 31, 0]);
             for fields in [fields, damaged_fields(&fields, &mut random)] {
                 let number = compare_member(calls, &fields, &call, room)?;
                 given.insert(number);
@@ -360,8 +421,8 @@ pub fn random_members(calls: Pair, seed: u64, members: usize) -> Compared {
     }
 }
 
-/// Every record of three members with small numbers, sound or not: on a sound one every call with small numbers, on any
-/// other one start and one delivery.
+/// Every record of three members of slot 3 with small numbers, sound or not: on a sound one every call with small numbers, on any
+/// other one start and one delivery; and a start on the same record in slot 8.
 pub fn small_records(calls: Pair) -> Compared {
     let every = small_member_calls();
     let some = [every[0].clone(), every[every.len() - 1].clone()];
@@ -369,6 +430,7 @@ pub fn small_records(calls: Pair) -> Compared {
     for code in 0..4 * 4 * 4 * 2 * 4 * 5 * 2 * 4 * 16 {
         let digit = |below: u32, of: u32| code / below % of;
         let mut fields = MemberFields::default();
+        fields.slot = Slot(3);
         fields.number = Member(digit(1, 4));
         fields.members = 3;
         fields.joined = Round(digit(4, 4));
@@ -387,7 +449,9 @@ pub fn small_records(calls: Pair) -> Compared {
             compared += 1;
         }
         compare_member(calls, &fields, &some[1], Message::LONGEST - 1)?;
-        compared += 2;
+        fields.slot = Slot(8);
+        compare_member(calls, &fields, &some[0], Message::LONGEST)?;
+        compared += 3;
     }
     match sound {
         0 => Err("no record was sound".into()),
@@ -395,7 +459,7 @@ pub fn small_records(calls: Pair) -> Compared {
     }
 }
 
-/// Starts and messages of rounds 0 to 4, and a message of no kind at the end.
+/// Starts and messages of rounds 0 to 4 in slot 3, one in each other slot and in slot 8, and a message of no kind at the end.
 fn small_member_calls() -> Vec<MemberCall> {
     let rounds = || (0..=4).map(Round);
     let mut calls: Vec<_> = rounds().flat_map(|round| [0, 7, 8].map(|offer| MemberCall::Start(round, offer))).collect();
@@ -407,11 +471,17 @@ fn small_member_calls() -> Vec<MemberCall> {
                 messages.push(Message::propose(round, sender, value));
                 messages.extend(rounds().map(|voted| Message::join(round, sender, Some(Vote { round: voted, value }))));
             }
-            calls.extend(messages.iter().map(|message| MemberCall::Deliver(message_bytes(message))));
+            calls.extend(messages.iter().map(|message| deliver_in(Slot(3), message)));
         }
     }
-    calls.push(MemberCall::Deliver(vec![0; 12]));
+    let start = Message::start(Round(1), Member(1));
+    calls.extend((0..=8).map(Slot).filter(|slot| *slot != Slot(3)).map(|slot| deliver_in(slot, &start)));
+    calls.push(MemberCall::Deliver([0, 0, 0, 3].into_iter().chain([0; 12]).collect()));
     calls
+}
+
+fn deliver_in(slot: Slot, message: &Message) -> MemberCall {
+    MemberCall::Deliver(message_bytes(&message.in_slot(slot)))
 }
 
 /// A call that the member may accept: its next rounds, the messages that it waits for, votes and values of its own.
@@ -420,11 +490,11 @@ fn random_member_call(random: &mut Random, fields: &MemberFields) -> MemberCall 
     let value = *random.pick(&[7, 8, fields.vote, fields.value]);
     let near = fields.joined.0.max(fields.led.0) + random.below(9) as u32;
     let round = Round(*random.pick(&[near, near, fields.led.0, fields.led.0, fields.joined.0, 0, 999_999, 1_000_001]));
-    let any = Member(random.below(9) as u32);
+    let (any, any_slot) = (Member(random.below(9) as u32), Slot(random.below(SLOTS + 1) as u32));
     let sender = if random.chance(80) { round.leader(n).unwrap_or(any) } else { any };
     let vote = Vote { round: Round(random.below(round.0 as usize + 2) as u32), value };
     let message = match random.below(100) {
-        0..=1 => return MemberCall::Fresh(any, *random.pick(&[3, 4, 5, 7, 8])),
+        0..=1 => return MemberCall::Fresh(any_slot, any, *random.pick(&[3, 4, 5, 7, 8])),
         2..=20 => {
             let own = near - near % n + fields.number.0;
             return MemberCall::Start(Round(*random.pick(&[own, own + n, round.0])), value);
@@ -435,7 +505,8 @@ fn random_member_call(random: &mut Random, fields: &MemberFields) -> MemberCall 
         66..=80 => Message::propose(round, sender, value),
         _ => Message::vote(round, any),
     };
-    let mut bytes = message_bytes(&message);
+    let slot = if random.chance(95) { fields.slot } else { any_slot };
+    let mut bytes = message_bytes(&message.in_slot(slot));
     if random.chance(15) {
         let at = random.below(bytes.len());
         bytes[at] = random.number() as u8;
@@ -448,13 +519,13 @@ fn random_member_call(random: &mut Random, fields: &MemberFields) -> MemberCall 
 
 /// The bytes of a message, whatever its fields are.
 pub fn message_bytes(message: &Message) -> Vec<u8> {
-    let (round, sender) = (message.round().0, message.sender().0);
+    let (slot, round, sender) = (message.slot().0, message.round().0, message.sender().0);
     let (words, value) = match *message {
-        Message::Start { .. } => (vec![1, round, sender], None),
-        Message::Join { vote: None, .. } => (vec![2, round, sender, 0], None),
-        Message::Join { vote: Some(vote), .. } => (vec![2, round, sender, 1, vote.round.0], Some(vote.value)),
-        Message::Propose { value, .. } => (vec![3, round, sender], Some(value)),
-        Message::Vote { .. } => (vec![4, round, sender], None),
+        Message::Start { .. } => (vec![slot, 1, round, sender], None),
+        Message::Join { vote: None, .. } => (vec![slot, 2, round, sender, 0], None),
+        Message::Join { vote: Some(vote), .. } => (vec![slot, 2, round, sender, 1, vote.round.0], Some(vote.value)),
+        Message::Propose { value, .. } => (vec![slot, 3, round, sender], Some(value)),
+        Message::Vote { .. } => (vec![slot, 4, round, sender], None),
     };
     words.iter().flat_map(|word| word.to_be_bytes()).chain(value.iter().flat_map(|value| value.to_be_bytes())).collect()
 }
@@ -464,7 +535,7 @@ fn damaged_fields(fields: &MemberFields, random: &mut Random) -> MemberFields {
     let mut fields = *fields;
     let near = random.below(12) as u32;
     let number = *random.pick(&[near, near, near, 999_999, 1_000_000, 1_000_001, u32::MAX]);
-    match random.below(10) {
+    match random.below(11) {
         0 => fields.number = Member(number),
         1 => fields.members = number,
         2 => fields.joined = Round(number),
@@ -474,6 +545,7 @@ fn damaged_fields(fields: &MemberFields, random: &mut Random) -> MemberFields {
         6 => fields.phase = number % 6,
         7 => fields.value = u64::from(near),
         8 => fields.source = Round(number),
+        9 => fields.slot = Slot(number),
         _ => {
             let bits = *random.pick(&[3, 7, 9, 32]);
             fields.flags ^= 1 << random.below(bits);

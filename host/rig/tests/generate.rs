@@ -9,12 +9,12 @@ use std::collections::{BTreeMap, BTreeSet};
 /// The stage of the member that this event brings a START to, if it has joined that round or a higher one.
 fn stage(model: &Model, event: &Event) -> Option<&'static str> {
     let Event::Deliver { message, member, .. } = event else { return None };
-    let Message::Start { round, .. } = model.message(*message)? else { return None };
-    let record = model.member(*member)?;
+    let Message::Start { slot: message_slot, round, .. } = *model.message(*message)? else { return None };
+    let record = model.member(event.slot(), *member).filter(|record| record.slot == message_slot)?;
     match (record.j, record.v) {
-        (joined, _) if joined < *round => None,
-        (joined, _) if joined > *round => Some("in a higher round"),
-        (_, voted) if voted == *round => Some("voted in the round"),
+        (joined, _) if joined < round => None,
+        (joined, _) if joined > round => Some("in a higher round"),
+        (_, voted) if voted == round => Some("voted in the round"),
         (_, Round::ROOT) => Some("never voted"),
         _ => Some("voted in a lower round"),
     }

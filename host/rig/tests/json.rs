@@ -41,7 +41,7 @@ fn every_field_is_documented() {
         printed.split("\":").filter_map(|part| part.rsplit_once('"')).map(|part| part.1).collect();
     names.sort_unstable();
     names.dedup();
-    assert_eq!(names.len(), 35, "{names:?}");
+    assert_eq!(names.len(), 36, "{names:?}");
     for name in names {
         assert!(documented().contains(&format!("`{name}`")), "{name}");
     }
@@ -67,6 +67,22 @@ fn rounds_made_ghost() {
         assert!(line.contains(&format!(",\"ghosts\":{ghosts},\"model_ghosts\":{ghosts},\"late\":null,")), "{line}");
         assert!(line.ends_with(&format!(",\"nodes\":[{nodes}]}}")), "{line}");
     }
+}
+
+/// An event and a message have their slot, also where they are of different ones; one slot alone keeps the numbers of its events.
+#[test]
+fn slots() {
+    let list = "s(1,1,70) 3:s(1,1,80) 3:d(0,0) 8:d(0,0)";
+    let printed = json(list);
+    let lines: Vec<&str> = printed.lines().collect();
+    assert!(lines[0].contains(r#""kind":"start","slot":0,"member":1,"#), "{printed}");
+    assert!(lines[1].contains(r#""sent":{"number":1,"kind":"START","slot":3,"round":1,"sender":1},"#), "{printed}");
+    assert!(lines[2].contains(r#""kind":"deliver","slot":3,"message":0,"member":0},"answer":32,"#), "{printed}");
+    assert!(lines[2].contains(r#""delivered":{"kind":"START","slot":0,"round":1,"sender":1},"#), "{printed}");
+    assert!(lines[2].contains(r#""before":{"slot":3,"member":0,"#), "{printed}");
+    assert!(lines[3].contains(r#""slot":8,"#) && lines[3].contains(r#""before":null,"after":null,"#), "{printed}");
+    let (status, alone, _) = tool(&["run", "--json", "--second", "--slot", "3", "-e", list]);
+    assert_eq!((status, alone), (0, format!("{}\n{}\n", lines[1], lines[2])));
 }
 
 /// A refused list has no events to tell of; a file that can't be written is a mistake, and the JSON is there all the same.

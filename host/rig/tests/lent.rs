@@ -6,7 +6,7 @@
 mod compared;
 
 use compared::{same, seed};
-use kalebasin::{Made, Member, MemberFields, Message, Refusal, Report, Round};
+use kalebasin::{Made, Member, MemberFields, Message, Refusal, Report, Round, Slot};
 use kalebasin_rig::{second, suite, Calls};
 
 /// The calls as they are declared in Rattle: a flag is a `bool` there, so that only Rust's own can stand in its byte.
@@ -14,6 +14,7 @@ mod ffi {
     #[repr(C)]
     #[derive(Clone, Copy, Debug, PartialEq, Eq)]
     pub struct Who {
+        pub slot: u32,
         pub me: u32,
         pub n: u32,
     }
@@ -56,7 +57,7 @@ mod ffi {
 
     #[link(name = "member_lent", kind = "static")]
     extern "C" {
-        pub fn fresh(m: *mut MemberState, me: u32, n: u32) -> Report;
+        pub fn fresh(m: *mut MemberState, slot: u32, me: u32, n: u32) -> Report;
         pub fn start(m: *mut MemberState, round: u32, offer: u64, reply: *mut u8, len: usize) -> Report;
         pub fn deliver(m: *mut MemberState, bytes: *const u8, bytes_len: usize, reply: *mut u8, len: usize) -> Report;
     }
@@ -86,7 +87,7 @@ fn lend(
 /// The record of these fields; none where a bit is set that is no flag, which a lent record has no place for.
 fn record_of(fields: &MemberFields) -> Option<ffi::MemberState> {
     (fields.flags < 1 << 7).then(|| ffi::MemberState {
-        who: ffi::Who { me: fields.number.0, n: fields.members },
+        who: ffi::Who { slot: fields.slot.0, me: fields.number.0, n: fields.members },
         durable: ffi::Durable { joined: fields.joined.0, voted: fields.voted.0, vote: fields.vote, led: fields.led.0 },
         lead: ffi::Lead {
             phase: fields.phase,
@@ -100,6 +101,7 @@ fn record_of(fields: &MemberFields) -> Option<ffi::MemberState> {
 fn fields_of(record: &ffi::MemberState) -> MemberFields {
     let ffi::MemberState { who, durable, lead } = record;
     let mut fields = MemberFields::default();
+    fields.slot = Slot(who.slot);
     fields.number = Member(who.me);
     fields.members = who.n;
     fields.joined = Round(durable.joined);
@@ -155,11 +157,11 @@ fn deliver(fields: &mut MemberFields, bytes: &[u8], reply: &mut [u8]) -> Result<
 }
 
 /// Fresh on a record of ones: all of it is another one after, or nothing is.
-fn fresh(number: Member, members: u32) -> Result<MemberFields, Refusal> {
+fn fresh(slot: Slot, number: Member, members: u32) -> Result<MemberFields, Refusal> {
     let mut fields = ones();
     // SAFETY: the record is exclusive and its flags are Booleans.
-    let answer = on_record(&mut fields, |record| unsafe { ffi::fresh(record, number.0, members) });
-    assert_eq!(fields == ones(), answer.is_err(), "the record after fresh({number}, {members})");
+    let answer = on_record(&mut fields, |record| unsafe { ffi::fresh(record, slot.0, number.0, members) });
+    assert_eq!(fields == ones(), answer.is_err(), "the record after fresh({slot}, {number}, {members})");
     answer.map(|report| {
         assert_eq!(report, Report::default());
         fields
@@ -170,7 +172,8 @@ fn fresh(number: Member, members: u32) -> Result<MemberFields, Refusal> {
 fn ones() -> MemberFields {
     let mut fields = MemberFields::default();
     let (word, round, value) = (u32::MAX, Round(u32::MAX), u64::MAX);
-    (fields.number, fields.members, fields.phase, fields.flags) = (Member(word), word, word, 127);
+    (fields.slot, fields.number, fields.members) = (Slot(word), Member(word), word);
+    (fields.phase, fields.flags) = (word, 127);
     (fields.joined, fields.voted, fields.led, fields.source) = (round, round, round, round);
     (fields.vote, fields.value) = (value, value);
     fields
@@ -197,23 +200,26 @@ fn random_members() {
     same("random lent members", suite::random_members(PAIR, seed(), 40_000));
 }
 
-/// Of all members and sizes up to 9, and of numbers at the ends of their range.
+/// Of all slots, members and sizes up to 9, and of numbers at the ends of their range.
 #[test]
 fn fresh_records() {
     let numbers = || (0..10).chain([u32::MAX - 1, u32::MAX]);
     let mut accepted = 0;
-    for (number, members) in numbers().flat_map(|number| numbers().map(move |members| (Member(number), members))) {
-        let answer = fresh(number, members);
-        assert_eq!(answer, (second::CALLS.member_fresh)(number, members), "fresh({number}, {members})");
-        accepted += usize::from(answer.is_ok());
+    for slot in numbers().map(Slot) {
+        for (number, members) in numbers().flat_map(|number| numbers().map(move |members| (Member(number), members))) {
+            let answer = fresh(slot, number, members);
+            let expected = (second::CALLS.member_fresh)(slot, number, members);
+            assert_eq!(answer, expected, "fresh({slot}, {number}, {members})");
+            accepted += usize::from(answer.is_ok());
+        }
     }
-    assert_eq!(accepted, 3 + 5 + 7);
+    assert_eq!(accepted, 8 * (3 + 5 + 7));
 }
 
-/// A member that goes on from what the call before left where it sits: round 1 of three members, to its decision.
+/// A member that goes on from what the call before left where it sits: round 1 of three members in slot 7, to its decision.
 #[test]
 fn a_round_on_records_where_they_sit() {
-    let mut office = [0, 1].map(|number| fresh(Member(number), 3).unwrap());
+    let mut office = [0, 1].map(|number| fresh(Slot(7), Member(number), 3).unwrap());
     let mut reply = [0xaa; Message::LONGEST];
     let mut sent = start(&mut office[1], Round(1), 70, &mut reply).unwrap().sent;
     let mut made = Vec::new();

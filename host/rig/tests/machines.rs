@@ -1,5 +1,5 @@
-//! The example `machines`: members on threads of their own, over UDP, come to know one value, whatever the shim loses, repeats
-//! and holds back.
+//! The example `machines`: members on threads of their own, over UDP, come to know one value in each of two slots, whatever the
+//! shim loses, repeats and holds back.
 
 #![cfg(feature = "core")]
 
@@ -26,14 +26,16 @@ fn count(lines: &[String], word: &str) -> usize {
 }
 
 #[test]
-fn all_members_know_one_value() {
+fn all_members_know_one_value_in_each_slot() {
     for members in [3, 5, 7] {
         for (seed, lost) in [(1, 0), (2, 20), (3, 50)] {
             let lines = run(members, seed, lost);
-            assert!(lines.iter().any(|line| line.contains(" decided ")), "{lines:?}");
-            let knowing = lines.iter().filter(|line| line.contains(" knows 7")).count();
-            assert_eq!(knowing, members as usize, "{lines:?}");
-            assert_eq!(lines.last().unwrap(), "all know the same value");
+            for (slot, value) in [("slot 0: ", " knows 7"), ("slot 5: ", " knows 57")] {
+                let of_slot = || lines.iter().filter(|line| line.starts_with(slot));
+                assert!(of_slot().any(|line| line.contains(" decided ")), "{lines:?}");
+                assert_eq!(of_slot().filter(|line| line.contains(value)).count(), members as usize, "{lines:?}");
+            }
+            assert_eq!(lines.last().unwrap(), "all know the same value in each slot");
         }
     }
 }
@@ -51,9 +53,10 @@ fn the_shim_loses_repeats_and_holds_back() {
 #[test]
 fn no_decision_is_told() {
     let (text, agreed) = machines::run(3, 6, 100, Duration::from_secs(1), machines::MOST_DATAGRAMS).unwrap();
-    assert!(
-        !agreed && text.contains("member 2 knows of no decision\n") && text.ends_with("NOT all know the same value\n")
-    );
+    assert!(!agreed && text.ends_with("NOT all know the same value in each slot\n"), "{text}");
+    for slot in [0, 5] {
+        assert!(text.contains(&format!("slot {slot}: member 2 knows of no decision\n")), "{text}");
+    }
 }
 
 /// A run sends no more datagrams than it may, and ends then.

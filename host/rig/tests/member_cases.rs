@@ -1,7 +1,7 @@
 //! The cases of the program `member_cases`, which makes the proved member calls with a reply: its stored input has them,
 //! and its stored output is what the second implementation gives for each.
 
-use kalebasin::{number_of, Member, Message, Round, Vote};
+use kalebasin::{number_of, Member, Message, Round, Slot, Vote, SLOTS};
 use kalebasin_rig::random::Random;
 use kalebasin_rig::second::member::{deliver, fresh, quorum, start, Record, COLLECTING, DECIDED, IDLE, PROPOSED};
 use kalebasin_rig::second::message;
@@ -13,7 +13,7 @@ use std::fs;
 /// A call without its record and its reply.
 #[derive(Clone, Debug)]
 enum Call {
-    Fresh(Member, u32),
+    Fresh(Slot, Member, u32),
     Start(Round, u64),
     Deliver(Vec<u8>),
 }
@@ -27,27 +27,28 @@ struct Case {
 }
 
 impl Case {
-    /// The 136 bytes that the program reads.
+    /// The 148 bytes that the program reads.
     fn encoded(&self) -> Vec<u8> {
-        let (kind, number, n, round, offer, message) = match &self.call {
-            Call::Fresh(number, n) => (0, *number, *n, Round(0), 0, &b""[..]),
-            Call::Start(round, offer) => (1, Member(0), 0, *round, *offer, &b""[..]),
-            Call::Deliver(bytes) => (2, Member(0), 0, Round(0), 0, &bytes[..]),
+        let nobody = (Slot(0), Member(0), 0);
+        let (kind, (slot, number, n), round, offer, message) = match &self.call {
+            Call::Fresh(slot, number, n) => (0, (*slot, *number, *n), Round(0), 0, &b""[..]),
+            Call::Start(round, offer) => (1, nobody, *round, *offer, &b""[..]),
+            Call::Deliver(bytes) => (2, nobody, Round(0), 0, &bytes[..]),
         };
         let record = &self.record;
-        let mut words = vec![kind, record.number.0, record.n, record.j.0, record.v.0];
+        let mut words = vec![kind, record.slot.0, record.number.0, record.n, record.j.0, record.v.0];
         words.extend(halves(record.w));
         words.extend([record.l.0, record.phase]);
         words.extend(halves(record.x));
         words.push(record.b.0);
         words.extend(record.flags.map(u32::from));
-        words.extend([number.0, n, round.0]);
+        words.extend([slot.0, number.0, n, round.0]);
         words.extend(halves(offer));
         words.extend([self.room as u32, message.len() as u32]);
         let mut bytes = spelt(&words);
         bytes.extend(message);
-        assert!(bytes.len() <= 136 && self.room <= 40);
-        bytes.resize(136, 0);
+        assert!(bytes.len() <= 148 && self.room <= 40);
+        bytes.resize(148, 0);
         bytes
     }
 
@@ -56,7 +57,7 @@ impl Case {
         let mut record = self.record;
         let mut reply = vec![0xaa; self.room];
         let answer = match &self.call {
-            Call::Fresh(number, n) => fresh(*number, *n).map(|made| {
+            Call::Fresh(slot, number, n) => fresh(*slot, *number, *n).map(|made| {
                 record = made;
                 Default::default()
             }),
@@ -70,11 +71,12 @@ impl Case {
             (None, Some(decision)) => (decision.round, decision.value, Round(0)),
             (None, None) => (Round(0), 0, Round(0)),
         };
-        let Record { number: own, n, j, v, w, l, phase, x, b, flags } = record;
+        let Record { slot, number: own, n, j, v, w, l, phase, x, b, flags } = record;
         let flags = flags.map(|flag| u32::from(flag).to_string()).join(" ");
         let reply: Vec<String> = reply.iter().map(|byte| format!("{byte:02x}")).collect();
         let report = format!("{number} {sent} {round} {value} {parent}");
-        (number, format!("{report} | {own} {n} {j} {v} {w} {l} {phase} {x} {b} {flags} | {}\n", reply.concat()))
+        let after = format!("{slot} {own} {n} {j} {v} {w} {l} {phase} {x} {b} {flags}");
+        (number, format!("{report} | {after} | {}\n", reply.concat()))
     }
 
     /// The call, or the kind of the message.
@@ -84,9 +86,9 @@ impl Case {
             Call::Start(..) => return "start",
             Call::Deliver(bytes) => bytes,
         };
-        match bytes.get(..4) {
+        match bytes.get(4..8) {
             Some([0, 0, 0, 1]) => "START",
-            Some([0, 0, 0, 2]) if matches!(bytes.get(12..16), Some([0, 0, 0, 1])) => "JOIN with a vote",
+            Some([0, 0, 0, 2]) if matches!(bytes.get(16..20), Some([0, 0, 0, 1])) => "JOIN with a vote",
             Some([0, 0, 0, 2]) => "JOIN",
             Some([0, 0, 0, 3]) => "PROPOSE",
             Some([0, 0, 0, 4]) => "VOTE",
@@ -107,29 +109,35 @@ fn starts(round: u32, offer: u64) -> Call {
     Call::Start(Round(round), offer)
 }
 
+/// The slot of the records and messages that are made by hand.
+const OWN: Slot = Slot(5);
+
+fn delivers(message: Message) -> Call {
+    Call::Deliver(message_bytes(&message.in_slot(OWN)))
+}
+
 fn start_of(round: u32, sender: u32) -> Call {
-    Call::Deliver(message_bytes(&Message::start(Round(round), Member(sender))))
+    delivers(Message::start(Round(round), Member(sender)))
 }
 
 fn join(round: u32, sender: u32) -> Call {
-    Call::Deliver(message_bytes(&Message::join(Round(round), Member(sender), None)))
+    delivers(Message::join(Round(round), Member(sender), None))
 }
 
 fn voted_join(round: u32, sender: u32, voted: u32, value: u64) -> Call {
-    let vote = Some(Vote { round: Round(voted), value });
-    Call::Deliver(message_bytes(&Message::join(Round(round), Member(sender), vote)))
+    delivers(Message::join(Round(round), Member(sender), Some(Vote { round: Round(voted), value })))
 }
 
 fn propose(round: u32, sender: u32, value: u64) -> Call {
-    Call::Deliver(message_bytes(&Message::propose(Round(round), Member(sender), value)))
+    delivers(Message::propose(Round(round), Member(sender), value))
 }
 
 fn vote(round: u32, sender: u32) -> Call {
-    Call::Deliver(message_bytes(&Message::vote(Round(round), Member(sender))))
+    delivers(Message::vote(Round(round), Member(sender)))
 }
 
 fn member(number: u32, n: u32) -> Record {
-    fresh(Member(number), n).unwrap()
+    fresh(OWN, Member(number), n).unwrap()
 }
 
 fn flags(set: &[usize]) -> [bool; 7] {
@@ -162,9 +170,11 @@ fn each_call() -> [Call; 6] {
     [starts(7, 80), start_of(6, 0), join(4, 0), voted_join(4, 0, 2, 66), propose(6, 0, 9), vote(4, 0)]
 }
 
-/// Each clause of document 01's "Sound" broken in turn.
+/// Each clause of document 01's "Sound", and document 02's of slots, broken in turn.
 fn unsound() -> Vec<Record> {
     vec![
+        Record { slot: Slot(8), ..collecting() },
+        Record { slot: Slot(u32::MAX), ..member(0, 3) },
         Record { n: 0, ..member(0, 3) },
         Record { n: 4, ..member(0, 3) },
         Record { n: 9, ..member(0, 3) },
@@ -272,6 +282,28 @@ fn each_count() -> Vec<(Record, Call)> {
     sizes.flat_map(|(n, phase)| (0..=n).map(move |k| (record(n, phase, k), call(n, phase, k)))).collect()
 }
 
+/// Each call on members of slots 0 and 7, with messages of their own slot and of every other.
+fn each_slot() -> Vec<(Record, Call)> {
+    let mut calls = Vec::new();
+    for slot in [Slot(0), Slot(7)] {
+        for (record, call) in
+            each_call().into_iter().flat_map(|call| [(collecting(), call.clone()), (proposed(), call)])
+        {
+            let record = Record { slot, ..record };
+            let Call::Deliver(message) = &call else {
+                calls.push((record, call));
+                continue;
+            };
+            let mut message = message.clone();
+            for of in (0..=8).chain([0x0100_0000 + slot.0, u32::MAX]) {
+                message[..4].copy_from_slice(&of.to_be_bytes());
+                calls.push((record, Call::Deliver(message.clone())));
+            }
+        }
+    }
+    calls
+}
+
 /// A message with one word changed, cut off, or longer than its kind.
 fn damaged(message: &[u8]) -> Vec<Vec<u8>> {
     let with = |at: usize, word: u32| {
@@ -279,15 +311,22 @@ fn damaged(message: &[u8]) -> Vec<Vec<u8>> {
         bytes[4 * at..][..4].copy_from_slice(&word.to_be_bytes());
         bytes
     };
-    let mut all = vec![with(0, 0), with(0, 5), with(0, 1 << 24), with(1, 0), with(1, 1_000_001), with(2, 7)];
-    if message[3] == 2 {
-        all.push(with(3, 2));
+    let mut all = vec![with(1, 0), with(1, 5), with(1, 1 << 24), with(2, 0), with(2, 1_000_001), with(3, 7)];
+    if message[7] == 2 {
+        all.push(with(4, 2));
     }
-    if message.len() == 28 {
-        all.extend([with(3, 0), with(4, 0), with(4, 4)]);
+    if message.len() == 32 {
+        all.extend([with(4, 0), with(5, 0), with(5, 4)]);
     }
-    all.extend([0, 3, 4, message.len() - 1].map(|length| message[..length].to_vec()));
+    all.extend([0, 3, 4, 7, 8, message.len() - 1].map(|length| message[..length].to_vec()));
     all.extend([1, 4].map(|more| [message, &[0; 4][..more]].concat()));
+    // in another slot, cut off before the kind and behind it, and of no kind
+    let (mut elsewhere, mut of_no_kind) = (with(0, OWN.0 + 1), with(0, OWN.0 + 1));
+    of_no_kind[7] = 5;
+    all.extend([7, 8].map(|length| elsewhere[..length].to_vec()));
+    all.push(of_no_kind);
+    elsewhere[3] = 8;
+    all.push(elsewhere);
     all
 }
 
@@ -296,18 +335,21 @@ fn by_hand() -> Vec<Case> {
     let mut add = |record: Record, call: &Call, room: usize| cases.push(Case { record, call: call.clone(), room });
     for old in [collecting(), unsound()[0]] {
         for (number, n) in [(0, 0), (0, 3), (2, 3), (3, 3), (0, 4), (4, 5), (5, 5), (6, 7), (7, 7), (u32::MAX, 7)] {
-            add(old, &Call::Fresh(Member(number), n), 28);
+            add(old, &Call::Fresh(OWN, Member(number), n), 32);
+        }
+        for slot in (0..=8).chain([u32::MAX]) {
+            add(old, &Call::Fresh(Slot(slot), Member(2), 3), 32);
         }
     }
     for record in unsound() {
         each_call().iter().for_each(|call| add(record, call, 40));
     }
-    each_call().iter().for_each(|call| add(unsound()[0], call, 27));
+    each_call().iter().for_each(|call| add(unsound()[0], call, 31));
     for (record, call) in acceptable() {
-        [0, 27, 28, 40].iter().for_each(|room| add(record, &call, *room));
+        [0, 31, 32, 40].iter().for_each(|room| add(record, &call, *room));
     }
-    for (record, call) in refused().into_iter().chain(each_count()) {
-        add(record, &call, 28);
+    for (record, call) in refused().into_iter().chain(each_count()).chain(each_slot()) {
+        add(record, &call, 32);
     }
     for call in each_call() {
         let Call::Deliver(message) = call else { continue };
@@ -325,7 +367,7 @@ fn some_value(random: &mut Random) -> u64 {
 fn sound_record(random: &mut Random) -> Record {
     let n = *random.pick(&[3, 5, 7]);
     let number = random.below(n);
-    let mut record = member(number as u32, n as u32);
+    let mut record = Record { slot: *random.pick(&Slot::ALL), ..member(number as u32, n as u32) };
     record.j = Round(*random.pick(&[0, 5, 12, 999_999]));
     if random.chance(60) {
         let voted = Round(random.below(record.j.0 as usize + 1) as u32);
@@ -352,7 +394,7 @@ fn sound_record(random: &mut Random) -> Record {
 /// Another number in one field.
 fn change(random: &mut Random, record: &mut Record) {
     let number = *random.pick(&[0, 1, 2, 3, 4, 7, 8, 1_000_000, 1_000_001, u32::MAX]);
-    match random.below(10) {
+    match random.below(11) {
         0 => record.number = Member(number),
         1 => record.n = number,
         2 => record.j = Round(number),
@@ -362,6 +404,7 @@ fn change(random: &mut Random, record: &mut Record) {
         6 => record.phase = number,
         7 => record.x = some_value(random),
         8 => record.b = Round(number),
+        9 => record.slot = Slot(number),
         _ => record.flags[random.below(7)] ^= true,
     }
 }
@@ -401,29 +444,33 @@ fn at_random(random: &mut Random) -> Case {
         change(random, &mut record);
     }
     let call = match random.below(20) {
-        0 => Call::Fresh(Member(random.below(8) as u32), *random.pick(&[3, 5, 7, 4])),
+        0 => {
+            let (slot, number) = (Slot(random.below(SLOTS + 1) as u32), Member(random.below(8) as u32));
+            Call::Fresh(slot, number, *random.pick(&[3, 5, 7, 4]))
+        }
         1..=3 => {
             let led = record.number.0 as u64 + u64::from(record.n) * random.below(6) as u64;
             let round = if random.chance(80) { led as u32 } else { random.below(20) as u32 };
             Call::Start(Round(round), some_value(random))
         }
         _ => {
-            let mut message = message_bytes(&some_message(random, &record));
+            let slot = if random.chance(95) { record.slot } else { Slot(random.below(SLOTS + 1) as u32) };
+            let mut message = message_bytes(&some_message(random, &record).in_slot(slot));
             if random.chance(8) {
                 let at = random.below(message.len());
                 message[at] ^= 1 << random.below(8);
             }
             if random.chance(4) {
-                message.resize(random.below(33), 0);
+                message.resize(random.below(37), 0);
             }
             Call::Deliver(message)
         }
     };
-    Case { record, call, room: *random.pick(&[28, 28, 29, 35, 40, 40, 40, 27, 0]) }
+    Case { record, call, room: *random.pick(&[32, 32, 33, 36, 40, 40, 40, 31, 0]) }
 }
 
 fn random_cases() -> Vec<Case> {
-    let mut random = Random::new(7);
+    let mut random = Random::new(9);
     (0..300).map(|_| at_random(&mut random)).collect()
 }
 
@@ -459,7 +506,7 @@ fn write_the_files() {
 /// How a START finds a record: J and V beside its round, whether there is a vote, and the number.
 fn start_row(case: &Case) -> Option<(Ordering, Ordering, bool, u32)> {
     let Call::Deliver(bytes) = &case.call else { return None };
-    let Ok(Message::Start { round, .. }) = message::read(bytes) else { return None };
+    let Ok(Message::Start { round, .. }) = message::read_of(case.record.slot, bytes) else { return None };
     let Record { j, v, .. } = case.record;
     Some((j.cmp(&round), v.cmp(&round), v > Round(0), case.worked().0))
 }
@@ -488,7 +535,7 @@ fn count_row(case: &Case) -> (u32, u32, u32, u32, bool, String) {
     let (number, line) = case.worked();
     let words: Vec<&str> = line.split(' ').collect();
     let Record { n, phase, .. } = case.record;
-    (n, phase, case.record.counted(), number, words[2] != "0", words[12].to_string())
+    (n, phase, case.record.counted(), number, words[2] != "0", words[13].to_string())
 }
 
 /// The flag that makes 2 of 3, 3 of 5 or 4 of 7 ends phase 1 or 2, and there a record with as many or more isn't sound; in
@@ -523,12 +570,12 @@ fn every_number() {
     let expected: [(&str, &[u32]); 8] = [
         ("fresh", &[0, 17]),
         ("start", &[0, 3, 17, 18, 19, 20]),
-        ("START", &[0, 14, 16, 17, 18, 21, 22]),
-        ("JOIN", &[0, 14, 16, 17, 18, 21, 24, 25]),
-        ("JOIN with a vote", &[0, 14, 16, 17, 18, 21, 24, 25]),
-        ("PROPOSE", &[0, 14, 16, 17, 18, 21, 22, 23]),
-        ("VOTE", &[0, 14, 16, 17, 18, 21, 24, 25]),
-        ("no kind", &[14, 15]),
+        ("START", &[0, 14, 16, 17, 18, 21, 22, 32]),
+        ("JOIN", &[0, 14, 16, 17, 18, 21, 24, 25, 32]),
+        ("JOIN with a vote", &[0, 14, 16, 17, 18, 21, 24, 25, 32]),
+        ("PROPOSE", &[0, 14, 16, 17, 18, 21, 22, 23, 32]),
+        ("VOTE", &[0, 14, 16, 17, 18, 21, 24, 25, 32]),
+        ("no kind", &[14, 15, 32]),
     ];
     for (kind, numbers) in expected {
         numbers.iter().for_each(|number| assert!(counts.contains_key(&(kind, *number)), "{kind} never gets {number}"));

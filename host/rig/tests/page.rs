@@ -5,14 +5,14 @@ mod runs;
 
 use browser::{browser, Browser};
 use kalebasin::notation::parse;
-use kalebasin::{EventList, Refusal, TreeKind};
+use kalebasin::{EventList, Refusal, Slot, TreeKind, SLOTS};
 use kalebasin_rig::draw;
 use kalebasin_rig::second::member::Record;
 use kalebasin_rig::second::model::{Made, Model};
 use kalebasin_rig::second::tree;
 use kalebasin_rig::suite::{MADE_GHOST, REHEARSAL};
-use kalebasin_rig::trace::Happened;
-use runs::{happened, random_list, REFUSALS, STORE_ROWS, TABLE_ROWS};
+use kalebasin_rig::trace::{Happened, Trace};
+use runs::{happened, random_list, REFUSALS, SLOTS_SIDE_BY_SIDE, STORE_ROWS, TABLE_ROWS};
 use std::io::Write;
 use std::path::PathBuf;
 use std::process::{Command, Stdio};
@@ -30,8 +30,13 @@ fn tool(args: &[&str], list: &EventList) -> String {
 
 /// The page of a list, as the tool writes it.
 fn page(name: &str, list: &EventList) -> PathBuf {
+    page_with(name, list, &[])
+}
+
+/// The same with more options.
+fn page_with(name: &str, list: &EventList, options: &[&str]) -> PathBuf {
     let file = PathBuf::from(env!("CARGO_TARGET_TMPDIR")).join(format!("{name}.html"));
-    tool(&["run", "--html", file.to_str().unwrap()], list);
+    tool(&[&["run", "--html", file.to_str().unwrap()], options].concat(), list);
     file
 }
 
@@ -57,40 +62,50 @@ fn words(one: &Happened) -> String {
     format!("{}: {cause}. {}.", one.answer, one.explained.words)
 }
 
-/// The office and its tree as a page shows them.
+/// The office and its trees, and the slot that a page shows.
 struct Office {
-    records: Vec<Record>,
-    table: Vec<u64>,
+    slot: Slot,
+    /// Whether others than slot 0 are shown.
+    named: bool,
+    records: [Vec<Record>; SLOTS],
+    tables: [Vec<u64>; SLOTS],
 }
 
 impl Office {
-    fn new(n: u32) -> Office {
-        let mut table = vec![0; TABLE_ROWS * 4];
-        tree::fresh(&mut table).unwrap();
-        Office { records: Model::new(n, STORE_ROWS, TABLE_ROWS).unwrap().members, table }
+    fn new(trace: &Trace) -> Office {
+        let mut tables = TABLE_ROWS.map(|rows| vec![0; rows * 4]);
+        tables.iter_mut().for_each(|table| tree::fresh(table).unwrap());
+        let model = Model::new(trace.n(), STORE_ROWS, TABLE_ROWS).unwrap();
+        let (slot, named) = (trace.slots()[0], trace.slots() != [Slot(0)]);
+        Office { slot, named, records: model.slots.map(|of_slot| of_slot.members), tables }
     }
 
     /// Takes an event; the rounds whose nodes it changed.
     fn take(&mut self, one: &Happened) -> Vec<u32> {
-        if let Some(after) = one.after {
-            self.records[after.number.0 as usize] = after;
+        if one.slot().in_range() {
+            self.slot = one.slot();
         }
-        let before = self.table.clone();
+        let Some(after) = one.after else { return Vec::new() };
+        self.records[after.slot.0 as usize][after.number.0 as usize] = after;
+        let table = &mut self.tables[after.slot.0 as usize];
+        let before = table.clone();
         match one.made {
             Some(Made::Proposal(made)) => {
-                tree::add(TreeKind::Value, &mut self.table, made.round, made.value, made.parent).unwrap();
+                tree::add(TreeKind::Value, table, made.round, made.value, made.parent).unwrap();
             }
-            Some(Made::Decision(made)) => tree::commit(TreeKind::Value, &mut self.table, made.round).unwrap(),
+            Some(Made::Decision(made)) => tree::commit(TreeKind::Value, table, made.round).unwrap(),
             None => {}
         }
-        let rows = before.chunks(4).zip(self.table.chunks(4));
+        let rows = before.chunks(4).zip(table.chunks(4));
         rows.filter(|(was, is)| was != is).map(|(_, is)| is[0] as u32).collect()
     }
 
-    /// The lines of the records, with a star where the event changed a field, and the tree.
+    /// The headings, the lines of the records, with a star where the event changed a field, and the tree.
     fn lines(&self, one: Option<&Happened>, changed: &[u32]) -> String {
         let before = one.and_then(|one| one.before);
-        let mut lines = Vec::new();
+        let (slot, at) = (self.slot, self.slot.0 as usize);
+        let of_slot = if self.named { format!(" of slot {slot}") } else { String::new() };
+        let mut lines = vec![format!("Records{of_slot}, Tree{of_slot}")];
         for field in 0..8 {
             let cell = |record: &Record| {
                 let now = fields(record)[field].clone();
@@ -101,9 +116,9 @@ impl Office {
                     now
                 }
             };
-            lines.push(self.records.iter().map(cell).collect::<Vec<_>>().join(" | "));
+            lines.push(self.records[at].iter().map(cell).collect::<Vec<_>>().join(" | "));
         }
-        let mut tree = draw::text(&self.table);
+        let mut tree = draw::text(&self.tables[at]);
         for round in changed {
             tree = tree.replace(&format!(" round {round},"), &format!(" *round {round},"));
         }
@@ -111,22 +126,36 @@ impl Office {
     }
 }
 
-/// The arrow key takes the slider through all events; records, changed fields and tree are those of the model after each.
+/// The arrow key takes the slider through all events; records, changed fields and tree are those of the model after each, in the
+/// event's slot.
 #[test]
 #[ignore = "needs chromium"]
 fn the_slider_shows_records_and_tree() {
     let mut browser = browser();
-    let lists = [parse(REHEARSAL, None).unwrap(), parse(REFUSALS, None).unwrap(), random_list(5, 5, 150)];
-    for (at, list) in lists.iter().enumerate() {
-        browser.open(&page(&format!("slider-{at}"), list));
-        let mut office = Office::new(list.n);
+    let slots = parse(SLOTS_SIDE_BY_SIDE, None).unwrap();
+    // An event that no member takes has its slot shown too, if that is there.
+    let nobody = parse("s(1,1,70) 3:d(0,3) 8:d(0,0) d(0,0)", None).unwrap();
+    let lists: [(EventList, &[&str], Option<Slot>); 7] = [
+        (parse(REHEARSAL, None).unwrap(), &[], None),
+        (parse(REFUSALS, None).unwrap(), &[], None),
+        (random_list(5, 5, 150), &[], None),
+        (nobody, &[], None),
+        (slots.clone(), &[], None),
+        (slots.clone(), &["--slot", "3"], Some(Slot(3))),
+        (slots, &["--slot", "0"], Some(Slot(0))),
+    ];
+    for (at, (list, options, slot)) in lists.iter().enumerate() {
+        let trace = happened(list);
+        let trace = slot.map_or(trace.clone(), |slot| trace.alone(slot));
+        browser.open(&page_with(&format!("slider-{at}"), list, options));
+        let mut office = Office::new(&trace);
         assert_eq!(browser.value("probes.shown()"), format!("– (none yet)\n\n{}", office.lines(None, &[])), "{list}");
         browser.value("String(document.getElementById('slider').focus())");
-        for (at, one) in happened(list).iter().enumerate() {
+        for one in &trace.events {
             browser.press("ArrowRight", 39);
             let changed = office.take(one);
             let lines = office.lines(Some(one), &changed);
-            let expected = format!("{at}: {}\n{}\n{lines}", one.event, words(one));
+            let expected = format!("{}: {}\n{}\n{lines}", one.place, one.event, words(one));
             assert_eq!(browser.value("probes.shown()"), expected, "{list}");
         }
     }
@@ -148,7 +177,7 @@ fn answers_have_words() {
     browser.open(&page("answers", &list));
     let tip = "probes.tip()";
     assert_eq!(browser.value(tip), "");
-    for (at, one) in happened(&list).iter().enumerate() {
+    for (at, one) in happened(&list).events.iter().enumerate() {
         let (x, y) = answer_place(&mut browser, at);
         browser.mouse(x, y, false);
         assert_eq!(browser.value(tip), words(one));
@@ -162,15 +191,15 @@ fn answers_have_words() {
 #[ignore = "needs chromium"]
 fn others_than_the_models_are_told() {
     let mut trace = happened(&parse(MADE_GHOST, None).unwrap());
-    (trace[0].answer, trace[19].ghosts) = (19, Some(3));
+    (trace.events[0].answer, trace.events[19].ghosts) = (19, Some(3));
     let file = PathBuf::from(env!("CARGO_TARGET_TMPDIR")).join("others.html");
-    std::fs::write(&file, kalebasin_rig::page::page(3, "another", &trace)).unwrap();
+    std::fs::write(&file, kalebasin_rig::page::page("another", &trace)).unwrap();
     let mut browser = browser();
     browser.open(&file);
     for (at, told) in [(0, " The model answers 0."), (1, ""), (19, " It makes 3 GHOST, in the model 2.")] {
         let (x, y) = answer_place(&mut browser, at);
         browser.mouse(x, y, false);
-        assert_eq!(browser.value("probes.tip()"), words(&trace[at]) + told);
+        assert_eq!(browser.value("probes.tip()"), words(&trace.events[at]) + told);
     }
 }
 
@@ -189,7 +218,7 @@ fn rows(trace: &[Happened], passes: impl Fn(&Happened) -> bool) -> String {
 fn filters_by_round_member_and_refusals() {
     let mut browser = browser();
     let list = parse(REFUSALS, None).unwrap();
-    let trace = happened(&list);
+    let trace = happened(&list).events;
     browser.open(&page("filters", &list));
     assert_eq!(browser.value("probes.rows()"), rows(&trace, |_| true));
     let click = |browser: &mut Browser, what: &str| browser.value(&format!("probes.click('{what}')"));
@@ -219,12 +248,41 @@ fn filters_by_round_member_and_refusals() {
     assert_eq!(click(&mut browser, "#rounds button + button"), rows(&trace, |_| false));
 }
 
+/// The filter by slot is there where events of several are shown, or of one that there isn't.
+#[test]
+#[ignore = "needs chromium"]
+fn filters_by_slot() {
+    let mut browser = browser();
+    let list = parse(SLOTS_SIDE_BY_SIDE, None).unwrap();
+    let trace = happened(&list).events;
+    let hidden = "String(document.getElementById('slots').hidden)";
+    for (name, list, options) in [
+        ("rehearsal", parse(REHEARSAL, None).unwrap(), &[][..]),
+        ("slot", list.clone(), &["--slot", "3"]),
+        ("five", parse("5:s(1,1,70)", None).unwrap(), &[]),
+    ] {
+        browser.open(&page_with(name, &list, options));
+        assert_eq!(browser.value(hidden), "true", "{name}");
+    }
+    browser.open(&page("slots", &list));
+    assert_eq!(browser.value(hidden), "false");
+    let click = |browser: &mut Browser, what: &str| browser.value(&format!("probes.click('{what}')"));
+    assert_eq!(browser.value("probes.rows()"), rows(&trace, |_| true));
+    for (box_of, slot) in [("0", Some(Slot(0))), ("3", Some(Slot(3))), ("none", None)] {
+        let box_of = format!("#slots [value=\"{box_of}\"]");
+        let passes = |one: &Happened| Some(one.slot()).filter(|slot| slot.in_range()) != slot;
+        assert_eq!(click(&mut browser, &box_of), rows(&trace, passes), "{box_of}");
+        assert_eq!(browser.value("probes.overlaps()"), "", "{box_of}");
+        assert_eq!(click(&mut browser, &box_of), rows(&trace, |_| true), "{box_of}");
+    }
+}
+
 /// No line and no word lies on a label, in the letters that the browser has; a word moved onto a line is found.
 #[test]
 #[ignore = "needs chromium"]
 fn labels_stay_off_lines() {
     let mut browser = browser();
-    let mut lists = vec![parse(REHEARSAL, None).unwrap(), parse(REFUSALS, None).unwrap()];
+    let mut lists = [REHEARSAL, REFUSALS, SLOTS_SIDE_BY_SIDE].map(|text| parse(text, None).unwrap()).to_vec();
     lists.extend([3, 5, 7, 7].into_iter().zip(1..).map(|(n, seed)| random_list(seed, n, 120)));
     for list in &lists {
         browser.open(&page("labels", list));
@@ -319,19 +377,19 @@ fn json_is_read_by_another() {
         let parts = format!("one.number, one.event.notation, one.answer, {}, {}", kind("sent"), kind("made"));
         let read =
             browser.value(&each(&format!("(line) => {{ const one = JSON.parse(line); return [{parts}].join(' '); }}")));
-        assert_eq!(read, happened(&list).iter().enumerate().map(in_short).collect::<Vec<_>>().join("\n"));
+        assert_eq!(read, happened(&list).events.iter().map(in_short).collect::<Vec<_>>().join("\n"));
     }
 }
 
 /// Number, event, answer, and the kinds of what was sent and made.
-fn in_short((at, one): (usize, &Happened)) -> String {
+fn in_short(one: &Happened) -> String {
     let sent = one.sent.map_or("-", |(_, message)| message.kind());
     let made = match one.made {
         Some(Made::Proposal(_)) => "proposal",
         Some(Made::Decision(_)) => "decision",
         None => "-",
     };
-    format!("{at} {} {} {sent} {made}", one.event, one.answer)
+    format!("{} {} {} {sent} {made}", one.place, one.event, one.answer)
 }
 
 /// Lines as texts of a script.

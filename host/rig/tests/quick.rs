@@ -19,6 +19,16 @@ fn every_three_events_after_each_part_of_the_rehearsal() {
 }
 
 #[test]
+fn every_list_of_up_to_four_events_in_slots() {
+    same("lists in slots", suite::slot_lists(PAIR));
+}
+
+#[test]
+fn every_two_events_after_each_part_of_the_rehearsal_in_another_slot() {
+    same("rehearsal tails in slots", suite::slot_tails(PAIR));
+}
+
+#[test]
 fn every_damaged_byte_of_some_lists() {
     same("damaged lists", suite::damaged_lists(PAIR));
 }

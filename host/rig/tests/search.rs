@@ -1,7 +1,7 @@
 //! The lists that a search goes through, and what it finds on how many threads; shrinking, and where bytes go wrong.
 
 use kalebasin::notation::parse;
-use kalebasin::{nodes, Event, EventList, Played, Refusal, Round, Status, STORE_ROW};
+use kalebasin::{nodes, Event, EventList, Played, Refusal, Round, Slot, Status, SLOTS, STORE_ROW, TABLE_ROW};
 use kalebasin_rig::generate::Case;
 use kalebasin_rig::search::{clean_case, few_events, Property, Run, Search, Source, ALWAYS, SOMETIMES};
 use kalebasin_rig::shape::misshape;
@@ -81,12 +81,18 @@ fn property(name: &str) -> &'static Property {
     ALWAYS.iter().chain(SOMETIMES).find(|property| property.name == name).unwrap()
 }
 
-/// Two JOINs of one member for one round that differ are told; JOINs of two members may.
+/// Two JOINs of one member for one round that differ are told; JOINs of two members may, and those of two slots.
 #[test]
 fn joins_that_differ() {
-    fn voted(list: &[u8], store: &mut [u8], table: &mut [u64], answers: &mut [u8]) -> Result<Played, Refusal> {
-        let played = (second::CALLS.play)(list, store, table, answers);
-        store[2 * STORE_ROW + 15] = 1;
+    fn voted(
+        list: &[u8],
+        store: &mut [u8],
+        words: &mut [u64],
+        lengths: &[usize; SLOTS],
+        answers: &mut [u8],
+    ) -> Result<Played, Refusal> {
+        let played = (second::CALLS.play)(list, store, words, lengths, answers);
+        store[2 * STORE_ROW + 19] = 1;
         played
     }
     let faulty = Calls { play: voted, ..second::CALLS };
@@ -94,13 +100,22 @@ fn joins_that_differ() {
     let told = "messages 1 and 2 are JOINs of one member for one round, and differ";
     assert_eq!(how(&faulty, LOST_JOIN).as_deref(), Some(told));
     assert_eq!([how(&faulty, REHEARSAL), how(&second::CALLS, LOST_JOIN)], [None, None]);
+    assert_eq!(how(&faulty, "s(1,1,70) d(0,0) 3:s(1,1,80) 3:d(1,0)"), None);
+    assert_eq!(how(&faulty, "3:s(1,1,70) 3:d(0,0) 3:d(0,0)").as_deref(), Some(told));
 }
 
 /// A sum of rounds made GHOST that isn't that of the tables before and after each add is told.
 #[test]
 fn ghosts_that_are_miscounted() {
-    fn all_ghosts(list: &[u8], store: &mut [u8], table: &mut [u64], answers: &mut [u8]) -> Result<Played, Refusal> {
-        let mut played = (second::CALLS.play)(list, store, table, answers)?;
+    fn all_ghosts(
+        list: &[u8],
+        store: &mut [u8],
+        words: &mut [u64],
+        lengths: &[usize; SLOTS],
+        answers: &mut [u8],
+    ) -> Result<Played, Refusal> {
+        let mut played = (second::CALLS.play)(list, store, words, lengths, answers)?;
+        let table = &words[..lengths[0]];
         played.ghosts = nodes(table).filter(|node| node.status == Status::Ghost).count() as u32;
         Ok(played)
     }
@@ -121,6 +136,38 @@ fn a_join_again() {
     let found = search.run(2, &mut |_| ()).unwrap();
     let events = &found.case.list.events;
     assert!(events.len() == 3 && events[1] == events[2], "{}", found.case.list);
+}
+
+/// Slots get low: they come together where that fails too, and else stay apart and keep their tables.
+#[test]
+fn shrunk_slots() {
+    let lent_in = |case: &Case, slot: Slot| case.lent.tables[slot.0 as usize];
+    let starts = || {
+        let mut case = case("5:s(1,1,10) 9:s(2,2,20) 7:s(0,3,30)");
+        case.lent.tables = [1, 2, 3, 4, 5, 6, 7, 8].map(|rows| rows * TABLE_ROW);
+        case
+    };
+    let all = |case: &Case| case.list.events.len() == 3;
+    let slots = |case: &Case| case.list.events.iter().map(Event::slot).collect::<Vec<_>>();
+    assert_eq!(slots(&shrink(starts(), &mut |case| all(case))), [0, 0, 0].map(Slot));
+    let apart = |case: &Case| all(case) && slots(case).iter().collect::<BTreeSet<_>>().len() == 3;
+    assert_eq!(slots(&shrink(starts(), &mut |case| apart(case))), [0, 2, 1].map(Slot));
+    let kept = |case: &Case| apart(case) && lent_in(case, slots(case)[2]) == 8 * TABLE_ROW;
+    assert_eq!(slots(&shrink(starts(), &mut |case| kept(case))), [0, 2, 1].map(Slot));
+    let above = |case: &Case| all(case) && !slots(case)[1].in_range();
+    assert_eq!(slots(&shrink(starts(), &mut |case| above(case))), [0, 8, 0].map(Slot));
+}
+
+/// An event that is taken out takes its message along; those of other slots keep theirs.
+#[test]
+fn shrunk_lists_of_slots() {
+    let whole = "7:s(1,1,10) s(1,1,20) 7:d(0,0) d(1,0) 3:d(1,0) 7:d(2,1)";
+    let last = |case: &Case| case.list.to_string().ends_with("d(1,1)");
+    let shrunk = shrink(case(whole), &mut |case| {
+        let run = Run::new(&second::CALLS, case).unwrap();
+        last(case) && run.answers.last() == Some(&0)
+    });
+    assert_eq!(shrunk.list.to_string(), "n=3 s(1,1,10) d(0,0) d(1,1)");
 }
 
 fn offers(list: &EventList) -> Vec<u64> {
@@ -145,8 +192,8 @@ fn shrunk_offers() {
 /// right behind the last.
 #[test]
 fn shapes_of_lists() {
-    let lists =
-        ["n=3 s(1,1,70) d(0,0) d(1,1)", "n=5", "n=7 d(0,0) s(6,6,0)"].map(|text| parse(text, None).unwrap().to_bytes());
+    let lists = ["n=3 s(1,1,70) 7:d(0,0) d(1,1)", "n=5", "n=7 d(0,0) 8:s(6,6,0)"]
+        .map(|text| parse(text, None).unwrap().to_bytes());
     let mut refused = 0;
     for list in lists {
         suite::each_damage(&list, &mut |bytes| {

@@ -1,15 +1,15 @@
-//! The second implementation's members against document 01 and Tickets 2 and 4 of document 02: soundness field by field,
-//! the quorum of each size, each row of the member table, and that a refused step changes nothing.
+//! The second implementation's members against document 01 and Tickets 2, 4 and 6 of document 02: soundness field by field,
+//! the quorum of each size, each row of the member table, messages of other slots, and that a refused step changes nothing.
 
 use kalebasin::notation::parse;
-use kalebasin::{number_of, Event, Member, Message, Refusal, Round, Vote};
+use kalebasin::{number_of, Event, Member, Message, Refusal, Round, Slot, Vote};
 use kalebasin_rig::second::member::{deliver, fresh, start, Record, COLLECTING, DECIDED, PROPOSED};
 use kalebasin_rig::second::member::{Decision, Proposal, Step};
 use kalebasin_rig::second::message::{read, write};
 use kalebasin_rig::suite::REHEARSAL;
 
 fn member(number: u32) -> Record {
-    fresh(Member(number), 3).unwrap()
+    fresh(Slot(0), Member(number), 3).unwrap()
 }
 
 /// Member 1 of 3, which has joined round 5, voted for 9 in round 3, and collects JOINs of round 4.
@@ -18,7 +18,7 @@ fn collecting() -> Record {
 }
 
 fn put(message: Message) -> Vec<u8> {
-    let mut bytes = vec![0; 28];
+    let mut bytes = vec![0; 32];
     let length = write(&message, &mut bytes).unwrap();
     bytes.truncate(length);
     bytes
@@ -27,7 +27,7 @@ fn put(message: Message) -> Vec<u8> {
 /// The answer of a delivery, with the message sent; a refusal changes neither record nor reply.
 fn give(record: &mut Record, message: Message) -> Result<Option<Message>, u32> {
     let before = *record;
-    let mut reply = [0xaa; 33];
+    let mut reply = [0xaa; 37];
     match deliver(record, &mut reply, &put(message)) {
         Ok((sent, step)) => {
             assert!(reply[sent..].iter().all(|byte| *byte == 0xaa));
@@ -37,7 +37,7 @@ fn give(record: &mut Record, message: Message) -> Result<Option<Message>, u32> {
         }
         Err(refusal) => {
             assert_eq!(*record, before);
-            assert_eq!(reply, [0xaa; 33]);
+            assert_eq!(reply, [0xaa; 37]);
             Err(refusal.number())
         }
     }
@@ -47,10 +47,12 @@ fn give(record: &mut Record, message: Message) -> Result<Option<Message>, u32> {
 fn fresh_members() {
     for n in 0..=9 {
         for number in 0..=9 {
-            let allowed = [3, 5, 7].contains(&n) && number < n;
-            let made = fresh(Member(number), n);
-            assert_eq!(number_of(&made), if allowed { 0 } else { 17 });
-            assert!(made.is_ok_and(|record| record.is_sound()) == allowed);
+            for slot in (0..=9).chain([u32::MAX]) {
+                let allowed = [3, 5, 7].contains(&n) && number < n && slot <= 7;
+                let made = fresh(Slot(slot), Member(number), n);
+                assert_eq!(number_of(&made), if allowed { 0 } else { 17 });
+                assert!(made.is_ok_and(|record| record.is_sound() && record.slot == Slot(slot)) == allowed);
+            }
         }
     }
 }
@@ -76,8 +78,11 @@ fn soundness() {
         Record { j: Round(1_000_000), l: Round(1_000_000), ..base },
         Record { j: Round(0), v: Round(0), w: 0, ..base },
         Record { j: Round(7), v: Round(7), ..member(2) },
+        Record { slot: Slot(7), ..decided },
     ];
     let unsound = [
+        Record { slot: Slot(8), ..base },
+        Record { slot: Slot(u32::MAX), ..member(0) },
         Record { n: 4, ..base },
         Record { n: 0, ..base },
         Record { number: Member(3), ..base },
@@ -112,20 +117,72 @@ fn soundness() {
 #[test]
 fn short_reply_before_message_and_round() {
     let mut record = member(1);
-    assert_eq!(start(&mut record, &mut [0; 27], Round(0), 0), Err(Refusal::ReplyTooShort));
-    assert_eq!(deliver(&mut record, &mut [0; 27], &[]), Err(Refusal::ReplyTooShort));
-    assert_eq!(deliver(&mut record, &mut [0; 28], &[]), Err(Refusal::MessageLength));
-    assert_eq!(deliver(&mut record, &mut [0; 28], &[0, 0, 0, 9]), Err(Refusal::MessageKind));
+    assert_eq!(start(&mut record, &mut [0; 31], Round(0), 0), Err(Refusal::ReplyTooShort));
+    assert_eq!(deliver(&mut record, &mut [0; 31], &[]), Err(Refusal::ReplyTooShort));
+    assert_eq!(deliver(&mut record, &mut [0; 32], &[]), Err(Refusal::MessageLength));
+    assert_eq!(deliver(&mut record, &mut [0; 32], &[0, 0, 0, 0, 0, 0, 0, 9]), Err(Refusal::MessageKind));
+}
+
+/// A member takes messages of its slot alone: any other gets 32, before its kind is looked at, its fields, its sender or its round.
+#[test]
+fn messages_of_other_slots() {
+    let bytes = |words: &[u32]| words.iter().flat_map(|word| word.to_be_bytes()).collect::<Vec<u8>>();
+    let behind: [&[u32]; 7] = [&[1, 7, 1], &[9], &[1], &[1, 0, 0], &[1, 7, 2], &[2, 4, 0, 0], &[4, 4, 0]];
+    for own in Slot::ALL {
+        let record = Record { slot: own, ..collecting() };
+        for other in (0..=8).chain([u32::MAX]).filter(|other| Slot(*other) != own) {
+            for words in behind {
+                let (mut after, mut reply) = (record, [0xaa; 32]);
+                let message = bytes(&[&[other], words].concat());
+                assert_eq!(deliver(&mut after, &mut reply, &message), Err(Refusal::WrongSlot), "{own} {message:?}");
+                assert_eq!(deliver(&mut after, &mut reply[..31], &message), Err(Refusal::ReplyTooShort));
+                assert_eq!(deliver(&mut after, &mut reply, &message[..7]), Err(Refusal::MessageLength));
+                assert_eq!((after, reply), (record, [0xaa; 32]));
+            }
+            let mut after = record;
+            let start = Message::start(Round(7), Member(1)).in_slot(Slot(other));
+            assert_eq!((after.deliver(&start), after), (Err(Refusal::WrongSlot), record));
+        }
+        let numbers = behind.map(|words| {
+            let message = bytes(&[&[own.0], words].concat());
+            number_of(&deliver(&mut record.clone(), &mut [0; 32], &message))
+        });
+        assert_eq!(numbers, [0, 15, 14, 16, 21, 0, 24], "in slot {own}");
+    }
+}
+
+/// What a member sends is of its slot, and the slot changes nothing else.
+#[test]
+fn the_same_steps_in_every_slot() {
+    for slot in Slot::ALL {
+        let (mut records, mut in_slot) = ([0, 1, 2].map(member), [0, 1, 2].map(member));
+        in_slot.iter_mut().for_each(|record| record.slot = slot);
+        let mut sent: Vec<Message> = Vec::new();
+        for event in parse(REHEARSAL, None).unwrap().events {
+            let at = event.member().0 as usize;
+            let [one, other] = match event {
+                Event::Start { round, offer, .. } => [records[at].start(round, offer), in_slot[at].start(round, offer)],
+                Event::Deliver { message, .. } => {
+                    let message = sent[message.0 as usize];
+                    [records[at].deliver(&message), in_slot[at].deliver(&message.in_slot(slot))]
+                }
+                other => panic!("the rehearsal has starts and deliveries, not {other}"),
+            };
+            let moved = one.map(|step| Step { sent: step.sent.map(|message| message.in_slot(slot)), ..step });
+            assert_eq!((moved, Record { slot, ..records[at] }), (other, in_slot[at]));
+            sent.extend(one.ok().and_then(|step| step.sent));
+        }
+    }
 }
 
 #[test]
 fn starts() {
     let mut record = collecting();
     let before = record;
-    let mut reply = [0xaa; 30];
+    let mut reply = [0xaa; 34];
     for (round, number) in [(0, 3), (1_000_001, 3), (u32::MAX, 3), (5, 19), (2, 19), (1, 20), (4, 20)] {
         assert_eq!(number_of(&start(&mut record, &mut reply, Round(round), 80)), number, "{round}");
-        assert_eq!((record, reply), (before, [0xaa; 30]));
+        assert_eq!((record, reply), (before, [0xaa; 34]));
     }
     let (sent, step) = start(&mut record, &mut reply, Round(7), 80).unwrap();
     assert_eq!(step.sent, Some(Message::start(Round(7), Member(1))));
@@ -181,8 +238,8 @@ fn repeated_start_messages() {
     let with_flags = |set: &[usize], record| Record { flags: std::array::from_fn(|at| set.contains(&at)), ..record };
     let counting = with_flags(&[2], Record { x: 66, b: Round(2), ..collecting() });
     let last = Record { j: Round(1_000_000), v: Round(999_999), w: u64::MAX, ..member(0) };
-    let of_five = fresh(Member(4), 5).unwrap();
-    let of_seven = fresh(Member(0), 7).unwrap();
+    let of_five = fresh(Slot(0), Member(4), 5).unwrap();
+    let of_seven = fresh(Slot(0), Member(0), 7).unwrap();
     // The record, the round and its leader, the vote that the JOIN tells.
     let cases = [
         (Record { j: Round(1), ..member(0) }, 1, 1, None),
@@ -217,14 +274,14 @@ fn bytes_of_a_join_sent_again() {
     let mut never = member(2);
     let mut voted = Record { j: Round(4), v: Round(4), w: 9, ..member(2) };
     let bytes_sent = |record: &mut Record, start| {
-        let mut reply = [0xaa; 28];
+        let mut reply = [0xaa; 32];
         let (sent, _) = deliver(record, &mut reply, &put(start)).unwrap();
         reply[..sent].to_vec()
     };
     let bytes = |words: &[u32]| words.iter().flat_map(|word| word.to_be_bytes()).collect::<Vec<u8>>();
     for _ in 0..2 {
-        assert_eq!(bytes_sent(&mut never, start_of(4, 1)), bytes(&[2, 4, 2, 0]));
-        assert_eq!(bytes_sent(&mut voted, start_of(6, 0)), bytes(&[2, 6, 2, 1, 4, 0, 9]));
+        assert_eq!(bytes_sent(&mut never, start_of(4, 1)), bytes(&[0, 2, 4, 2, 0]));
+        assert_eq!(bytes_sent(&mut voted, start_of(6, 0)), bytes(&[0, 2, 6, 2, 1, 4, 0, 9]));
     }
 }
 
@@ -262,7 +319,7 @@ fn join_messages() {
     assert_eq!(give(&mut record, join(4, 0, Some((3, 67)))), Err(25));
     let mut same = record;
     assert_eq!(give(&mut same, join(4, 2, Some((2, 99)))), Ok(Some(Message::propose(Round(4), Member(1), 66))));
-    let mut reply = [0; 28];
+    let mut reply = [0; 32];
     let (_, step) = deliver(&mut record, &mut reply, &put(join(4, 2, Some((3, 67))))).unwrap();
     assert_eq!(step.proposal, Some(Proposal { round: Round(4), value: 67, parent: Round(3) }));
     assert_eq!((record.phase, record.flags), (PROPOSED, [false; 7]));
@@ -294,7 +351,7 @@ fn vote_messages() {
     assert_eq!(give(&mut record, vote(7, 0)), Err(24));
     assert_eq!(give(&mut record, vote(4, 0)), Ok(None));
     assert_eq!(give(&mut record, vote(4, 0)), Err(25));
-    let mut reply = [0; 28];
+    let mut reply = [0; 32];
     let (sent, step) = deliver(&mut record, &mut reply, &put(vote(4, 2))).unwrap();
     assert_eq!((sent, step.decision), (0, Some(Decision { round: Round(4), value: 70 })));
     assert_eq!((record.phase, record.counted()), (DECIDED, 2));

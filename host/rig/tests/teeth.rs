@@ -24,7 +24,7 @@ const FAULTS: &[Fault] = &[
             return Err(Refusal::MovedPast);
         }
         if self.v == round {
-            return Ok(sends(Message::join(round, self.number, None)));
+            return Ok(self.sends(Message::join(round, self.number, None)));
         }",
     ),
     Fault("START is accepted when J > r", "member.rs", "if self.j > round || (", "if ("),
@@ -38,12 +38,12 @@ const FAULTS: &[Fault] = &[
         "a repeated START changes the record",
         "member.rs",
         "self.j = round;
-        Ok(sends(Message::join(",
+        Ok(self.sends(Message::join(",
         "if self.j == round {
             (self.v, self.w) = (Round(0), 0);
         }
         self.j = round;
-        Ok(sends(Message::join(",
+        Ok(self.sends(Message::join(",
     ),
     Fault(
         "a repeated START sends a JOIN without its vote",
@@ -55,12 +55,12 @@ const FAULTS: &[Fault] = &[
         "a repeated START sends nothing",
         "member.rs",
         "self.j = round;
-        Ok(sends(Message::join(",
+        Ok(self.sends(Message::join(",
         "if self.j == round {
             return Ok(Step::default());
         }
         self.j = round;
-        Ok(sends(Message::join(",
+        Ok(self.sends(Message::join(",
     ),
     Fault(
         "GHOST over COMMITTED",
@@ -77,7 +77,8 @@ const FAULTS: &[Fault] = &[
         "9 before 30",
         "play.rs",
         "return Err(Refusal::StoreFull);",
-        "let full = (self.played.proposals as usize + 1) * 4 == self.table.len();
+        "let of_slot = &self.slots[record.slot.0 as usize];
+         let full = of_slot.nodes * 4 == of_slot.table.len();
          return Err(if full && step.proposal.is_some() { Refusal::NoFreeRow } else { Refusal::StoreFull });",
     ),
     Fault("the table isn't cleared", "tree.rs", "    table.fill(0);\n", ""),
@@ -96,19 +97,19 @@ const FAULTS: &[Fault] = &[
         "node[ROUND] < r && node[ROUND] > p + 1 {",
     ),
     Fault(
-        "a JOIN under 16 bytes is read as one that never voted",
+        "a JOIN under 20 bytes is read as one that never voted",
         "message.rs",
-        "if bytes.len() < 16 {",
-        "if bytes.len() == 12 {
+        "if bytes.len() < 20 {",
+        "if bytes.len() == 16 {
         return Ok(Message::join(round(bytes), sender(bytes), None));
     }
-    if bytes.len() < 16 {",
+    if bytes.len() < 20 {",
     ),
     Fault(
         "presence after the rest of the length",
         "message.rs",
         "_ => return Err(Refusal::MessageField),",
-        "_ => return Err(if bytes.len() == 28 { Refusal::MessageField } else { Refusal::MessageLength }),",
+        "_ => return Err(if bytes.len() == 32 { Refusal::MessageField } else { Refusal::MessageLength }),",
     ),
     Fault("a voted round may be the JOIN's", "message.rs", "vote.round < *round", "vote.round <= *round"),
     Fault(
@@ -241,11 +242,177 @@ const FAULTS: &[Fault] = &[
     Fault(
         "play's sum lacks its last add",
         "play.rs",
-        "self.played.ghosts += (self.steps.add)(self.table, nodes, proposal)?;",
+        "self.played.ghosts += (self.steps.add)(of_slot.table, of_slot.nodes, proposal)?;",
         "static LAST: std::sync::atomic::AtomicU32 = std::sync::atomic::AtomicU32::new(0);
-            let made = (self.steps.add)(self.table, nodes, proposal)?;
+            let made = (self.steps.add)(of_slot.table, of_slot.nodes, proposal)?;
             let last = LAST.swap(made, std::sync::atomic::Ordering::Relaxed);
-            self.played.ghosts += if nodes > 1 { last } else { 0 };",
+            self.played.ghosts += if self.played.proposals > 0 { last } else { 0 };",
+    ),
+    Fault("slot 8 is read", "message.rs", "read_if(bytes, Slot::in_range)", "read_if(bytes, |slot| slot.0 <= 8)"),
+    Fault("slot 7 isn't read", "message.rs", "read_if(bytes, Slot::in_range)", "read_if(bytes, |slot| slot.0 < 7)"),
+    Fault("slot 8 is written", "message.rs", "if !message.slot().in_range() {", "if message.slot().0 > 8 {"),
+    Fault(
+        "the last byte of a message's slot alone is read",
+        "message.rs",
+        "let slot = Slot(word(bytes, 0));",
+        "let slot = Slot(word(bytes, 0) & 0xff);",
+    ),
+    Fault(
+        "16 before 32 by the writer",
+        "message.rs",
+        "if !message.slot().in_range() {",
+        "if buffer.len() >= Message::LONGEST {
+        check_fields(message)?;
+    }
+    if !message.slot().in_range() {",
+    ),
+    Fault(
+        "18 before 32 by the writer",
+        "message.rs",
+        "if !message.slot().in_range() {",
+        "if buffer.len() < Message::LONGEST {
+        return Err(Refusal::ReplyTooShort);
+    }
+    if !message.slot().in_range() {",
+    ),
+    Fault(
+        "32 after the kind",
+        "message.rs",
+        "if !may_take(slot) {",
+        "if !may_take(slot) && (1..=4).contains(&word(bytes, 4)) {",
+    ),
+    Fault(
+        "a message under 8 bytes gets 32",
+        "message.rs",
+        "if bytes.len() < 8 {",
+        "if bytes.len() >= 4 && bytes.len() < 8 && !may_take(Slot(word(bytes, 0))) {
+        return Err(Refusal::WrongSlot);
+    }
+    if bytes.len() < 8 {",
+    ),
+    Fault(
+        "a message of another slot is counted",
+        "member.rs",
+        "message::read_of(record.slot, bytes)?;",
+        "message::read(bytes)?.in_slot(record.slot);",
+    ),
+    Fault("a member answers in slot 0", "member.rs", "Some(message.in_slot(self.slot))", "Some(message)"),
+    Fault("a reply of 28 bytes is enough", "member.rs", "if reply.len() < Message::LONGEST {", "if reply.len() < 28 {"),
+    Fault("a record of slot 8 is sound", "member.rs", "self.slot.in_range()\n", "self.slot.0 <= 8\n"),
+    Fault("a fresh record of slot 8", "member.rs", "if !slot.in_range() ||", "if slot.0 > 8 ||"),
+    Fault(
+        "a fresh record is of slot 0",
+        "member.rs",
+        "        slot,\n        number,",
+        "        slot: Slot(0),\n        number,",
+    ),
+    Fault(
+        "an event of slot 8 is one of slot 0",
+        "play.rs",
+        "let slot = Slot(word(event, 4));",
+        "let slot = Slot(word(event, 4) % 8);",
+    ),
+    Fault(
+        "the last byte of an event's slot alone is read",
+        "play.rs",
+        "let slot = Slot(word(event, 4));",
+        "let slot = Slot(word(event, 4) & 0xff);",
+    ),
+    Fault(
+        "29 before 32",
+        "play.rs",
+        "let of_slot = self.slots.get(slot.0 as usize).ok_or(Refusal::WrongSlot)?;",
+        "if number >= self.n {
+            return Err(Refusal::NoMemberOrMessage);
+        }
+        let of_slot = self.slots.get(slot.0 as usize).ok_or(Refusal::WrongSlot)?;",
+    ),
+    Fault(
+        "a message of another slot is none",
+        "play.rs",
+        "let (sent, step) = member::deliver(&mut record, &mut reply, message)?;",
+        "if word(message, 0) != slot.0 {
+                    return Err(Refusal::NoMemberOrMessage);
+                }
+                let (sent, step) = member::deliver(&mut record, &mut reply, message)?;",
+    ),
+    Fault(
+        "a message of another slot before 29",
+        "play.rs",
+        "let mut record = self.member(slot, word(event, 12))?;
+                let message = self.message(word(event, 8))?;",
+        "let message = self.message(word(event, 8)).and_then(|bytes| super::message::read_of(slot, bytes));
+                if message == Err(Refusal::WrongSlot) {
+                    return Err(Refusal::WrongSlot);
+                }
+                let mut record = self.member(slot, word(event, 12))?;
+                let message = self.message(word(event, 8))?;",
+    ),
+    Fault(
+        "a proposal is entered in slot 0's table",
+        "play.rs",
+        "let of_slot = &mut self.slots[record.slot.0 as usize];
+        if let Some(proposal) = step.proposal {
+            self.played.ghosts += (self.steps.add)(of_slot.table, of_slot.nodes, proposal)?;
+            self.played.proposals += 1;
+            of_slot.nodes += 1;
+        }",
+        "if let Some(proposal) = step.proposal {
+            let other = &mut self.slots[0];
+            self.played.ghosts += (self.steps.add)(other.table, other.nodes, proposal)?;
+            self.played.proposals += 1;
+            other.nodes += 1;
+        }
+        let of_slot = &mut self.slots[record.slot.0 as usize];",
+    ),
+    Fault(
+        "a decision is entered in slot 0's table",
+        "play.rs",
+        "(self.steps.commit)(of_slot.table, decision.round.0.into())?;
+            self.played.decisions += 1;
+        }
+        of_slot.members",
+        "let other = &mut self.slots[0];
+            (self.steps.commit)(other.table, decision.round.0.into())?;
+            self.played.decisions += 1;
+        }
+        self.slots[record.slot.0 as usize].members",
+    ),
+    Fault(
+        "one slot's full table refuses another's proposal",
+        "play.rs",
+        "if let Some(proposal) = step.proposal {",
+        "if let Some(proposal) = step.proposal {
+            if (self.played.proposals as usize + 1) * 4 >= of_slot.table.len() {
+                return Err(Refusal::NoFreeRow);
+            }",
+    ),
+    Fault(
+        "all tables are as long as the first",
+        "play.rs",
+        "split_at_mut_checked(*length)",
+        "split_at_mut_checked(lengths[0])",
+    ),
+    Fault("the tables stand from the last slot on", "play.rs", "tables.next().expect(", "tables.next_back().expect("),
+    Fault(
+        "a row of the store has 28 bytes",
+        "play.rs",
+        "SLOTS, STORE_ROW, STORE_ROWS};",
+        "SLOTS, STORE_ROWS};
+const STORE_ROW: usize = 28;",
+    ),
+    Fault("words left over are taken", "play.rs", "if words.is_empty() {", "if words.len() < 4 {"),
+    Fault(
+        "a table is made fresh before the next is checked",
+        "play.rs",
+        "tables.iter().try_for_each(|table| tree::check_length(table))?;\n",
+        "",
+    ),
+    Fault(
+        "the last table isn't made fresh",
+        "play.rs",
+        "tables.iter_mut().try_for_each(",
+        "tables[..SLOTS - 1].iter_mut().try_for_each(",
     ),
 ];
 
@@ -257,9 +424,9 @@ fn main() {
     let calls = kalebasin_rig::Calls { name: "the faulty copy", ..FAULTY[number] };
     let pair = [&calls, &kalebasin_rig::second::CALLS];
     let compared = suite::random_lists(pair, 1, 5_000, &mut |_| ())
-        .and_then(|_| suite::random_trees(pair, 1, 2_000))
         .and_then(|_| suite::random_members(pair, 1, 2_000))
         .and_then(|_| suite::written_messages(pair))
+        .and_then(|_| suite::random_trees(pair, 1, 2_000))
         .and_then(|_| suite::messages(pair))
         .and_then(|_| suite::small_tables(pair));
     if let Err(report) = compared {

@@ -4,12 +4,14 @@ mod runs;
 mod svg;
 
 use kalebasin::notation::parse;
-use kalebasin::{Event, EventList, Member, Message, MessageNumber, Round};
+use kalebasin::{Event, EventList, Member, Message, MessageNumber, Round, Slot};
+use kalebasin_rig::generate::{self, Slots};
+use kalebasin_rig::random::Random;
 use kalebasin_rig::second::model::Made;
 use kalebasin_rig::suite::{LOST_JOIN, REHEARSAL};
 use kalebasin_rig::timeline::{timeline, Colours};
-use kalebasin_rig::trace::Happened;
-use runs::{happened, random_list, REFUSALS};
+use kalebasin_rig::trace::{Happened, Trace};
+use runs::{happened, random_list, REFUSALS, SLOTS_SIDE_BY_SIDE, STORE_ROWS, TABLE_ROWS};
 use std::collections::{HashMap, HashSet};
 use std::process::Command;
 use std::sync::LazyLock;
@@ -28,16 +30,14 @@ struct Drawn {
 }
 
 impl Drawn {
-    fn new(list: &EventList) -> Drawn {
-        let trace = happened(list);
-        let sent = trace.iter().enumerate().filter_map(|(at, one)| one.sent.map(|(number, _)| (number, at)));
+    fn new(trace: Trace) -> Drawn {
+        let sent = trace.events.iter().enumerate().filter_map(|(at, one)| one.sent.map(|(number, _)| (number, at)));
         let sent_at = sent.collect();
-        let (trunks, rest): (Vec<_>, Vec<_>) =
-            elements(&timeline(list.n, &trace)).into_iter().partition(|one| one.is("trunk"));
+        let (trunks, rest): (Vec<_>, Vec<_>) = elements(&timeline(&trace)).into_iter().partition(|one| one.is("trunk"));
         let (in_rows, others): (Vec<_>, Vec<_>) = rest.into_iter().partition(|one| one.row.is_some());
-        let mut rows = vec![Vec::new(); trace.len()];
+        let mut rows = vec![Vec::new(); trace.events.len()];
         in_rows.into_iter().for_each(|one| rows[one.row.unwrap()].push(one));
-        Drawn { trace, rows, others, trunks, sent_at }
+        Drawn { trace: trace.events, rows, others, trunks, sent_at }
     }
 
     /// The elements of a row that have this class.
@@ -56,9 +56,12 @@ impl Drawn {
         group.strip_prefix("translate(0,").and_then(|rest| rest.strip_suffix(')')).unwrap().parse().unwrap()
     }
 
-    /// The lifeline of a member, by its name in the head.
-    fn lifeline(&self, member: Member) -> i32 {
-        let name = format!("member {member}");
+    /// The lifeline of a slot's member, by its name in the head.
+    fn lifeline(&self, slot: Slot, member: Member) -> i32 {
+        let name = match slot {
+            Slot(0) => format!("member {member}"),
+            other => format!("slot {other}, member {member}"),
+        };
         self.others.iter().find(|one| one.text == name).unwrap().number("x")
     }
 
@@ -67,13 +70,15 @@ impl Drawn {
         self.trunks.iter().find(|one| one.get("data-to") == at.to_string()).unwrap()
     }
 
-    /// The deliveries of messages that were sent: the event, the message and whether its member got it before.
+    /// The deliveries of messages that events of the picture sent: the event, the message and whether its member got it before.
     fn deliveries(&self) -> Vec<(usize, MessageNumber, Message, bool)> {
         let mut got = HashSet::new();
         let mut deliveries = Vec::new();
         for (at, one) in self.trace.iter().enumerate() {
-            if let (Event::Deliver { message, member, .. }, Some(sent)) = (one.event, one.delivered) {
-                deliveries.push((at, message, sent, !got.insert((message, member))));
+            if let (Event::Deliver { slot, message, member, .. }, Some(sent)) = (one.event, one.delivered) {
+                if self.sent_at.contains_key(&message) {
+                    deliveries.push((at, message, sent, !got.insert((message, slot, member))));
+                }
             }
         }
         deliveries
@@ -83,12 +88,24 @@ impl Drawn {
 /// Drawn once, for all tests.
 static DRAWN: LazyLock<Vec<Drawn>> = LazyLock::new(all_drawn);
 
-/// The rehearsal, a lost JOIN, many refusals, no events at all, and random lists.
+/// The rehearsal, a lost JOIN, many refusals, no events at all, and random lists; two slots, each of them alone and one without
+/// events alone, and random lists of three slots and more.
 fn all_drawn() -> Vec<Drawn> {
-    let texts = ["n=3", REHEARSAL, LOST_JOIN, REFUSALS];
+    let texts = ["n=3", REHEARSAL, LOST_JOIN, REFUSALS, SLOTS_SIDE_BY_SIDE];
     let mut lists: Vec<EventList> = texts.map(|text| parse(text, None).unwrap()).to_vec();
     lists.extend((0..60).map(|seed| random_list(seed, [3, 5, 7][seed as usize % 3], 20 + 5 * seed as usize)));
-    lists.iter().map(Drawn::new).collect()
+    lists.extend((0..10).map(|seed| list_of_slots(seed, 50 + 20 * seed as usize)));
+    let mut traces: Vec<Trace> = lists.iter().map(happened).collect();
+    let side_by_side = happened(&parse(SLOTS_SIDE_BY_SIDE, None).unwrap());
+    traces.extend([0, 3, 5].map(|slot| side_by_side.clone().alone(Slot(slot))));
+    traces.push(happened(&list_of_slots(20, 200)).alone(Slot(2)));
+    traces.into_iter().map(Drawn::new).collect()
+}
+
+/// A random list of slots 0, 2 and 7, with events of any other now and then.
+fn list_of_slots(seed: u64, events: usize) -> EventList {
+    let slots = Slots { used: [0, 2, 7].map(Slot).to_vec(), stray: 10 };
+    generate::list_in(&slots, &mut Random::new(seed), 3, events, STORE_ROWS, TABLE_ROWS).unwrap()
 }
 
 /// The numbers in a path, without its letters.
@@ -102,7 +119,7 @@ fn each_row_has_number_notation_and_answer() {
     for drawn in DRAWN.iter() {
         for (at, one) in drawn.trace.iter().enumerate() {
             let texts = drawn.texts(at);
-            assert_eq!(texts[..3], [at.to_string(), one.event.to_string(), one.answer.to_string()]);
+            assert_eq!(texts[..3], [one.place.to_string(), one.event.to_string(), one.answer.to_string()]);
             let title = drawn.rows[at].iter().find(|element| element.name == "title");
             assert_eq!(title.unwrap().text, format!("{}: {}", one.answer, one.explained.words));
         }
@@ -127,13 +144,17 @@ fn an_arrow_for_each_delivery() {
             let (left, came) = (numbers(leave), numbers(arrive));
             assert_eq!([left[left.len() - 2], drawn.line(from) + left[left.len() - 1]], [lane, trunk.number("y1")]);
             assert_eq!([came[0], drawn.line(*at) + came[1]], [lane, trunk.number("y2")]);
-            assert!((left[0] - drawn.lifeline(message.sender())).abs() < 5);
+            assert!((left[0] - drawn.lifeline(message.slot(), message.sender())).abs() < 5);
             let refused = drawn.trace[*at].answer != 0;
             for part in [trunk, arrive] {
                 assert_eq!((part.is("refused"), part.is("again")), (refused, *again));
             }
             assert_eq!(drawn.in_row(*at, "tip").len(), usize::from(!refused));
-            let words = format!("{number} {} r{}", message.kind(), message.round());
+            let other = match drawn.trace[*at].slot() == message.slot() {
+                true => String::new(),
+                false => format!(" of slot {}", message.slot()),
+            };
+            let words = format!("{number} {} r{}{other}", message.kind(), message.round());
             assert_eq!(drawn.in_row(*at, "label")[0].text, words);
         }
         let arrive: usize = (0..drawn.rows.len()).map(|at| drawn.in_row(at, "arrive").len()).sum();
@@ -147,12 +168,13 @@ fn arrows_end_at_their_members() {
     let mut loops = 0;
     for drawn in DRAWN.iter() {
         for (at, _, message, _) in drawn.deliveries() {
-            let Some(member) = drawn.trace[at].member() else { continue };
-            let (ends, x) = (numbers(drawn.in_row(at, "arrive")[0]), drawn.lifeline(member));
+            let (slot, Some(member)) = (drawn.trace[at].slot(), drawn.trace[at].member()) else { continue };
+            let (ends, x) = (numbers(drawn.in_row(at, "arrive")[0]), drawn.lifeline(slot, member));
             let beside = ends[ends.len() - 1] - x;
-            let from_left = message.sender() < member;
+            let from = (message.slot(), message.sender());
+            let from_left = from < (slot, member);
             assert!(if from_left { (-16..-4).contains(&beside) } else { (5..17).contains(&beside) }, "{beside}");
-            loops += usize::from(message.sender() == member);
+            loops += usize::from(from == (slot, member));
         }
     }
     assert!(loops > 100);
@@ -248,15 +270,16 @@ fn messages_never_delivered_are_stubs() {
 fn proposals_and_decisions_have_badges() {
     let (mut late_ones, mut ghosts) = (0, 0);
     for drawn in DRAWN.iter() {
-        let mut highest = Round::ROOT;
+        let mut highest: HashMap<Slot, Round> = HashMap::new();
         for (at, one) in drawn.trace.iter().enumerate() {
+            let highest = highest.entry(one.slot()).or_insert(Round::ROOT);
             let (badge, late) = match one.made {
                 Some(Made::Proposal(made)) => {
-                    highest = highest.max(made.round);
+                    *highest = made.round.max(*highest);
                     (Some(format!("add({},{},{})", made.round, made.value, made.parent)), false)
                 }
                 Some(Made::Decision(made)) => {
-                    (Some(format!("commit({}) = {}", made.round, made.value)), made.round < highest)
+                    (Some(format!("commit({}) = {}", made.round, made.value)), made.round < *highest)
                 }
                 None => (None, false),
             };
@@ -297,22 +320,50 @@ fn a_colour_for_each_round() {
 fn other_answers_than_the_models() {
     let list = parse(REHEARSAL, None).unwrap();
     let mut trace = happened(&list);
-    (trace[4].answer, trace[5].answer) = (0, 24);
-    let elements = elements(&timeline(3, &trace));
+    (trace.events[4].answer, trace.events[5].answer) = (0, 24);
+    let elements = elements(&timeline(&trace));
     let answer = |at| elements.iter().find(|one| one.row == Some(at) && one.is("answer")).unwrap().text.as_str();
     assert_eq!([answer(3), answer(4), answer(5)], ["0", "0, model 25", "24, model 0"]);
+}
+
+/// The lifelines are those of the slots that events are of, or of one slot alone; behind them is a place for what isn't there.
+#[test]
+fn lifelines_of_slots() {
+    let names = |trace: &Trace| -> Vec<String> {
+        let elements = elements(&timeline(trace));
+        assert_eq!(elements.iter().filter(|one| one.is("life")).count(), 3 * trace.slots().len());
+        elements.iter().filter(|one| one.is("strong") && one.is("middle")).map(|one| one.text.clone()).collect()
+    };
+    let of = |slot: &str| (0..3).map(|member| format!("{slot}member {member}")).collect::<Vec<_>>();
+    let trace = happened(&parse(SLOTS_SIDE_BY_SIDE, None).unwrap());
+    assert_eq!(names(&trace), [of(""), of("slot 3, "), vec!["no such slot or member".into()]].concat());
+    let alone = |slot| trace.clone().alone(Slot(slot));
+    assert_eq!(names(&alone(0)), of(""));
+    assert_eq!(names(&alone(3)), [of("slot 3, "), vec!["no such member".into()]].concat());
+    assert_eq!(names(&alone(5)), of("slot 5, "));
+    let above = happened(&parse("s(1,1,70) 8:s(1,1,70)", None).unwrap());
+    assert_eq!(names(&above), [of(""), vec!["no such slot".into()]].concat());
+    assert_eq!(names(&happened(&parse("8:s(1,1,70)", None).unwrap())), names(&above));
+    assert_eq!(alone(3).events.iter().map(|one| one.place).collect::<Vec<_>>()[..3], [1, 3, 5]);
 }
 
 /// On each implementation, the core first where it is there.
 #[test]
 fn the_tool_draws_it() {
-    for text in [REHEARSAL, LOST_JOIN, REFUSALS] {
-        let list = parse(text, None).unwrap();
-        let expected = timeline(list.n, &happened(&list));
-        for on in [&[][..], &["--second"]] {
-            let mut command = Command::new(env!("CARGO_BIN_EXE_kalebasin"));
-            let output = command.args(["draw", "--format", "timeline", "-e", text]).args(on).output().unwrap();
-            assert!(output.status.success() && output.stdout == expected.as_bytes());
+    for text in [REHEARSAL, LOST_JOIN, REFUSALS, SLOTS_SIDE_BY_SIDE] {
+        let trace = happened(&parse(text, None).unwrap());
+        let slots: [(&[&str], Trace); 3] = [
+            (&[], trace.clone()),
+            (&["--slot", "0"], trace.clone().alone(Slot(0))),
+            (&["--slot=3"], trace.clone().alone(Slot(3))),
+        ];
+        for (slot, trace) in slots {
+            for on in [&[][..], &["--second"]] {
+                let mut command = Command::new(env!("CARGO_BIN_EXE_kalebasin"));
+                let args = [&["draw", "--format", "timeline", "-e", text], slot, on].concat();
+                let output = command.args(args).output().unwrap();
+                assert!(output.status.success() && output.stdout == timeline(&trace).as_bytes());
+            }
         }
     }
 }

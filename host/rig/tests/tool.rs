@@ -5,7 +5,7 @@
 mod svg;
 
 use kalebasin::notation::{parse, parse_tree};
-use kalebasin::{nodes, Event, EventList, Node, Played, Refusal, Round, Status, TreeKind, TABLE_ROW};
+use kalebasin::{nodes, Event, EventList, Node, Played, Refusal, Round, Slot, Status, TreeKind, SLOTS, TABLE_ROW};
 use kalebasin_rig::compare::{play, Lent};
 use kalebasin_rig::explain::ghosts_otherwise;
 use kalebasin_rig::explain_tree::explain;
@@ -60,7 +60,7 @@ const COMMANDS: &[&[&str]] = &[
     &["encode", "-e", REHEARSAL],
     &["decode", "--hex", "-"],
     &["rehearse", "--hex", "-"],
-    &["message", "000000040000000900000002"],
+    &["message", "00000000000000040000000900000002"],
     &["tree", "-e", "add(1,70,0)"],
     &["search", "--lists", "3"],
     #[cfg(feature = "core")]
@@ -73,7 +73,10 @@ fn mistakes_have_line_and_column() {
     let cases = [
         ("n 3", 1, 3, "= is missing after n"),
         ("n=", 1, 3, "a number of members is missing here"),
-        ("n=3 x(1)", 1, 5, "an event starts with s( or d(, not with 'x'"),
+        ("n=3 x(1)", 1, 5, "an event starts with s( or d(, or with its slot as in 3:d(, not with 'x'"),
+        ("n=3 3 d(0,0)", 1, 7, ": is missing after the slot number"),
+        ("n=3\n3:x(1)", 2, 3, "s( or d( is missing after 3:"),
+        ("4294967296:d(0,0)", 1, 1, "the slot number 4294967296 doesn't fit into 32 bits"),
         ("n=3 s(1,1,70) n=3", 1, 15, "n= stands once, in front of the events"),
         ("n=3\n\n  s[1,1,70)", 3, 4, "( is missing after s"),
         ("n=3 s(1,1,70", 1, 13, ") is missing after the offer"),
@@ -173,14 +176,19 @@ fn notation_and_bytes_and_back() {
     assert_eq!(list.to_string(), REHEARSAL);
     assert_eq!(EventList::from_bytes(&list.to_bytes()), Ok(list.clone()));
     assert_eq!(EventList::from_bytes(&list.to_bytes()[1..]), Err(Refusal::ListShape));
-    let largest = "n=4294967295 s(4294967295,4294967295,18446744073709551615) d(4294967295,4294967295)";
+    let largest =
+        "n=4294967295 4294967295:s(4294967295,4294967295,18446744073709551615) 4294967295:d(4294967295,4294967295)";
     assert_eq!(parse(largest, None).unwrap().to_string(), largest);
-    let (status, hex, _) = tool(&["encode", "--hex", "-e", "s(1,1,70) d(0,0)"], b"");
-    assert_eq!(
-        (status, hex.trim()),
-        (0, "00000003000000020000000100000001000000010000000000000046000000020000000000000000")
-    );
-    assert_eq!(tool(&["decode", "--hex"], hex.as_bytes()).1, "n=3 s(1,1,70) d(0,0)\n");
+    for (text, start, delivery) in
+        [("s(1,1,70) d(0,0)", "00000000", "00000000"), ("7:s(1,1,70) 8:d(0,0)", "00000007", "00000008")]
+    {
+        let (status, hex, _) = tool(&["encode", "--hex", "-e", text], b"");
+        let start = format!("00000001{start}00000001000000010000000000000046");
+        let delivery = format!("00000002{delivery}0000000000000000");
+        assert_eq!((status, hex.trim()), (0, format!("0000000300000002{start}{delivery}").as_str()));
+        assert_eq!(tool(&["decode", "--hex"], hex.as_bytes()).1, format!("n=3 {text}\n"));
+    }
+    assert_eq!(tool(&["encode", "-e", "0:d(0,0)"], b""), tool(&["encode", "-e", "d(0,0)"], b""));
 }
 
 /// Where nothing says how many, an office has three members.
@@ -200,9 +208,10 @@ fn members_of_a_list() {
 #[test]
 fn rehearsal_from_standard_input() {
     let bytes = parse(REHEARSAL, None).unwrap().to_bytes();
-    let expected = "0 0 0 0 25 0 0 0 0 0 0 0 0 0 0\n0 0 0 3\n1 0 70 3\n2 1 70 1\n";
+    let nodes = "0 0 0 0 25 0 0 0 0 0 0 0 0 0 0\n0 0 0 3\n1 0 70 3\n2 1 70 1\n";
+    let expected = nodes.to_string() + &"0 0 0 3\n".repeat(7);
     for on in IMPLEMENTATIONS {
-        assert_eq!(tool_on(on, &["rehearse"], &bytes), (0, expected.into(), String::new()));
+        assert_eq!(tool_on(on, &["rehearse"], &bytes), (0, expected.clone(), String::new()));
     }
 }
 
@@ -281,14 +290,17 @@ fn shown_in_the_notes(heading: &str) -> (&'static str, String) {
     (text, shown.lines().map(|line| format!("{}\n", line.strip_prefix("    ").unwrap_or(line))).collect())
 }
 
-/// The list with a lost JOIN, the tree calls and the preview that docs/host-notes.md shows, to the letter.
+/// The list with a lost JOIN, the one of two slots, the tree calls and the preview that docs/host-notes.md shows, to the letter.
 #[test]
 fn the_notes_in_words() {
     let (list, _) = shown_in_the_notes("A run in words");
     assert_eq!(parse(list, None).unwrap().to_string(), LOST_JOIN);
-    for (command, heading) in
-        [("run", "A run in words"), ("tree", "Tree calls in words"), ("tree", "A preview in words")]
-    {
+    for (command, heading) in [
+        ("run", "A run in words"),
+        ("run", "Slots in words"),
+        ("tree", "Tree calls in words"),
+        ("tree", "A preview in words"),
+    ] {
         let (text, shown) = shown_in_the_notes(heading);
         for on in IMPLEMENTATIONS {
             let shown = shown.replace("the proved core", on.1);
@@ -340,6 +352,120 @@ fn starts_that_come_again_in_words() {
             assert!(lines[at].ends_with(line), "{line}\n{out}");
         }
         assert_eq!(status, 0);
+    }
+}
+
+/// Two slots, one of them decided, with a message of the other and a slot that isn't there.
+const TWO_SLOTS: &str =
+    "s(1,1,70) 3:s(1,1,80) d(0,0) 3:d(1,0) 3:d(1,1) 3:d(2,1) 3:d(3,1) 3:d(4,1) 8:d(0,0) 3:d(5,0) 3:d(5,1) \
+                         3:d(6,1) 3:d(7,1) s(1,1,70)";
+
+/// The slot is named where it isn't 0; a slot alone has its own events, with their places, and its own tree.
+#[test]
+fn slots_in_words() {
+    for on in IMPLEMENTATIONS {
+        let (status, out, _) = tool_on(on, &["run", "-e", TWO_SLOTS], b"");
+        assert_eq!(status, 0);
+        let lines: Vec<&str> = out.lines().collect();
+        assert_eq!(lines[0], format!("3 members, 1000 store rows, 64 table rows in each slot, on {}", on.1));
+        for (at, line) in [
+            (0, "   0  s(1,1,70)     0  member 1 starts round 1 with the offer 70 and sends START (message 0)"),
+            (1, "   1  3:s(1,1,80)   0  slot 3: member 1 starts round 1 with the offer 80 and sends START (message 1)"),
+            (
+                5,
+                "   5  3:d(2,1)     32  slot 3: member 1 doesn't take message 2, JOIN of round 1 from member 0, which \
+                 never voted: the message is of slot 0",
+            ),
+            (
+                8,
+                "   8  8:d(0,0)     32  slot 8: member 0 doesn't take message 0, START of round 1 from member 1: the \
+                 office has slots 0 to 7",
+            ),
+            (13, "  13  s(1,1,70)    20  member 1 can't start round 1: it led round 1 already"),
+            (15, "11 of 14 events accepted, 8 messages, 1 proposal, 1 decision, 0 rounds made GHOST"),
+        ] {
+            assert_eq!(lines[2 + at], line);
+        }
+        let tree = "slot 3\nroot\n└─ round 1, value 80, COMMITTED\n";
+        assert!(out.ends_with(&format!(" made GHOST\n\nslot 0\nroot\n\n{tree}")), "{out}");
+        for (slot, places, tree) in [
+            ("0", &[0, 2, 13][..], "root\n"),
+            ("3", &[1, 3, 4, 5, 6, 7, 9, 10, 11, 12], tree),
+            ("5", &[], "slot 5\nroot\n"),
+        ] {
+            let (status, alone, _) = tool_on(on, &["run", "--slot", slot, "-e", TWO_SLOTS], b"");
+            let own: Vec<String> = places.iter().map(|at| without_blanks(lines[2 + at])).collect();
+            let shown = alone.lines().skip(2).take_while(|line| !line.is_empty()).map(without_blanks);
+            assert_eq!((status, shown.collect::<Vec<_>>()), (0, own));
+            assert!(alone.starts_with(&format!("{}, slot {slot} alone\n\n", lines[0])), "{alone}");
+            assert!(alone.ends_with(&format!(" made GHOST, in all slots\n\n{tree}")), "{alone}");
+        }
+        let (_, one, _) = tool_on(on, &["run", "-e", "5:s(1,1,70)"], b"");
+        assert!(one.starts_with("3 members, 1000 store rows, 64 table rows, on "), "{one}");
+        assert!(one.ends_with("\n\nslot 5\nroot\n"), "{one}");
+        let (_, full, _) = tool_on(on, &["run", "--table-rows", "1", "-e", TWO_SLOTS], b"");
+        assert!(full.contains("  9  slot 3: ") && full.contains("and the 0 proposals fill the table"), "{full}");
+    }
+}
+
+/// The words of a text, one blank between them: how wide a column is hangs on what else is shown.
+fn without_blanks(text: &str) -> String {
+    text.split_whitespace().collect::<Vec<_>>().join(" ")
+}
+
+/// The trees of several slots in one picture, and that of one slot alone.
+#[test]
+fn drawings_of_slots() {
+    let dot = "\
+digraph tree {
+  rankdir = BT;
+  node [shape = box, style = filled];
+  newrank = true;
+  { rank = same; slot0_0; slot3_0; }
+  subgraph cluster_slot0_ {
+    label = \"slot 0\";
+    labelloc = b;
+    slot0_0 [label = \"root\", fillcolor = \"#a8d8a8\"];
+  }
+  subgraph cluster_slot3_ {
+    label = \"slot 3\";
+    labelloc = b;
+    slot3_0 [label = \"root\", fillcolor = \"#a8d8a8\"];
+    slot3_1 [label = \"round 1\\nvalue 80\\nCOMMITTED\", fillcolor = \"#a8d8a8\"];
+    slot3_1 -> slot3_0;
+  }
+}
+";
+    let (root, grown) = ([0, 0, 0, 3], [0, 0, 0, 3, 1, 0, 80, 3]);
+    for on in IMPLEMENTATIONS {
+        let drawn = |format: &str, more: &[&str]| {
+            let (status, out, error) =
+                tool_on(on, &[&["draw", "--format", format, "-e", TWO_SLOTS], more].concat(), b"");
+            assert_eq!((status, error.as_str()), (0, ""));
+            out
+        };
+        assert_eq!(drawn("text", &[]), "slot 0\nroot\n\nslot 3\nroot\n└─ round 1, value 80, COMMITTED\n");
+        assert_eq!(drawn("dot", &[]), dot);
+        let elements = elements(&drawn("svg", &[]));
+        let headings: Vec<&str> =
+            elements.iter().filter(|one| one.get("font-weight") == "bold").map(|one| one.text.as_str()).collect();
+        assert_eq!(headings, ["slot 0", "slot 3"]);
+        let trees: [(&str, &draw::Trees); 2] = [("0", &[(Slot(0), &root)]), ("3", &[(Slot(3), &grown)])];
+        for (slot, tree) in trees {
+            assert_eq!(drawn("text", &["--slot", slot]), draw::text_of(tree));
+            assert_eq!(drawn("dot", &["--slot", slot]), draw::dot_of(tree));
+            assert_eq!(drawn("svg", &["--slot", slot]), draw::svg_of(tree));
+        }
+        assert_eq!(drawn("dot", &["--slot", "0"]), draw::dot(&root));
+        assert_eq!(drawn("svg", &["--slot", "0"]), draw::svg(&root));
+        let folder = env!("CARGO_TARGET_TMPDIR");
+        let [dot, svg] = ["dot", "svg"].map(|kind| format!("{folder}/slots.{kind}"));
+        for more in [&[][..], &["--slot=3"]] {
+            tool_on(on, &[&["run", "--dot", &dot, "--svg", &svg, "-e", TWO_SLOTS], more].concat(), b"");
+            for (file, format) in [(&dot, "dot"), (&svg, "svg")] {
+                assert_eq!(std::fs::read_to_string(file).unwrap(), drawn(format, more));
+            }
+        }
     }
 }
 
@@ -489,10 +615,10 @@ fn rounds_made_ghost_in_words() {
     let mut random = Random::new(3);
     let mut several = 0;
     for _ in 0..500 {
-        let list = generate::list(&mut random, 3, 120, 120, 64).unwrap();
+        let list = generate::list(&mut random, 3, 120, 120, [64; SLOTS]).unwrap();
         let left = play(&second::CALLS, &list.to_bytes(), &Lent::rows(120, 64, 120));
-        let trace = trace(&second::CALLS, &list, left.answers(), 120, 64).unwrap();
-        for one in &trace {
+        let trace = trace(&second::CALLS, &list, left.answers(), 120, [64; SLOTS]).unwrap();
+        for one in &trace.events {
             let struck = one.nodes.iter().filter(|node| node.status == Status::Ghost).map(|node| node.round);
             let mut rounds: Vec<u32> = match one.made {
                 Some(Made::Proposal(made)) => {
@@ -515,12 +641,14 @@ fn rounds_made_ghost_in_words() {
             assert_eq!(one.ghosts.unwrap_or(0) as usize, rounds.len(), "{list}");
             several += usize::from(rounds.len() > 1);
         }
-        let sum: u32 = trace.iter().filter_map(|one| one.ghosts).sum();
+        let sum: u32 = trace.events.iter().filter_map(|one| one.ghosts).sum();
         assert_eq!(left.result.map(|played| played.ghosts), Ok(sum), "{list}");
-        let nodes: Vec<Node> = nodes(left.table()).collect();
-        let from_the_first = |at: usize| nodes[..at].iter().any(|above| above.round > nodes[at].round);
-        let ghosts = (0..nodes.len()).filter(|at| nodes[*at].status == Status::Ghost && !from_the_first(*at));
-        assert_eq!(ghosts.count(), sum as usize, "{list}");
+        let in_table = |slot: &Slot| {
+            let nodes: Vec<Node> = nodes(left.table(*slot)).collect();
+            let from_the_first = |at: usize| nodes[..at].iter().any(|above| above.round > nodes[at].round);
+            (0..nodes.len()).filter(|at| nodes[*at].status == Status::Ghost && !from_the_first(*at)).count()
+        };
+        assert_eq!(Slot::ALL.iter().map(in_table).sum::<usize>(), sum as usize, "{list}");
     }
     assert!(several > 20, "{several}");
 }
@@ -616,8 +744,14 @@ fn rounds_counted_otherwise() {
 /// model, with both numbers in its JSON.
 #[test]
 fn rounds_of_a_run_counted_otherwise() {
-    fn one_less(list: &[u8], store: &mut [u8], table: &mut [u64], answers: &mut [u8]) -> Result<Played, Refusal> {
-        let mut played = (second::CALLS.play)(list, store, table, answers)?;
+    fn one_less(
+        list: &[u8],
+        store: &mut [u8],
+        words: &mut [u64],
+        lengths: &[usize; SLOTS],
+        answers: &mut [u8],
+    ) -> Result<Played, Refusal> {
+        let mut played = (second::CALLS.play)(list, store, words, lengths, answers)?;
         played.ghosts -= 1;
         Ok(played)
     }
@@ -627,12 +761,10 @@ fn rounds_of_a_run_counted_otherwise() {
     let list = parse(MADE_GHOST, None).unwrap();
     let told = |calls: &Calls| {
         let left = play(calls, &list.to_bytes(), &Lent::rows(100, 64, list.events.len()));
-        let trace = trace(calls, &list, left.answers(), 100, 64).unwrap();
-        let others: Vec<String> = (0..trace.len())
-            .filter(|at| !trace[*at].as_the_model())
-            .map(|at| json::event(at, &trace[at]).to_string())
-            .collect();
-        (ghosts_otherwise(&list, left.result.unwrap().ghosts, 100, 64).unwrap(), others)
+        let trace = trace(calls, &list, left.answers(), 100, [64; SLOTS]).unwrap();
+        let others = trace.events.iter().filter(|one| !one.as_the_model()).map(|one| json::event(one).to_string());
+        let others: Vec<String> = others.collect();
+        (ghosts_otherwise(&list, left.result.unwrap().ghosts, 100, [64; SLOTS]).unwrap(), others)
     };
     assert_eq!(told(&second::CALLS), (None, Vec::new()));
     assert_eq!(told(&Calls { play: one_less, ..second::CALLS }), (Some("MAKES 2 GHOST".into()), Vec::new()));
@@ -837,7 +969,7 @@ fn a_drawn_tree_with_branches() {
 /// The list that a search found: the line in notation, and what stands behind the line with the rows.
 fn found(out: &str) -> (EventList, &str) {
     let line = out.lines().find(|line| line.starts_with("n=")).unwrap();
-    let (_, explained) = out.split_once(" table rows\n\n").unwrap();
+    let (_, explained) = out.split_once("\n\n").unwrap();
     (parse(line, None).unwrap(), explained)
 }
 
@@ -999,6 +1131,8 @@ fn mistakes_on_the_command_line() {
         (&["search", "--property="], "there is no property ''; see --property list"),
         (&["run", "--store-rows", "0"], "--store-rows takes a number from 1 to 2000, not 0"),
         (&["run", "--table-rows=257"], "--table-rows takes a number from 1 to 256, not 257"),
+        (&["run", "--slot", "8", "-e", ""], "--slot takes a number from 0 to 7, not 8"),
+        (&["draw", "--slot=", "-e", ""], "--slot takes a number from 0 to 7, not \n"),
         (&["search", "--seed"], "--seed needs a value"),
         (&["run", "--bytes=yes"], "--bytes takes no value"),
         (&["draw", "--format", "gif", "-e", ""], "--format takes text, dot, svg or timeline, not gif"),
@@ -1030,6 +1164,7 @@ fn options_without_effect() {
         (&["run", "--members", "3", "--bytes"], "the bytes say how many members there are"),
         (&["run", "-e", "s(1,1,70)", "-e", "s(2,2,70)"], "-e stands twice; run takes it once"),
         (&["draw", "--format=dot", "-e", "", "--format", "svg"], "--format stands twice; draw takes it once"),
+        (&["draw", "--slot=3", "-e", "", "--slot", "3"], "--slot stands twice; draw takes it once"),
         (&["tree", "-e", "", "file"], "-e stands instead of FILE; give one of them"),
         (&["tree", "--kind", "value", "--kind=value"], "--kind stands twice; tree takes it once"),
         (&["rehearse", "--second", "--second"], "--second stands twice; rehearse takes it once"),
@@ -1058,6 +1193,7 @@ fn options_that_a_command_does_not_take() {
     let options =
         ["-e", "--members", "--kind", "--bytes", "--hex", "--store-rows", "--table-rows", "--format", "--dot", "--svg"];
     let options = options.iter().chain(&[
+        "--slot",
         "--html",
         "--json",
         "--seed",
@@ -1106,20 +1242,25 @@ fn messages_in_digits() {
     let words = "JOIN of round 5 from member 0, which never voted\n";
     for on in IMPLEMENTATIONS {
         for digits in [
-            "00000002 00000005 00000000 00000000",
-            "00000002000000050000000000000000",
-            "00:00:00:02:00:00:00:05:00:00:00:00:00:00:00:00",
-            "0x00000002 0x00000005 0x00000000 0x00000000",
-            "0X0000000200000005:0000000000000000\n",
+            "00000000 00000002 00000005 00000000 00000000",
+            "0000000000000002000000050000000000000000",
+            "00:00:00:00:00:00:00:02:00:00:00:05:00:00:00:00:00:00:00:00",
+            "0x00000000 0x00000002 0x00000005 0x00000000 0x00000000",
+            "0X000000000000000200000005:0000000000000000\n",
         ] {
             assert_eq!(tool_on(on, &["message", digits], b""), (0, words.into(), String::new()), "{digits}");
             assert_eq!(tool_on(on, &["message", "-"], digits.as_bytes()), (0, words.into(), String::new()), "{digits}");
         }
         let refused = "kalebasin: the message is refused with 14: the message's length isn't that of its kind\n";
-        for digits in ["000000020000000500000000", ""] {
+        for digits in ["00000000000000020000000500000000", ""] {
             assert_eq!(tool_on(on, &["message", digits], b""), (1, String::new(), refused.into()));
             assert_eq!(tool_on(on, &["message", "-"], digits.as_bytes()), (1, String::new(), refused.into()));
         }
+        let words = "JOIN of round 5 from member 0 in slot 7, which never voted\n";
+        assert_eq!(tool_on(on, &["message", "00000007 00000002 00000005 00000000 00000000"], b"").1, words);
+        let above = "kalebasin: the message is refused with 32: the slot of a message or event is above 7, \
+                     or a message is of another slot\n";
+        assert_eq!(tool_on(on, &["message", "00000008 00000009"], b""), (1, String::new(), above.into()));
     }
     is_mistake(&["message"], b"", "message needs hexadecimal digits");
     is_mistake(&["message", "0000000g"], b"", "'g' is no hexadecimal digit");
@@ -1189,13 +1330,13 @@ fn refused_lists() {
         (whole[..7].to_vec(), at("byte 7: the list ends within its first 8 bytes")),
         (Vec::new(), at("byte 0: the list ends within its first 8 bytes")),
         (changed(11, 3), at("byte 8, event 0: the kind is 3, not 1 or 2")),
-        (changed(28, 1), at("byte 28, event 1: the kind is 16777218, not 1 or 2")),
-        (changed(7, 3), at("byte 40, event 2: the list ends here, and the count is 3")),
-        (changed(7, 1), at("byte 28, event 0: the list should end here, not at byte 40")),
-        (changed(7, 0), at("byte 8: the list should end here, not at byte 40")),
-        (whole[..39].to_vec(), at("byte 39, event 1: the list ends within a delivery of 12 bytes")),
-        (whole[..27].to_vec(), at("byte 27, event 0: the list ends within a start of 20 bytes")),
-        (whole[..30].to_vec(), at("byte 30, event 1: the list ends within the kind")),
+        (changed(32, 1), at("byte 32, event 1: the kind is 16777218, not 1 or 2")),
+        (changed(7, 3), at("byte 48, event 2: the list ends here, and the count is 3")),
+        (changed(7, 1), at("byte 32, event 0: the list should end here, not at byte 48")),
+        (changed(7, 0), at("byte 8: the list should end here, not at byte 48")),
+        (whole[..47].to_vec(), at("byte 47, event 1: the list ends within a delivery of 16 bytes")),
+        (whole[..31].to_vec(), at("byte 31, event 0: the list ends within a start of 24 bytes")),
+        (whole[..34].to_vec(), at("byte 34, event 1: the list ends within the kind")),
     ] {
         let line = format!("kalebasin: {words}\n");
         for on in IMPLEMENTATIONS {
@@ -1311,7 +1452,7 @@ fn header_name(refusal: &Refusal) -> String {
     name
 }
 
-/// The numbers of refusals are 1 to 31 in order, and the C header has the same causes.
+/// The numbers of refusals are 1 to 32 in order, and the C header has the same causes.
 #[test]
 fn refusals_and_the_header() {
     let header = include_str!("../../include/kalebasin.h");
@@ -1322,6 +1463,6 @@ fn refusals_and_the_header() {
         assert!(header.contains(&format!("    {name} = {}", refusal.number())), "{refusal}");
         assert!(header.contains(&format!("case {name}: return \"{}\";", refusal.cause())), "{refusal}");
     }
-    assert_eq!(Refusal::ALL.len(), 31);
-    assert_eq!([0, 32].map(Refusal::from_number), [None, None]);
+    assert_eq!(Refusal::ALL.len(), 32);
+    assert_eq!([0, 33].map(Refusal::from_number), [None, None]);
 }

@@ -4,8 +4,9 @@
 //! core and nothing else, for a tool that counts instructions: SHAPE is `path` or `star`, of a tree that fills all rows but
 //! one.
 
-use kalebasin::{Event, EventList, Member, MessageNumber, Round, TreeKind, STORE_ROW, TABLE_ROW, TABLE_ROWS};
-use kalebasin_rig::generate;
+use kalebasin::{Event, EventList, Member, MessageNumber, Round, Slot, TreeKind};
+use kalebasin::{SLOTS, STORE_ROW, TABLE_ROW, TABLE_ROWS};
+use kalebasin_rig::generate::{self, Slots};
 use kalebasin_rig::random::Random;
 use kalebasin_rig::suite::valid_messages;
 use kalebasin_rig::{quick, second, Calls};
@@ -96,7 +97,8 @@ fn print_conditions(out: &mut dyn Write) -> io::Result<()> {
         SAMPLE_NANOSECONDS / 1000
     )?;
     out.write_all(
-        "- Buffers aren't cleared before a call. Play clears the store and makes the table fresh, in its time.
+        "- Buffers aren't cleared before a call. Play clears the store and makes the tables fresh, in its time: one of 256 rows for slot 0,
+  which all events are of, and one of a row for each other slot.
 - Before each add the table is copied from a tree with one free row, in the add's time. Each add checks that
   the table is a tree.
 - The reader is measured as the C function, without the step to the host's enum.
@@ -194,22 +196,28 @@ fn play_rows() -> Vec<Row> {
     let mut rows = Vec::new();
     for events in [10, 100, 1_000] {
         rows.push(play_row(format!("play, {events} events, all accepted"), undisturbed(events)));
-        let steered = generate::list(&mut Random::new(5), 3, events, events, 256).expect("3 members are an office");
+        let (slots, mut random) = (Slots::one(Slot(0)), Random::new(5));
+        let steered = generate::list_in(&slots, &mut random, 3, events, events, ROWS_IN_SLOT_0);
+        let steered = steered.expect("3 members are an office");
         rows.push(play_row(format!("play, {events} events, any order"), steered));
     }
     rows
 }
 
-/// A store row for each event, a table of 256 rows.
+/// The table rows of a list in slot 0: none of the other slots has a free one.
+const ROWS_IN_SLOT_0: [usize; SLOTS] = [256, 1, 1, 1, 1, 1, 1, 1];
+
+/// A store row for each event, and tables for a list in slot 0.
 fn play_row(what: String, list: EventList) -> Row {
     let bytes = list.to_bytes();
     let work = |calls: Calls| -> Work {
         let bytes = bytes.clone();
         let mut store = vec![0; list.events.len() * STORE_ROW];
-        let mut table = vec![0; 256 * TABLE_ROW];
+        let lengths = ROWS_IN_SLOT_0.map(|rows| rows * TABLE_ROW);
+        let mut words = vec![0; lengths.iter().sum()];
         let mut answers = vec![0; list.events.len()];
         Box::new(move || {
-            let played = (calls.play)(black_box(&bytes), &mut store, &mut table, &mut answers);
+            let played = (calls.play)(black_box(&bytes), &mut store, &mut words, &lengths, &mut answers);
             assert!(black_box(played).is_ok());
         })
     };
@@ -258,15 +266,15 @@ fn readers() -> Vec<fn(&[u8])> {
 fn reader_rows() -> Vec<Row> {
     let messages = valid_messages();
     let kinds = [
-        ("START", 1, 12),
-        ("JOIN, never voted", 2, 16),
-        ("JOIN with a vote", 2, 28),
-        ("PROPOSE", 3, 20),
-        ("VOTE", 4, 12),
+        ("START", 1, 16),
+        ("JOIN, never voted", 2, 20),
+        ("JOIN with a vote", 2, 32),
+        ("PROPOSE", 3, 24),
+        ("VOTE", 4, 16),
     ];
     let mut rows = Vec::new();
     for (name, kind, length) in kinds {
-        let bytes = messages.iter().find(|bytes| bytes[3] == kind && bytes.len() == length);
+        let bytes = messages.iter().find(|bytes| bytes[7] == kind && bytes.len() == length);
         let bytes = bytes.expect("there is a message of each kind");
         let works = readers().into_iter().map(|read| read_many(bytes.clone(), read)).collect();
         rows.push(measure_each(format!("read a message, {name}"), works, READS));

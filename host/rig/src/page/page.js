@@ -6,6 +6,7 @@ const FIELDS = [
     ["x", "X: to propose"], ["b", "B: from round"], ["counted", "counted"],
 ];
 const NONE = "none";
+const members = [...new Set(run.office.map((record) => record.member))];
 const byId = (id) => document.getElementById(id);
 const slider = byId("slider");
 const body = byId("body");
@@ -25,24 +26,30 @@ function shown(record, field) {
     return field === "counted" ? record.counted.join(" ") || "–" : String(record[field]);
 }
 
-// The members' records after an event.
-function recordsAfter(at) {
-    const records = [...run.office];
+// The slot whose records and tree are shown: that of this event, or of the last before it whose slot there is.
+function slotAt(at) {
+    const event = run.events.slice(0, at + 1).findLast((event) => run.slots.includes(event.event.slot));
+    return event ? event.event.slot : run.slots[0];
+}
+
+// The records of a slot's members after an event.
+function recordsAfter(at, slot) {
+    const records = run.office.filter((record) => record.slot === slot);
     for (const event of run.events.slice(0, at + 1)) {
-        if (event.after) records[event.after.member] = event.after;
+        if (event.after && event.after.slot === slot) records[event.after.member] = event.after;
     }
     return records;
 }
 
-function showRecords(at) {
+function showRecords(at, slot) {
     const event = run.events[at];
     const table = byId("records");
     table.replaceChildren();
     const head = element(element(table, "thead", ""), "tr", "");
     element(head, "th", "");
-    run.office.forEach((record) => element(head, "th", "member " + record.member));
     const cells = element(table, "tbody", "");
-    const records = recordsAfter(at);
+    const records = recordsAfter(at, slot);
+    records.forEach((record) => element(head, "th", "member " + record.member));
     for (const [field, name] of FIELDS) {
         const line = element(cells, "tr", "");
         element(line, "th", name);
@@ -53,16 +60,17 @@ function showRecords(at) {
     }
 }
 
-// The tree's nodes after an event, without the root.
-function nodesAfter(at) {
+// The nodes of a slot's tree after an event, without the root.
+function nodesAfter(at, slot) {
     const nodes = new Map();
-    run.events.slice(0, at + 1).forEach((event) => event.nodes.forEach((node) => nodes.set(node.round, node)));
+    const events = run.events.slice(0, at + 1).filter((event) => event.event.slot === slot);
+    events.forEach((event) => event.nodes.forEach((node) => nodes.set(node.round, node)));
     return [...nodes.values()].sort((a, b) => a.round - b.round);
 }
 
-function showTree(at) {
+function showTree(at, slot) {
     const changed = at < 0 ? [] : run.events[at].nodes;
-    const nodes = nodesAfter(at);
+    const nodes = nodesAfter(at, slot);
     const tree = byId("tree");
     tree.textContent = "root\n";
     const below = (parent, indent) => {
@@ -87,14 +95,18 @@ function wordsOf(event) {
     return `${answer}. ${event.words}.${model}${ghosts}`;
 }
 
-// Records and tree after the event that the slider stands on; -1 is before the first.
+// Records and tree after the event that the slider stands on; -1 is before the first. The slot is named where others than slot 0
+// are shown.
 function show() {
     const at = Number(slider.value);
     const event = run.events[at];
-    byId("place").textContent = event ? `${at}: ${event.event.notation}` : "– (none yet)";
+    const slot = slotAt(at);
+    const named = run.slots.some((slot) => slot !== 0) ? ` of slot ${slot}` : "";
+    document.querySelectorAll(".slot").forEach((place) => { place.textContent = named; });
+    byId("place").textContent = event ? `${event.number}: ${event.event.notation}` : "– (none yet)";
     byId("words").textContent = event ? wordsOf(event) : "";
-    showRecords(at);
-    showTree(at);
+    showRecords(at, slot);
+    showTree(at, slot);
     body.querySelectorAll(".now").forEach((row) => row.classList.remove("now"));
     if (!event) return;
     rows[at].classList.add("now");
@@ -107,8 +119,12 @@ function roundOf(event) {
     return event.delivered ? String(event.delivered.round) : NONE;
 }
 
+function slotOf(event) {
+    return run.slots.includes(event.event.slot) ? String(event.event.slot) : NONE;
+}
+
 function memberOf(event) {
-    return event.after ? String(event.after.member) : NONE;
+    return members.includes(event.event.member) ? String(event.event.member) : NONE;
 }
 
 function choice(place, value, name, colour) {
@@ -120,8 +136,12 @@ function choice(place, value, name, colour) {
     element(label, "span", name).style.color = colour || "";
 }
 
-// A box for each round and member, and one for events that have none; two buttons for all rounds at once.
+// A box for each slot, round and member, and one for events that have none; two buttons for all rounds at once. One slot alone
+// isn't asked for.
 function makeFilters() {
+    run.slots.forEach((slot) => choice("slots", slot, slot));
+    if (run.events.some((event) => slotOf(event) === NONE)) choice("slots", NONE, "no such slot");
+    byId("slots").hidden = byId("slots").querySelectorAll("input").length === 1;
     for (const [name, all] of [["all", true], ["none", false]]) {
         const button = element(byId("rounds"), "button", name);
         button.type = "button";
@@ -132,7 +152,7 @@ function makeFilters() {
     }
     run.rounds.forEach(({ round, colour }) => choice("rounds", round, round, colour));
     if (run.events.some((event) => roundOf(event) === NONE)) choice("rounds", NONE, "no such message");
-    run.office.forEach(({ member }) => choice("members", member, member));
+    members.forEach((member) => choice("members", member, member));
     if (run.events.some((event) => memberOf(event) === NONE)) choice("members", NONE, "no such member");
     byId("filters").addEventListener("change", place);
 }
@@ -140,9 +160,11 @@ function makeFilters() {
 // Whether the filters let an event through.
 function filter() {
     const ticked = (id) => new Set([...byId(id).querySelectorAll("input:checked")].map((box) => box.value));
-    const [rounds, members, answers] = [ticked("rounds"), ticked("members"), byId("answers").value];
+    const [slots, rounds, members] = ["slots", "rounds", "members"].map(ticked);
+    const answers = byId("answers").value;
     const wanted = (answer) => answers === "all" || (answers === "accepted") === (answer === 0);
-    return (event) => rounds.has(roundOf(event)) && members.has(memberOf(event)) && wanted(event.answer);
+    return (event) => slots.has(slotOf(event)) && rounds.has(roundOf(event)) && members.has(memberOf(event))
+        && wanted(event.answer);
 }
 
 // Closes the rows that the filters let through up, and draws the arrows between them. One whose sender's row is hidden begins

@@ -5,8 +5,8 @@
 //! line across a row is that of its own event, labels stand above and below it, and no lane passes through a label.
 
 use crate::second::model::Made;
-use crate::trace::Happened;
-use kalebasin::{Event, MessageNumber, Refusal};
+use crate::trace::{Happened, Trace};
+use kalebasin::{Event, MessageNumber, Refusal, Slot};
 use std::collections::{HashMap, HashSet};
 
 /// The size of all letters.
@@ -78,7 +78,7 @@ pub struct Arrow {
     pub again: bool,
 }
 
-/// A member's lifeline, or the place of events for members that aren't there, where no line is.
+/// A member's lifeline, or the place of events for slots and members that aren't there, where no line is.
 #[derive(Clone, Debug)]
 pub struct Column {
     pub name: String,
@@ -108,25 +108,58 @@ pub struct Layout {
 }
 
 impl Layout {
-    /// The layout of a run of `n` members.
-    pub fn new(n: u32, trace: &[Happened]) -> Layout {
-        let arrows = arrows(trace);
+    /// The layout of a run.
+    pub fn new(trace: &Trace) -> Layout {
+        let events = &trace.events;
+        let arrows = arrows(events);
         let delivered: HashSet<usize> = arrows.iter().map(|arrow| arrow.from).collect();
         let mut rows: Vec<Row> =
-            trace.iter().enumerate().map(|(at, one)| row(n, one, delivered.contains(&at))).collect();
+            events.iter().enumerate().map(|(at, one)| row(column(trace, one), one, delivered.contains(&at))).collect();
         let mut height = 0;
         for row in &mut rows {
             row.y = height + row.top;
             height += row.height;
         }
-        let table = table(trace);
+        let table = table(events);
         let lanes = lanes(&rows, &arrows);
-        let (columns, width) = columns(n, table.end, &rows, &lanes);
+        let (columns, width) = columns(&names(trace), table.end, &rows, &lanes);
         for (at, lane) in lanes {
             rows[at].lane = Some(columns[rows[at].column].x + FIRST_LANE + LANE * lane);
         }
         Layout { table, columns, rows, arrows, width, height }
     }
+}
+
+/// The place of an event's member among the columns: slot after slot. An event for a slot or member that isn't there stands behind
+/// all others.
+fn column(trace: &Trace, one: &Happened) -> usize {
+    let n = trace.n() as usize;
+    let slot = trace.slots().iter().position(|slot| *slot == one.slot());
+    match (slot, one.member()) {
+        (Some(slot), Some(member)) => slot * n + member.0 as usize,
+        _ => trace.slots().len() * n,
+    }
+}
+
+/// What the columns are called, and whether a member lives there; a slot is named where it isn't 0. The column of no slot or member
+/// is there if it is used.
+fn names(trace: &Trace) -> Vec<(String, bool)> {
+    let of_slot = |slot: &Slot| match slot {
+        Slot(0) => String::new(),
+        other => format!("slot {other}, "),
+    };
+    let names =
+        trace.slots().iter().flat_map(|slot| (0..trace.n()).map(move |n| format!("{}member {n}", of_slot(slot))));
+    let mut names: Vec<(String, bool)> = names.map(|name| (name, true)).collect();
+    let absent = |there: bool| trace.events.iter().any(|one| one.member().is_none() && one.slot().in_range() == there);
+    let name = match (absent(false), absent(true)) {
+        (false, false) => return names,
+        (false, true) => "no such member",
+        (true, false) => "no such slot",
+        (true, true) => "no such slot or member",
+    };
+    names.push((name.into(), false));
+    names
 }
 
 /// An arrow for each delivery of a message that was sent.
@@ -135,9 +168,9 @@ fn arrows(trace: &[Happened]) -> Vec<Arrow> {
     let mut got = HashSet::new();
     let mut arrows = Vec::new();
     for (to, one) in trace.iter().enumerate() {
-        if let Event::Deliver { message, member, .. } = one.event {
+        if let Event::Deliver { slot, message, member, .. } = one.event {
             if let Some(from) = sent_at.get(&message) {
-                arrows.push(Arrow { from: *from, to, again: !got.insert((message, member)) });
+                arrows.push(Arrow { from: *from, to, again: !got.insert((message, slot, member)) });
             }
         }
         sent_at.extend(one.sent.map(|(number, _)| (number, to)));
@@ -145,27 +178,21 @@ fn arrows(trace: &[Happened]) -> Vec<Arrow> {
     arrows
 }
 
-/// A row that isn't placed yet. An event for a member that isn't there stands in a column behind the others.
-fn row(n: u32, one: &Happened, delivered: bool) -> Row {
+/// A row that isn't placed yet. A message of another slot has that slot behind it.
+fn row(column: usize, one: &Happened, delivered: bool) -> Row {
     let label = match (one.event, one.delivered) {
         (Event::Start { round, .. }, _) => format!("starts r{round}"),
-        (Event::Deliver { message, .. }, Some(sent)) => format!("{message} {} r{}", sent.kind(), sent.round()),
+        (Event::Deliver { message, .. }, Some(sent)) => {
+            let other = if sent.slot() == one.slot() { String::new() } else { format!(" of slot {}", sent.slot()) };
+            format!("{message} {} r{}{other}", sent.kind(), sent.round())
+        }
         (Event::Deliver { message, .. }, None) => format!("no message {message}"),
         (other, _) => other.to_string(),
     };
     let refused = Refusal::from_number(one.answer).map_or(String::new(), |why| format!(" refused {}", why.number()));
     let items = items(one, delivered);
     let below = if items.is_empty() { 14 } else { 8 + ITEM * items.len() as i32 };
-    Row {
-        y: 0,
-        top: 20,
-        height: 20 + below,
-        column: one.event.member().0.min(n) as usize,
-        label,
-        refused,
-        items,
-        lane: None,
-    }
+    Row { y: 0, top: 20, height: 20 + below, column, label, refused, items, lane: None }
 }
 
 fn items(one: &Happened, delivered: bool) -> Vec<Item> {
@@ -209,7 +236,8 @@ fn table(trace: &[Happened]) -> Table {
     let widest = |head: &str, text: &dyn Fn(&Happened) -> String| {
         trace.iter().map(|one| width_of(&text(one))).max().unwrap_or(0).max(width_of(head))
     };
-    let number = MARGIN + width_of(&trace.len().to_string());
+    let places = trace.last().map_or(0, |last| last.place + 1);
+    let number = MARGIN + width_of(&places.to_string());
     let notation = number + MARGIN;
     let answer = notation + widest("event", &|one| one.explained.notation.clone()) + MARGIN + widest("answer", &answer);
     let sent_from = answer + MARGIN;
@@ -240,22 +268,18 @@ fn lanes(rows: &[Row], arrows: &[Arrow]) -> HashMap<usize, i32> {
     lanes
 }
 
-/// The lifelines, each with room for its labels and lanes, and the width of all. The column of no member is there if it is
-/// used.
-fn columns(n: u32, start: i32, rows: &[Row], lanes: &HashMap<usize, i32>) -> (Vec<Column>, i32) {
-    let absent = rows.iter().any(|row| row.column == n as usize);
+/// The columns of these names, each with room for its labels and lanes, and the width of all.
+fn columns(names: &[(String, bool)], start: i32, rows: &[Row], lanes: &HashMap<usize, i32>) -> (Vec<Column>, i32) {
     let mut columns = Vec::new();
     let mut end = start + MARGIN;
-    for place in 0..n as usize + usize::from(absent) {
-        let lives = place < n as usize;
-        let name = if lives { format!("member {place}") } else { "no such member".to_string() };
+    for (place, (name, lives)) in names.iter().enumerate() {
         let of_column = || rows.iter().enumerate().filter(|(_, row)| row.column == place);
         let labels = of_column().map(|(_, row)| labels_width(row)).max().unwrap_or(0);
         let most = of_column().filter_map(|(at, _)| lanes.get(&at)).max().map_or(0, |lane| lane + 1);
-        let half = width_of(&name) / 2;
+        let half = width_of(name) / 2;
         let x = end + MARGIN + (labels + LABEL_GAP).max(half);
         end = x + (FIRST_LANE + LANE * most).max(half);
-        columns.push(Column { name, x, lives });
+        columns.push(Column { name: name.clone(), x, lives: *lives });
     }
     (columns, end + MARGIN)
 }

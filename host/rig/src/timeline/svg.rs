@@ -2,8 +2,7 @@
 
 use super::colour::Colours;
 use super::layout::{answer, sent, width_of, Arrow, Item, Layout, Row, ITEM, LABEL_GAP};
-use crate::second::member::size_allowed;
-use crate::trace::Happened;
+use crate::trace::{Happened, Trace};
 use kalebasin::{Event, Round};
 use std::fmt::Write;
 
@@ -47,14 +46,11 @@ pub struct Picture<'a> {
 }
 
 impl Picture<'_> {
-    /// The picture of a run of `n` members.
-    ///
-    /// # Panics
-    /// Where `n` isn't 3, 5 or 7.
-    pub fn new(n: u32, trace: &[Happened]) -> Picture<'_> {
-        assert!(size_allowed(n), "an office has 3, 5 or 7 members, not {n}");
-        let mut layout = Layout::new(n, trace);
+    /// The picture of a run.
+    pub fn new(trace: &Trace) -> Picture<'_> {
+        let mut layout = Layout::new(trace);
         layout.width = layout.width.max(key().1);
+        let trace = &trace.events[..];
         Picture { layout, colours: Colours::new(trace.iter().filter_map(Happened::round)), trace }
     }
 
@@ -129,7 +125,7 @@ impl Picture<'_> {
         }
         let (top, width, height) = (-row.top, self.layout.width, row.height);
         let _ = write!(out, "<rect class=\"back\" x=\"0\" y=\"{top}\" width=\"{width}\" height=\"{height}\"/>");
-        self.table_row(out, at, one);
+        self.table_row(out, one);
         if let Some(arrow) = arriving {
             self.arrive(out, arrow);
         }
@@ -141,9 +137,9 @@ impl Picture<'_> {
     }
 
     /// Number, notation, answer, and what is sent.
-    fn table_row(&self, out: &mut String, at: usize, one: &Happened) {
+    fn table_row(&self, out: &mut String, one: &Happened) {
         let table = self.layout.table;
-        text(out, "end", table.number, 4, &at.to_string());
+        text(out, "end", table.number, 4, &one.place.to_string());
         text(out, "", table.notation, 4, &one.explained.notation);
         let class = if one.answer == 0 { "answer end" } else { "answer end strong" };
         text(out, class, table.answer, 4, &answer(one));

@@ -10,7 +10,8 @@ window.probes = (() => {
     function shown() {
         const records = all("#records tbody tr").map((row) => [...row.cells].slice(1).map(starred).join(" | "));
         const tree = [...byId("tree").childNodes].map((one) => one.nodeType === Node.TEXT_NODE ? one.textContent : starred(one));
-        return [byId("place").innerText, byId("words").innerText, ...records, tree.join("")].join("\n");
+        const headings = all("h2").slice(0, 2).map((one) => one.textContent).join(", ");
+        return [byId("place").innerText, byId("words").innerText, headings, ...records, tree.join("")].join("\n");
     }
 
     // The words that the mouse shows.

@@ -5,14 +5,14 @@ use crate::options::Options;
 use crate::search;
 use crate::stop::{Stop, REFUSED};
 use crate::tree;
-use kalebasin::{EventList, Refusal};
+use kalebasin::{Event, EventList, Refusal, Slot};
 use kalebasin_rig::compare::{self, Left};
 use kalebasin_rig::explain::Explained;
 use kalebasin_rig::generate::Case;
 use kalebasin_rig::rehearsal::{REHEARSAL_STORE_ROWS, REHEARSAL_TABLE_ROWS};
 use kalebasin_rig::search::clean_case;
 use kalebasin_rig::timeline::timeline;
-use kalebasin_rig::trace::{trace, Happened};
+use kalebasin_rig::trace::{slots_of, trace, Happened, Trace};
 use kalebasin_rig::{draw, explain, json, page, rehearsal};
 use kalebasin_rig::{second, Calls};
 use std::ffi::OsStr;
@@ -79,56 +79,99 @@ pub fn play(options: &Options, case: &Case) -> Result<Left, Stop> {
 fn run_list(options: &Options, out: &mut dyn Write) -> Outcome {
     let case = case(options, list(options)?);
     let left = play(options, &case)?;
-    let (store_rows, table_rows) = case.lent.whole_rows();
-    let (n, name) = (case.list.n, calls(options).name);
+    let (n, name, slot) = (case.list.n, calls(options).name, options.slot);
     let as_the_model = if options.json {
-        print_json(&traced(options, &case, &left)?, out)? && sum_otherwise(&case, &left)?.is_none()
+        print_json(&traced(options, &case, &left)?, slot, out)? && sum_otherwise(&case, &left)?.is_none()
     } else {
-        writeln!(out, "{n} members, {store_rows} store rows, {table_rows} table rows, on {name}\n")?;
-        explain_run(&case, &left, out)?
+        let alone = slot.map_or(String::new(), |slot| format!(", slot {slot} alone"));
+        writeln!(out, "{n} members, {}, on {name}{alone}\n", rows_in_words(&case).join(", "))?;
+        explain_run(&case, &left, slot, out)?
     };
-    write_file(options.dot.as_deref(), || Ok(draw::dot(left.table())))?;
-    write_file(options.svg.as_deref(), || Ok(draw::svg(left.table())))?;
-    write_file(options.html.as_deref(), || Ok(page::page(n, name, &traced(options, &case, &left)?)))?;
+    let trees = trees(&case, &left, slot);
+    write_file(options.dot.as_deref(), || Ok(draw::dot_of(&trees)))?;
+    write_file(options.svg.as_deref(), || Ok(draw::svg_of(&trees)))?;
+    write_file(options.html.as_deref(), || Ok(page::page(name, &shown(options, &case, &left)?)))?;
     status(as_the_model)
 }
 
+/// The rows of the store, and those of the tables of the slots that events are of.
+pub fn rows_in_words(case: &Case) -> [String; 2] {
+    let (store_rows, table_rows) = case.lent.whole_rows();
+    let slots = slots_of(&case.list);
+    let rows: Vec<usize> = slots.iter().map(|slot| table_rows[slot.0 as usize]).collect();
+    let tables = match rows[..] {
+        [rows] => format!("{rows} table rows"),
+        [first, ..] if rows.iter().all(|rows| *rows == first) => format!("{first} table rows in each slot"),
+        _ => {
+            let each = slots.iter().zip(&rows).map(|(slot, rows)| format!("{rows} in slot {slot}"));
+            format!("table rows {}", each.collect::<Vec<_>>().join(", "))
+        }
+    };
+    [format!("{store_rows} store rows"), tables]
+}
+
+/// The tables of the slots that events are of, or of one slot alone.
+fn trees<'a>(case: &Case, left: &'a Left, slot: Option<Slot>) -> Vec<(Slot, &'a [u64])> {
+    let slots = slot.map_or_else(|| slots_of(&case.list), |slot| vec![slot]);
+    slots.into_iter().map(|slot| (slot, left.table(slot))).collect()
+}
+
 /// What happened at each event of a case that was played.
-fn traced(options: &Options, case: &Case, left: &Left) -> Result<Vec<Happened>, Refusal> {
+fn traced(options: &Options, case: &Case, left: &Left) -> Result<Trace, Refusal> {
     let (store_rows, table_rows) = case.lent.whole_rows();
     trace(&calls(options), &case.list, left.answers(), store_rows, table_rows)
 }
 
-/// An object for each event; whether all answers, and all counts of rounds made GHOST, are those of the model.
-fn print_json(trace: &[Happened], out: &mut dyn Write) -> Result<bool, Stop> {
-    for (at, one) in trace.iter().enumerate() {
-        writeln!(out, "{}", json::event(at, one))?;
-    }
-    Ok(trace.iter().all(Happened::as_the_model))
+/// The same, of one slot alone if that is asked for.
+fn shown(options: &Options, case: &Case, left: &Left) -> Result<Trace, Refusal> {
+    let trace = traced(options, case, left)?;
+    Ok(match options.slot {
+        Some(slot) => trace.alone(slot),
+        None => trace,
+    })
 }
 
-/// Each event in words, the counts and the tree; whether all answers, and the count of rounds made GHOST, are those of the model.
-pub fn explain_run(case: &Case, left: &Left, out: &mut dyn Write) -> Result<bool, Stop> {
-    let answers = print_events(case, left.answers(), out)?;
-    let counts = print_counts(case, left, out)?;
-    write!(out, "\n{}", draw::text(left.table()))?;
+/// Whether an event is to be shown: all are, or those of one slot.
+fn is_shown(event: &Event, slot: Option<Slot>) -> bool {
+    slot.is_none_or(|slot| event.slot() == slot)
+}
+
+/// An object for each event that is to be shown or isn't as in the model; whether all answers, and all counts of rounds made GHOST,
+/// are those of the model.
+fn print_json(trace: &Trace, slot: Option<Slot>, out: &mut dyn Write) -> Result<bool, Stop> {
+    for one in trace.events.iter().filter(|one| is_shown(&one.event, slot) || !one.as_the_model()) {
+        writeln!(out, "{}", json::event(one))?;
+    }
+    Ok(trace.events.iter().all(Happened::as_the_model))
+}
+
+/// Each event in words, the counts and the trees, of one slot alone if that is asked for; whether all answers, and the count of
+/// rounds made GHOST, are those of the model.
+pub fn explain_run(case: &Case, left: &Left, slot: Option<Slot>, out: &mut dyn Write) -> Result<bool, Stop> {
+    let answers = print_events(case, left.answers(), slot, out)?;
+    let counts = print_counts(case, left, slot, out)?;
+    write!(out, "\n{}", draw::text_of(&trees(case, left, slot)))?;
     Ok(answers && counts)
 }
 
-/// One line for each event; whether all answers are those of the model.
-fn print_events(case: &Case, answers: &[u8], out: &mut dyn Write) -> Result<bool, Stop> {
+/// One line for each event that is to be shown or has another answer than the model's; whether none has.
+fn print_events(case: &Case, answers: &[u8], slot: Option<Slot>, out: &mut dyn Write) -> Result<bool, Stop> {
     let (store_rows, table_rows) = case.lent.whole_rows();
     let explained = explain::explain(&case.list, store_rows, table_rows)?;
-    let lines = explained.into_iter().zip(answers).map(|(explained, answer)| {
+    let lines = explained.into_iter().zip(answers).enumerate().map(|(place, (explained, answer))| {
         let number = u32::from(*answer);
         let otherwise = (number != explained.answer).then(|| format!("THE MODEL ANSWERS {}", explained.answer));
-        Line { explained, number, otherwise }
+        Line { place, explained, number, otherwise }
     });
-    print_lines(&lines.collect::<Vec<_>>(), out)
+    let events = lines.zip(&case.list.events);
+    let shown = events.filter(|(line, event)| is_shown(event, slot) || line.otherwise.is_some());
+    print_lines(&shown.map(|(line, _)| line).collect::<Vec<_>>(), out)
 }
 
 /// An event or a call as it is printed.
 pub struct Line {
+    /// Its place in the list.
+    pub place: usize,
     pub explained: Explained,
     /// The number given.
     pub number: u32,
@@ -139,8 +182,8 @@ pub struct Line {
 /// The lines, each with its place; whether nothing should be otherwise.
 pub fn print_lines(lines: &[Line], out: &mut dyn Write) -> Result<bool, Stop> {
     let width = lines.iter().map(|line| line.explained.notation.len()).max().unwrap_or(0);
-    for (at, Line { explained, number, otherwise }) in lines.iter().enumerate() {
-        writeln!(out, "{at:>4}  {:<width$}  {number:>2}  {}", explained.notation, explained.words)?;
+    for Line { place, explained, number, otherwise } in lines {
+        writeln!(out, "{place:>4}  {:<width$}  {number:>2}  {}", explained.notation, explained.words)?;
         if let Some(otherwise) = otherwise {
             writeln!(out, "      {otherwise}")?;
         }
@@ -148,18 +191,19 @@ pub fn print_lines(lines: &[Line], out: &mut dyn Write) -> Result<bool, Stop> {
     Ok(lines.iter().all(|line| line.otherwise.is_none()))
 }
 
-/// The counts, and a line where the model makes more or fewer rounds GHOST; whether it doesn't.
-fn print_counts(case: &Case, left: &Left, out: &mut dyn Write) -> Result<bool, Stop> {
+/// The counts, which are over all slots, and a line where the model makes more or fewer rounds GHOST; whether it doesn't.
+fn print_counts(case: &Case, left: &Left, slot: Option<Slot>, out: &mut dyn Write) -> Result<bool, Stop> {
     let played = left.result?;
     writeln!(
         out,
-        "\n{} of {} accepted, {}, {}, {}, {} made GHOST",
+        "\n{} of {} accepted, {}, {}, {}, {} made GHOST{}",
         played.accepted,
         count(case.list.events.len(), "event"),
         count(played.messages as usize, "message"),
         count(played.proposals as usize, "proposal"),
         count(played.decisions as usize, "decision"),
-        count(played.ghosts as usize, "round")
+        count(played.ghosts as usize, "round"),
+        if slot.is_some() { ", in all slots" } else { "" }
     )?;
     let otherwise = sum_otherwise(case, left)?;
     if let Some(otherwise) = &otherwise {
@@ -189,10 +233,10 @@ pub fn write_file(file: Option<&OsStr>, text: impl Fn() -> Result<String, Refusa
 
 fn draw_list(options: &Options, out: &mut dyn Write) -> Outcome {
     let draw: fn(&Options, &Case, &Left) -> Result<String, Refusal> = match options.format.as_str() {
-        "text" => |_, _, left| Ok(draw::text(left.table())),
-        "dot" => |_, _, left| Ok(draw::dot(left.table())),
-        "svg" => |_, _, left| Ok(draw::svg(left.table())),
-        "timeline" => |options, case, left| Ok(timeline(case.list.n, &traced(options, case, left)?)),
+        "text" => |options, case, left| Ok(draw::text_of(&trees(case, left, options.slot))),
+        "dot" => |options, case, left| Ok(draw::dot_of(&trees(case, left, options.slot))),
+        "svg" => |options, case, left| Ok(draw::svg_of(&trees(case, left, options.slot))),
+        "timeline" => |options, case, left| Ok(timeline(&shown(options, case, left)?)),
         other => return Err(format!("--format takes text, dot, svg or timeline, not {other}").into()),
     };
     let case = case(options, list(options)?);

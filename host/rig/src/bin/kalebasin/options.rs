@@ -1,7 +1,7 @@
 //! The command line: which commands there are, which options each takes, and what a given line asks for.
 
 use crate::stop::Stop;
-use kalebasin::{EventList, TreeKind, STORE_ROWS, TABLE_ROWS};
+use kalebasin::{EventList, Slot, TreeKind, SLOTS, STORE_ROWS, TABLE_ROWS};
 use std::ffi::OsString;
 use std::fmt::Write;
 use std::str::FromStr;
@@ -19,7 +19,8 @@ pub struct Command {
 
 const NOTATION: &str = "\
 A list is written  s(1,1,70) d(0,0)  : s(member,round,offer) starts a round, and d(message,member) delivers a message
-sent earlier, counted from 0. The office has 3 members; n=5 or n=7 in front gives it more. # starts a comment.
+sent earlier, counted from 0. The office has 3 members; n=5 or n=7 in front gives it more. An event is of slot 0;
+3:d(0,0) is of slot 3, and slots run from 0 to 7. # starts a comment.
 ";
 const TREE_NOTATION: &str = "\
 Tree calls are written  add(1,70,0) commit(1)  : add(round,value,parent), preview(round,value,parent), commit(round),
@@ -153,6 +154,15 @@ const CHOICES: &[Choice] = &[
         },
     },
     Choice {
+        name: "--slot",
+        value: Some("K"),
+        uses: &[
+            (&["run"], "shows the events, lifelines and tree of slot K alone, 0 to 7; all slots are played"),
+            (&["draw"], "draws the tree, or the lifelines, of slot K alone, 0 to 7; all slots are played"),
+        ],
+        set: |options, value| number("--slot", value, 0, SLOTS as u32 - 1).map(|slot| options.slot = Some(Slot(slot))),
+    },
+    Choice {
         name: "--store-rows",
         value: Some("R"),
         uses: &[
@@ -165,8 +175,9 @@ const CHOICES: &[Choice] = &[
         name: "--table-rows",
         value: Some("R"),
         uses: &[
-            (&["run", "draw", "tree"], "rows of the table, 1 to 256 (64)"),
-            (&["search"], "with a list or --all: rows of the table, 1 to 256 (64)"),
+            (&["run", "draw"], "rows of each slot's table, 1 to 256 (64)"),
+            (&["tree"], "rows of the table, 1 to 256 (64)"),
+            (&["search"], "with a list or --all: rows of each slot's table, 1 to 256 (64)"),
         ],
         set: |options, value| number("--table-rows", value, 1, TABLE_ROWS).map(|rows| options.table_rows = Some(rows)),
     },
@@ -338,6 +349,7 @@ pub struct Options {
     pub kind: Option<TreeKind>,
     pub bytes: bool,
     pub hex: bool,
+    pub slot: Option<Slot>,
     pub store_rows: Option<usize>,
     pub table_rows: Option<usize>,
     pub format: String,
@@ -449,6 +461,7 @@ impl Options {
             kind: None,
             bytes: false,
             hex: false,
+            slot: None,
             store_rows: None,
             table_rows: None,
             format: "text".into(),
@@ -475,7 +488,10 @@ impl Options {
                 (choice.set)(self, value.unwrap_or_default())
             }
             None => {
-                let meant = meant(name, self.command.choices().map(|(choice, _)| choice.name));
+                // The name of another command's option isn't mistyped.
+                let mistyped = CHOICES.iter().all(|choice| choice.name != name);
+                let names = self.command.choices().map(|(choice, _)| choice.name).filter(|_| mistyped);
+                let meant = meant(name, names);
                 Err(Stop::with_help(format!("{} doesn't take {name}{meant}", self.command.name), self.command))
             }
         }

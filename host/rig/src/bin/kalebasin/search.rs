@@ -1,6 +1,6 @@
 //! The commands that try many lists: search and compare.
 
-use crate::commands::{calls, explain_run, play, status, Outcome};
+use crate::commands::{calls, explain_run, play, rows_in_words, status, Outcome};
 use crate::input::list;
 use crate::options::{meant, Options};
 use crate::progress::Reporter;
@@ -108,12 +108,11 @@ fn list_properties(out: &mut dyn Write) -> Outcome {
 
 /// The list found, explained as a run is.
 fn show(options: &Options, source: &Source, found: &Found, out: &mut dyn Write) -> Outcome {
-    let (store_rows, table_rows) = found.case.lent.whole_rows();
     writeln!(out, "The property {} fails: {}.", found.property.name, found.how)?;
     writeln!(out, "The shortest list found, {}:", origin(options, source))?;
     writeln!(out, "{}", found.case.list)?;
-    writeln!(out, "with {store_rows} store rows and {table_rows} table rows\n")?;
-    explain_run(&found.case, &play(options, &found.case)?, out)?;
+    writeln!(out, "with {}\n", rows_in_words(&found.case).join(" and "))?;
+    explain_run(&found.case, &play(options, &found.case)?, None, out)?;
     status(false)
 }
 
@@ -130,12 +129,15 @@ pub fn compare(options: &Options, out: &mut dyn Write) -> Outcome {
     use kalebasin_rig::suite::{self, Compared, Pair};
     type Part = fn(Pair) -> Compared;
     let pair: Pair = [&kalebasin_rig::proved::CALLS, &kalebasin_rig::second::CALLS];
-    let every: [(&str, Part); 8] = [
+    let every: [(&str, Part); 11] = [
         ("every list of up to four events", suite::short_lists),
+        ("every list of up to four events in three slots", suite::slot_lists),
         ("every three events after each part of the rehearsal", suite::rehearsal_tails),
+        ("every two events in two slots after each part of the rehearsal", suite::slot_tails),
         ("every damaged byte of some lists", suite::damaged_lists),
         ("every small byte string as a list", suite::small_list_bytes),
         ("every small message and every damaged byte", suite::messages),
+        ("every small message delivered to a member", suite::delivered_messages),
         ("messages written", suite::written_messages),
         ("every small record of a member", suite::small_records),
         ("every small table", suite::small_tables),

@@ -18,7 +18,8 @@ pub fn tree(options: &Options, out: &mut dyn Write) -> Outcome {
     writeln!(out, "{} tree, {}, on {}\n", list.kind, count(rows, "table row"), calls.name)?;
     let accepted = called.iter().filter(|one| one.answer == 0).count();
     let ghosts = called.iter().map(|one| one.ghosts).sum();
-    let as_the_second = print_lines(&called.iter().map(line).collect::<Vec<_>>(), out)?;
+    let lines: Vec<Line> = called.iter().enumerate().map(|(place, one)| line(place, one)).collect();
+    let as_the_second = print_lines(&lines, out)?;
     print_counts(accepted, called.len(), ghosts, &table, out)?;
     for (at, one) in called.iter().enumerate() {
         if let Some([before, after]) = &one.previewed {
@@ -36,9 +37,9 @@ pub fn tree(options: &Options, out: &mut dyn Write) -> Outcome {
     status(as_the_second)
 }
 
-fn line(called: &Called) -> Line {
+fn line(place: usize, called: &Called) -> Line {
     let otherwise = called.difference.as_ref().map(|difference| format!("THE SECOND IMPLEMENTATION {difference}"));
-    Line { explained: called.explained.clone(), number: called.answer, otherwise }
+    Line { place, explained: called.explained.clone(), number: called.answer, otherwise }
 }
 
 /// How many calls were accepted, how many rounds their adds made GHOST, and how many nodes beside the root have each status.
