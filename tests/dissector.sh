@@ -20,7 +20,7 @@ captures() {
 # There are messages that are read and messages that get each number, some hundreds in all.
 has_every_answer() {
     local number
-    for number in '' 14 15 16; do
+    for number in '' 14 15 16 32; do
         [ "$(cut -f 1 "$work/fields" | grep -cx "$number")" -ge 50 ] || return
     done
 }
@@ -28,8 +28,8 @@ has_every_answer() {
 # Of a refused message the number alone is compared; its fields are shown as far as they are there.
 shows_fields() {
     local at=()
-    for field in refusal kind round sender presence voted value; do at+=(-e "kalebasin.$field"); done
-    shark "$work/capture" -T fields "${at[@]}" | awk -F '\t' -v OFS='\t' '$1 { print $1, "", "", "", "", "", ""; next } { print }' |
+    for field in refusal slot kind round sender presence voted value; do at+=(-e "kalebasin.$field"); done
+    shark "$work/capture" -T fields "${at[@]}" | awk -F '\t' -v OFS='\t' '$1 { print $1, "", "", "", "", "", "", ""; next } { print }' |
         diff "$work/fields" - | head -n 20 >"$work/differs"
     cat "$work/differs" "$work/said" | grep -v 'Running as user'
     [ ! -s "$work/differs" ]
@@ -43,11 +43,12 @@ shows_words() {
 
 # What a person sees of a JOIN that tells a vote, and of one that lacks its last byte.
 shows_a_page() {
-    local whole='kalebasin.round == 66051 && kalebasin.sender == 6 && kalebasin.voted == 66050 && kalebasin.value == 70'
-    local damaged='kalebasin.kind == 2 && kalebasin.voted == 66050 && kalebasin.rest && kalebasin.refusal == 14 && udp.length == 35'
+    local whole='kalebasin.slot == 1 && kalebasin.round == 66051 && kalebasin.sender == 6 && kalebasin.voted == 66050 && kalebasin.value == 70'
+    local damaged='kalebasin.kind == 2 && kalebasin.voted == 66050 && kalebasin.rest && kalebasin.refusal == 14 && udp.length == 39'
     shark "$work/capture" -O kalebasin -Y "($whole) || ($damaged)" | grep -E '^(Kalebasin|    [^ ])' | diff - <(
         cat <<'PAGE'
-Kalebasin office vault, JOIN of round 66051 from member 6, which voted for 70 in round 66050
+Kalebasin office vault, JOIN of round 66051 from member 6 in slot 1, which voted for 70 in round 66050
+    Slot: 1
     Kind: JOIN (2)
     Round: 66051
     Sender: 6
@@ -55,6 +56,7 @@ Kalebasin office vault, JOIN of round 66051 from member 6, which voted for 70 in
     Voted round: 66050
     Value: 70
 Kalebasin office vault, refused with 14: the message's length isn't that of its kind
+    Slot: 3
     Kind: JOIN (2)
     Round: 66051
     Sender: 6
@@ -69,7 +71,7 @@ PAGE
 
 # Of a message that wasn't captured whole nothing is said about the reader.
 says_cut() {
-    editcap -s 40 "$work/capture" "$work/cut" &&
+    editcap -s 44 "$work/capture" "$work/cut" &&
         [ -z "$(shark "$work/cut" -Y 'frame.cap_len < frame.len && (kalebasin.refusal || !kalebasin.cut)')" ] &&
         [ -n "$(shark "$work/cut" -Y 'kalebasin.cut')" ]
 }

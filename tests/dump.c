@@ -4,19 +4,26 @@
 #include "messages.h"
 #include <string.h>
 
-/* Room for the longest list, of 1,000 events of 20 bytes, and some more. */
-enum { ROOM = 8 + 20 * 1000 + 100 };
+/* Room for the longest list, of 1,000 events of 24 bytes, and some more. */
+enum { ROOM = 8 + 24 * 1000 + 100 };
 
 static char line[2 * ROOM + 2], data[ROOM], again[ROOM];
 
 static void show_message(const message *m) {
     static const char *const names[] = {"", "START", "JOIN", "PROPOSE", "VOTE"};
-    message_head h = m->kind == JOIN ? m->message_u.join.head : m->kind == PROPOSE ? m->message_u.propose.head : m->message_u.start;
-    printf("%s %u %u ", names[m->kind], h.round, h.sender);
-    if (m->kind == JOIN && m->message_u.join.vote)
-        printf("%u %llu ", m->message_u.join.vote->voted_round, (unsigned long long)m->message_u.join.vote->value);
-    if (m->kind == PROPOSE) printf("%llu ", (unsigned long long)m->message_u.propose.value);
+    const message_body *b = &m->body;
+    message_head h = b->kind == JOIN ? b->message_body_u.join.head : b->kind == PROPOSE ? b->message_body_u.propose.head : b->message_body_u.start;
+    printf("%u %s %u %u ", m->slot, names[b->kind], h.round, h.sender);
+    if (b->kind == JOIN && b->message_body_u.join.vote)
+        printf("%u %llu ", b->message_body_u.join.vote->voted_round, (unsigned long long)b->message_body_u.join.vote->value);
+    if (b->kind == PROPOSE) printf("%llu ", (unsigned long long)b->message_body_u.propose.value);
     printf("\n");
+}
+
+/* Events of slot 0 are written without it. */
+static void show_slot(slot_number slot) {
+    printf(" ");
+    if (slot) printf("%u:", slot);
 }
 
 static void show_list(const event_list *l) {
@@ -24,8 +31,10 @@ static void show_list(const event_list *l) {
     for (unsigned i = 0; i < l->events.events_len; i++) {
         const event *e = &l->events.events_val[i];
         const round_start *s = &e->event_u.start;
-        if (e->kind == ROUND_START) printf(" s(%u,%u,%llu)", s->member, s->round, (unsigned long long)s->offer);
-        else printf(" d(%u,%u)", e->event_u.deliver.message, e->event_u.deliver.member);
+        const delivery *d = &e->event_u.deliver;
+        show_slot(e->kind == ROUND_START ? s->slot : d->slot);
+        if (e->kind == ROUND_START) printf("s(%u,%u,%llu)", s->member, s->round, (unsigned long long)s->offer);
+        else printf("d(%u,%u)", d->message, d->member);
     }
     printf("\n");
 }

@@ -3,7 +3,7 @@
 #include "words.h"
 #include <string.h>
 
-enum { PORT = 7070, LONGEST = 28, ROOM = 40 };
+enum { PORT = 7070, LONGEST = 32, ROOM = 44 };
 
 static FILE *capture, *fields, *words;
 
@@ -41,6 +41,7 @@ static void put_field(int there, uint64_t x) {
 static void put_answer(KalebasinMessageResult r) {
     int join = r.kind == KALEBASIN_JOIN;
     if (r.number) fprintf(fields, "%u", r.number);
+    put_field(!r.number, r.slot);
     put_field(!r.number, r.kind);
     put_field(!r.number, r.round);
     put_field(!r.number, r.sender);
@@ -57,10 +58,10 @@ static void message(const uint8_t *bytes, size_t len) {
     put_answer(kalebasin_read_message(bytes, len));
 }
 
-/* The five shapes of a message: kind, round, sender; presence; voted round, value. */
-static size_t write_message(uint8_t *to, int shape, uint32_t round, uint32_t sender, uint32_t voted, uint64_t value) {
+/* The five shapes of a message: slot, kind, round, sender; presence; voted round, value. */
+static size_t write_message(uint8_t *to, uint32_t slot, int shape, uint32_t round, uint32_t sender, uint32_t voted, uint64_t value) {
     static const uint8_t kinds[] = {1, 2, 2, 3, 4};
-    uint8_t *at = put(put(put(to, kinds[shape], 4), round, 4), sender, 4);
+    uint8_t *at = put(put(put(put(to, slot, 4), kinds[shape], 4), round, 4), sender, 4);
     if (shape == 1) at = put(at, 0, 4);
     if (shape == 2) at = put(put(put(at, 1, 4), voted, 4), value, 8);
     if (shape == 3) at = put(at, value, 8);
@@ -70,7 +71,8 @@ static size_t write_message(uint8_t *to, int shape, uint32_t round, uint32_t sen
 static const uint32_t edges[] = {0, 1, 2, 3, 4, 5, 6, 7, 8, 255, 256, 65536, 0xffffff, 0x1000000, 0x2000000, 999999, 1000000, 1000001, 0x7fffffff, 0xffffffff};
 #define EACH(name, list) for (size_t name = 0; name < sizeof list / sizeof *list; name++)
 
-/* Each shape with fields at and around their limits. */
+/* Each shape with fields at and around their limits; the slot is never the sender's number, so that neither can be shown for
+   the other. */
 static void ranges(int shape) {
     static const uint32_t rounds[] = {0, 1, 2, 66051, 999999, 1000000, 1000001};
     static const uint64_t values[] = {0x0102030405060708, 0, 70, UINT64_MAX};
@@ -78,14 +80,14 @@ static void ranges(int shape) {
     int valued = shape == 2 || shape == 3 ? 4 : 1;
     uint32_t voted = shape == 2 ? 3 : 1;
     EACH(r, rounds) for (uint32_t sender = 0; sender < 9; sender++) for (int v = 0; v < valued; v++) for (uint32_t down = 0; down < voted; down++)
-        message(bytes, write_message(bytes, shape, rounds[r], sender, rounds[r] - down, values[v]));
+        message(bytes, write_message(bytes, (sender + 4) % 9, shape, rounds[r], sender, rounds[r] - down, values[v]));
 }
 
 /* A message cut at every length and with bytes behind it; with each byte and each word replaced. */
 static void damages(int shape) {
     static const uint8_t replaced[] = {0, 1, 2, 7, 0x80, 0xff};
     uint8_t whole[ROOM] = {0}, bytes[ROOM];
-    size_t len = write_message(whole, shape, 66051, 6, 66050, 0x0102030405060708);
+    size_t len = write_message(whole, 3, shape, 66051, 6, 66050, 0x0102030405060708);
     for (size_t cut = 1; cut <= len + 8; cut++) message(whole, cut);
     for (size_t at = 0; at < len; at++) EACH(b, replaced) {
         memcpy(bytes, whole, ROOM);
@@ -99,16 +101,21 @@ static void damages(int shape) {
     }
 }
 
-/* Any kind, and a JOIN with any presence, at every length. */
+/* Any slot with any kind, and a JOIN with any presence, at every length. */
 static void lengths(void) {
     uint8_t bytes[ROOM] = {0};
-    put(put(put(bytes, 0, 4), 66051, 4), 6, 4);
+    put(put(bytes + 8, 66051, 4), 6, 4);
     for (size_t len = 4; len <= LONGEST + 4; len++) EACH(e, edges) {
-        put(put(bytes, edges[e], 4), 66051, 4);
-        put(bytes + 12, 0, 4);
+        for (uint32_t slot = 6; slot <= 8; slot++) {
+            put(put(bytes, slot, 4), edges[e], 4);
+            put(bytes + 16, 0, 4);
+            message(bytes, len);
+        }
+        put(put(bytes, edges[e], 4), KALEBASIN_JOIN, 4);
+        put(put(bytes + 16, 1, 4), 1, 4);
         message(bytes, len);
-        put(bytes, KALEBASIN_JOIN, 4);
-        put(put(bytes + 12, edges[e], 4), 1, 4);
+        put(bytes, 7, 4);
+        put(put(bytes + 16, edges[e], 4), 1, 4);
         message(bytes, len);
     }
 }
