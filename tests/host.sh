@@ -10,7 +10,7 @@ cd "$(dirname "$0")/.." || exit 2
 vault() {
     mkdir -p "$work/vault/src" && cp host/kalebasin/examples/office.rs "$work/vault/src/main.rs" &&
         printf '%s\n' '[package]' 'name = "vault"' 'edition = "2021"' '[dependencies]' "kalebasin.path = \"$PWD/host/kalebasin\"" >"$work/vault/Cargo.toml" &&
-        (cd "$work/vault" && cargo run --offline --quiet | tee "$work/told") && [ "$(tail -n 1 "$work/told")" = "3 proposals, 0 decisions, 2 rounds made GHOST" ]
+        (cd "$work/vault" && cargo run --offline --quiet | tee "$work/told") && [ "$(tail -n 1 "$work/told")" = "4 proposals, 1 decisions, 2 rounds made GHOST" ]
 }
 
 # An archive of another version, which the function of this name tells, ends a program at its first call.
@@ -20,7 +20,7 @@ other_version_told() {
         cd "$work/other" && ar x "lib$crate.a" && objcopy --redefine-sym "$function=own_version" "$crate.o" &&
             echo "unsigned $function(void) { return 99; }" | cc -x c -c -o version.o - && ar rc "lib$crate.a" "$crate.o" version.o
     ) && ! (cd host && KALEBASIN_LIB=$work/other cargo run --offline --quiet --example office) 2>"$work/told" &&
-        grep -q "^lib$crate.a has the calls of version 99, the crate kalebasin those of version 5\$" "$work/told"
+        grep -q "^lib$crate.a has the calls of version 99, the crate kalebasin those of version 6\$" "$work/told"
 }
 
 # An archive whose two calls of this name are exchanged: the tool says of a tree call what the second implementation does otherwise, and has the status of that.
@@ -35,23 +35,30 @@ difference_told() {
     [ $? -eq 1 ] && [ "$(grep -c '[A-Z] IMPLEMENTATION' "$work/told")" -eq 1 ] && grep -qx ' *THE SECOND IMPLEMENTATION ANSWERS 7' "$work/told"
 }
 
-# An archive whose play counts a round too many: a run says how many the model makes GHOST, and has the status of that, in JSON too.
-sum_told() {
+# An archive whose play counts a round too many and answers the second event with 29: a run says how many rounds the model makes GHOST and what it answers, also
+# where that event's slot isn't the one shown, and has the status of that, in JSON too.
+play_told() {
     rm -rf "$work/other" && mkdir "$work/other" && cp "${archives[@]}" "$work/other" &&
         (cd "$work/other" && ar x libexports.a && objcopy --redefine-sym kalebasin_play=own_play exports.o) &&
         cc -Ihost/include -x c -c -o "$work/other/play.o" - <<'C' && (cd "$work/other" && ar rc libexports.a exports.o play.o) || return
 #include "kalebasin.h"
-KalebasinPlayResult own_play(const uint8_t *, size_t, uint8_t *, size_t, uint64_t *, size_t, uint8_t *, size_t);
-KalebasinPlayResult kalebasin_play(const uint8_t *l, size_t n, uint8_t *s, size_t m, uint64_t *t, size_t k, uint8_t *a, size_t b) {
-    KalebasinPlayResult r = own_play(l, n, s, m, t, k, a, b);
+KalebasinPlayResult own_play(const uint8_t *, size_t, uint8_t *, size_t, uint64_t *, size_t, const size_t *, uint8_t *, size_t);
+KalebasinPlayResult kalebasin_play(const uint8_t *l, size_t n, uint8_t *s, size_t m, uint64_t *t, size_t k, const size_t *of, uint8_t *a, size_t b) {
+    KalebasinPlayResult r = own_play(l, n, s, m, t, k, of, a, b);
     r.ghosts++;
+    if (b > 1) a[1] = KALEBASIN_NO_MEMBER_OR_MESSAGE;
     return r;
 }
 C
     (cd host && KALEBASIN_LIB=$work/other cargo run --offline --quiet -- run -e 's(1,1,70)') >"$work/told"
     [ $? -eq 1 ] && [ "$(grep -cx 'THE MODEL MAKES 0 GHOST' "$work/told")" -eq 1 ] || return
     (cd host && KALEBASIN_LIB=$work/other cargo run --offline --quiet -- run --json -e 's(1,1,70)') >"$work/told"
-    [ $? -eq 1 ] && [ "$(wc -l <"$work/told")" -eq 1 ]
+    [ $? -eq 1 ] && [ "$(wc -l <"$work/told")" -eq 1 ] || return
+    local list='s(1,1,70) 3:s(1,1,80) 3:s(1,4,90)'
+    (cd host && KALEBASIN_LIB=$work/other cargo run --offline --quiet -- run --slot 0 -e "$list") >"$work/told"
+    [ $? -eq 1 ] && grep -q '^   1  3:s(1,1,80)  29  ' "$work/told" && [ "$(grep -cx ' *THE MODEL ANSWERS 0' "$work/told")" -eq 1 ] || return
+    (cd host && KALEBASIN_LIB=$work/other cargo run --offline --quiet -- run --slot 0 --json -e "$list") >"$work/told"
+    [ $? -eq 1 ] && [ "$(grep -o '"notation":"[^"]*"' "$work/told" | tr '\n' ' ')" = '"notation":"s(1,1,70)" "notation":"3:s(1,1,80)" ' ]
 }
 
 build_examples() {
@@ -100,7 +107,7 @@ check "an archive of another version isn't told" other_version_told exports kale
 check "an archive of another version with one member isn't told" other_version_told exports_member kalebasin_member_version
 check "an add that the core answers otherwise isn't told" difference_told add
 check "a preview that the core answers otherwise isn't told" difference_told preview
-check "a sum that play counts otherwise isn't told" sum_told
+check "a sum or an answer that play gives otherwise isn't told" play_told
 
 cargo_tests --no-fail-fast
 passed=$((passed + ran))

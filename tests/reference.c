@@ -1,8 +1,9 @@
-/* Asks the archive what the examples of docs/REFERENCE.md ask. A line is a question, and gets a line of answer, an accepted list three:
+/* Asks the archive what the examples of docs/REFERENCE.md ask. A line is a question, and gets a line of answer, an accepted list three and one for each
+   slot above 0 that has more than its root:
      message HEX
      list HEX
      cause NUMBER
-     write(KIND,ROUND,SENDER,PRESENT,VOTED,VALUE)
+     write(SLOT,KIND,ROUND,SENDER,PRESENT,VOTED,VALUE)
    of one table, add, preview, commit and path by the functions of a tree of commands where "command " stands in front:
      fresh(ROWS)
      add(ROUND,VALUE,PARENT)
@@ -14,7 +15,7 @@
      nodes
      second                                          the nodes of the second table
    of one member:
-     fresh(NUMBER,N)
+     fresh(SLOT,NUMBER,N)
      start(ROUND,OFFER)
      deliver HEX
      record */
@@ -22,12 +23,12 @@
 #include "words.h"
 #include <string.h>
 
-enum { ROOM = 8 + 20 * 1000 + 100, STORE_ROWS = 1000, TABLE_ROWS = 64 };
+enum { ROOM = 8 + 24 * 1000 + 100, STORE_ROWS = 1000, TABLE_ROWS = 64 };
 
 static char line[2 * ROOM + 20], data[ROOM];
 static uint8_t store[STORE_ROWS * KALEBASIN_STORE_ROW], answers[1000];
 typedef uint64_t Table[TABLE_ROWS * KALEBASIN_TABLE_ROW];
-static Table table, before, second;
+static Table table, before, second, tables[KALEBASIN_SLOTS];
 static uint64_t rounds[TABLE_ROWS];
 
 static void put_nodes(const uint64_t *words, size_t rows) {
@@ -38,15 +39,22 @@ static void put_nodes(const uint64_t *words, size_t rows) {
 }
 
 static void put_played(size_t n) {
-    KalebasinPlayResult r = kalebasin_play((uint8_t *)data, n, store, sizeof store, table, sizeof table / 8, answers, sizeof answers);
+    size_t lengths[KALEBASIN_SLOTS];
+    for (size_t slot = 0; slot < KALEBASIN_SLOTS; slot++) lengths[slot] = sizeof *tables / 8;
+    KalebasinPlayResult r =
+        kalebasin_play((uint8_t *)data, n, store, sizeof store, *tables, sizeof tables / 8, lengths, answers, sizeof answers);
     if (r.number) {
         printf("refused with %u: %s", r.number, kalebasin_cause(r.number));
         return;
     }
     printf("answers:");
     for (int i = 0; i < data[7]; i++) printf(" %u", answers[i]); /* the count's low byte: an example has fewer events than 128 */
-    printf("\nnodes: ");
-    put_nodes(table, TABLE_ROWS);
+    for (unsigned slot = 0; slot < KALEBASIN_SLOTS; slot++) {
+        if (slot && !tables[slot][KALEBASIN_TABLE_ROW]) continue;
+        if (slot) printf("\nnodes in slot %u: ", slot);
+        else printf("\nnodes: ");
+        put_nodes(tables[slot], TABLE_ROWS);
+    }
     printf("\nghosts: %u", r.ghosts);
 }
 
@@ -85,7 +93,7 @@ static void put_path(KalebasinPathResult r) {
 }
 
 static KalebasinMemberRecord record;
-static uint8_t reply[28];
+static uint8_t reply[32];
 
 /* The number, what is sent and what is made; the record is the one that came back. */
 static void put_report(KalebasinMemberResult r) {
@@ -100,12 +108,12 @@ static void put_report(KalebasinMemberResult r) {
 }
 
 static void put_record(KalebasinMemberRecord m) {
-    printf("%u %u %u %u %llu %u %u %llu %u %u", m.me, m.n, m.joined, m.voted, (unsigned long long)m.vote, m.led, m.phase, (unsigned long long)m.value,
-           m.source, m.flags);
+    printf("%u %u %u %u %llu %u %u %llu %u %u %u", m.me, m.n, m.joined, m.voted, (unsigned long long)m.vote, m.led, m.phase, (unsigned long long)m.value,
+           m.source, m.flags, m.slot);
 }
 
-static void put_written(uint32_t kind, uint32_t round, uint32_t sender, uint32_t present, uint32_t voted, uint64_t value) {
-    KalebasinWriteResult r = kalebasin_write_message(kind, round, sender, present, voted, value, reply, sizeof reply);
+static void put_written(uint32_t slot, uint32_t kind, uint32_t round, uint32_t sender, uint32_t present, uint32_t voted, uint64_t value) {
+    KalebasinWriteResult r = kalebasin_write_message(slot, kind, round, sender, present, voted, value, reply, sizeof reply);
     printf("%u", r.number);
     for (uint32_t i = 0; i < r.length; i++) printf("%s%02x", i ? i % 4 ? "" : " " : ": ", reply[i]);
 }
@@ -114,7 +122,7 @@ int main(void) {
     size_t rows = 0;
     memset(second, 99, sizeof second);
     while (fgets(line, sizeof line, stdin)) {
-        unsigned a, b, c, d, p, words = 4 * rows, room = TABLE_ROWS;
+        unsigned a, b, c, d, e, p, words = 4 * rows, room = TABLE_ROWS;
         unsigned long long v;
         const int commands = !strncmp(line, "command ", 8);
         const Tree *tree = commands ? &of_commands : &of_values;
@@ -122,12 +130,12 @@ int main(void) {
         if (!strncmp(line, "message ", 8)) put_words(stdout, kalebasin_read_message((uint8_t *)data, bytes_of(line + 8, data, ROOM)));
         else if (!strncmp(line, "list ", 5)) put_played(bytes_of(line + 5, data, ROOM));
         else if (sscanf(line, "cause %u", &a) == 1) printf("%s", kalebasin_cause(a));
-        else if (sscanf(line, "fresh(%u,%u)", &a, &p) == 2) put_report(kalebasin_member_fresh(a, p));
+        else if (sscanf(line, "fresh(%u,%u,%u)", &a, &b, &p) == 3) put_report(kalebasin_member_fresh(a, b, p));
         else if (sscanf(line, "start(%u,%llu)", &a, &v) == 2) put_report(kalebasin_member_start(record, a, v, reply, sizeof reply));
         else if (!strncmp(line, "deliver ", 8))
             put_report(kalebasin_member_deliver(record, (uint8_t *)data, bytes_of(line + 8, data, ROOM), reply, sizeof reply));
         else if (!strncmp(line, "record", 6)) put_record(record);
-        else if (sscanf(line, "write(%u,%u,%u,%u,%u,%llu)", &a, &b, &c, &d, &p, &v) == 6) put_written(a, b, c, d, p, v);
+        else if (sscanf(line, "write(%u,%u,%u,%u,%u,%u,%llu)", &a, &b, &c, &d, &e, &p, &v) == 7) put_written(a, b, c, d, e, p, v);
         else if (sscanf(line, "fresh(%u)", &a) == 1 && a <= TABLE_ROWS) printf("%u", kalebasin_tree_fresh(table, 4 * (rows = a)));
         else if (sscanf(call, "add(%u,%llu,%u)", &a, &v, &p) == 3) put_added(tree, rows, a, v, p);
         else if (sscanf(call, "preview(%u,%llu,%u) into %u words", &a, &v, &p, &words) >= 3 && words <= sizeof second / 8)
