@@ -6,12 +6,18 @@ cd "$(dirname "$0")/.." || exit 2
 passed=0
 failed=0
 shape='that can be named from here|has no field `|is not in scope|does not define it|[Pp]arse error| error: `[^`]*-spec`:'
+# a place, or a type of data, where another is wanted; a definition that has no type
+shape+='|(expected|has) type `[^` ]*([Ll]ts|tie)\.[A-Z]|(expected|has)( type)? `\(?([^` ]*\.)?(ℕ|Bool|List [^`]*)`'
+shape+='|^[^:]*/must-fail/[^/:]*/[^/:]*/specs/[^:]*:[0-9:]* error: '
 for edit in crates/*/must-fail/*.edit; do
     [ -e "$edit" ] || continue
     crate=$(basename "$(dirname "$(dirname "$edit")")")
     log=target/must-fail/$crate/$(basename "$edit" .edit)/.log
-    # what rests on a refused part is not admitted either, and says nothing more
-    errors=$(grep -E ' error: |: it is not proved that ' "$log" 2>/dev/null | grep -v 'was not admitted')
+    # An error goes on in indented lines, of which one with `here` explains names; what rests on a refused part is not admitted either, and
+    # says nothing more.
+    errors=$(awk '/ error: |: it is not proved that / { own = !/was not admitted/; if (own) printf "\n%s", $0; next }
+        /^  / { if (own && !/^  here /) printf "%s", $0; next }
+        { own = 0 }' "$log" 2>/dev/null)
     if [ ! -s "$log" ]; then
         echo "refusals: no log of $edit"
         failed=$((failed + 1))
