@@ -7,7 +7,8 @@ passed=0
 failed=0
 shape='that can be named from here|has no field `|is not in scope|does not define it|[Pp]arse error| error: `[^`]*-spec`:'
 # a place, or a type of data, where another is wanted; a definition that has no type
-shape+='|(expected|has) type `[^` ]*([Ll]ts|tie)\.[A-Z]|(expected|has)( type)? `\(?([^` ]*\.)?(ℕ|Bool|List [^`]*)`'
+shape+='|(expected|has) type `[^` ]*([Ll]ts|tie)\.[A-Z]'
+shape+='|((expected|has) type|computed as far as they go, the two types [a-z ]*where one has) `\(?([^` ]*\.)?(ℕ|Bool|List [^`]*)`'
 shape+='|^[^:]*/must-fail/[^/:]*/[^/:]*/specs/[^:]*:[0-9:]* error: '
 for edit in crates/*/must-fail/*.edit; do
     [ -e "$edit" ] || continue
