@@ -235,7 +235,7 @@ pub fn valid_messages() -> Vec<Vec<u8>> {
     in_slot(Slot(0)).chain(in_slot(Slot(7))).collect()
 }
 
-/// Looks at message bytes: all that [`each_spelt_message`] gives, and every byte string of up to 3 bytes.
+/// Looks at message bytes: all that `each_spelt_message` gives, and every byte string of up to 3 bytes.
 pub fn each_message(look: &mut Look) -> Result<(), String> {
     each_spelt_message(look)?;
     each_byte_string(3, look)
@@ -268,7 +268,7 @@ pub fn messages(calls: Pair) -> Compared {
     Ok(compared)
 }
 
-/// All that [`each_spelt_message`] gives, delivered to the leader of round 2 of seven members, in slots 0 and 7.
+/// All that `each_spelt_message` gives, delivered to the leader of round 2 of seven members, in slots 0 and 7.
 pub fn delivered_messages(calls: Pair) -> Compared {
     let (mut compared, mut reply) = (0, [0; Message::LONGEST]);
     for slot in [Slot(0), Slot(7)] {
