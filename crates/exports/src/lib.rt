@@ -1,5 +1,6 @@
 // The C functions that the host calls: play, the message reader and the calls of both kinds of trees, thin over the proved crates. A slice passes as
 // a pointer and a count of elements. A number is 0 for OK, else a refusal.
+#![tactic(auto)]
 ghost use Rattle.std.specs.Prelude.{◌≡◌, true, false};
 ghost use Rattle.tree_theory.specs.Machine.{add, commit};
 ghost use Rattle.tree_theory.specs.Table.{fresh_number, fresh_table};
@@ -25,7 +26,7 @@ pub extern "C" fn kalebasin_version() -> u32
 
 // With a refusal each count is 0.
 #[repr(C)]
-#[derive(Drop)]
+#[derive(Clone, Copy)]
 pub struct PlayResult {
     pub number: u32,
     pub accepted: u32,
@@ -61,7 +62,7 @@ pub extern "C" fn kalebasin_play(
 
 // A field that the kind doesn't have is 0; with a refusal all but the number.
 #[repr(C)]
-#[derive(Drop)]
+#[derive(Clone, Copy)]
 pub struct MessageResult {
     pub number: u32,
     pub slot: u32,
@@ -163,7 +164,7 @@ pub extern "C" fn kalebasin_tree_fresh(nodes: &mut [u64]) -> u32
 
 // How many rounds are ADDED before an add and GHOST after it, of a preview before and after the add that it shows; 0 with a refusal.
 #[repr(C)]
-#[derive(Drop)]
+#[derive(Clone, Copy)]
 pub struct AddResult {
     pub number: u32,
     pub ghosts: u32,
@@ -267,7 +268,7 @@ pub extern "C" fn kalebasin_command_commit(nodes: &mut [u64], round: u32) -> u32
 
 // With a refusal the count is 0.
 #[repr(C)]
-#[derive(Drop)]
+#[derive(Clone, Copy)]
 pub struct PathResult {
     pub number: u32,
     pub count: u32,

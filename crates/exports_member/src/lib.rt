@@ -1,6 +1,7 @@
 // The C functions of one member on one machine, thin over the proved member calls and the writer of messages. They are an archive of their own,
 // so that play's has one place of call for a member's step, and the compiler makes the step part of play. A record passes by value,
 // as numbers alone (`member_fields`); what is no sound record is refused with 17.
+#![tactic(auto)]
 ghost use Rattle.std.specs.Prelude.{◌≡◌, ◌≤◌};
 ghost use Rattle.message.specs.Layout.{longest_message};
 ghost use Rattle.member_record.specs.Record.{slot_number};
@@ -27,7 +28,7 @@ pub extern "C" fn kalebasin_member_version() -> u32
 
 // What a member call hands back. With a refusal the record is as it came, and all else but the number is 0.
 #[repr(C)]
-#[derive(Drop)]
+#[derive(Clone, Copy)]
 pub struct MemberResult {
     pub number: u32,
     // The length of the message at the front of the reply.
@@ -42,7 +43,7 @@ pub struct MemberResult {
 
 // With a refusal the length is 0.
 #[repr(C)]
-#[derive(Drop)]
+#[derive(Clone, Copy)]
 pub struct WriteResult {
     pub number: u32,
     pub length: u32,

@@ -1,19 +1,21 @@
 // Round numbers, member numbers and slot numbers, three types that can't stand for one another (01, "Members"; 02, ticket 6), and the map from
 // rounds to members.
+#![tactic(auto)]
+
 ghost use Rattle.std.specs.Prelude.{◌≡◌, not, ◌<◌, ◌%◌};
 ghost use Rattle.ids.specs.Ranges.{above_range, out_of_range, no_slot};
 
 #[repr(C)]
-#[derive(Drop)]
+#[derive(Clone, Copy)]
 pub struct Round(pub u32);
 
 #[repr(C)]
-#[derive(Drop)]
+#[derive(Clone, Copy)]
 pub struct Member(pub u32);
 
 // Which of an office's password sets: 0 to 7.
 #[repr(C)]
-#[derive(Drop)]
+#[derive(Clone, Copy)]
 pub struct Slot(pub u32);
 
 // An office has so many slots.

@@ -28,6 +28,7 @@ module _ {ℓ} {A : Type ℓ} where
   pub any_intro : (p : A → Bool) (l : List A) {a : A} → a ∈ l → p a ≡ true → any p l ≡ true
   any_intro p (x ∷ l) (here e) h = rw (← e, h) refl
   any_intro p (x ∷ l) (there m) h = by_test (p x) (λ t. rw t refl) (λ t. rw t (any_intro p l m h))
+  any_intro p [] {a = a} x'' h = elim x'' [ ]
 
   -- an element that passes, handed on
   pub any_elim {κ} : {C : Type κ} (p : A → Bool) (l : List A) → any p l ≡ true → ((a : A) → a ∈ l → p a ≡ true → C) → C
@@ -39,6 +40,7 @@ module _ {ℓ} {A : Type ℓ} where
   pub any_none : (p : A → Bool) (l : List A) → any p l ≡ false → (a : A) → a ∈ l → p a ≡ false
   any_none p (x ∷ l) h a (here e) = rw e (or_left (p x) (any p l) h)
   any_none p (x ∷ l) h a (there m) = any_none p l (or_right (p x) (any p l) h) a m
+  any_none p [] h a x'' = elim x'' [ ]
 
   pub none_any : (p : A → Bool) (l : List A) → ((a : A) → a ∈ l → p a ≡ false) → any p l ≡ false
   none_any p [] f = refl

@@ -1,1 +1,3 @@
 // Laws on Booleans, tests, lists and memberships that the other crates' meanings and proofs share. No code.
+
+#![tactic(auto)]

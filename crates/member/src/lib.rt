@@ -1,5 +1,6 @@
 // The member steps of 01, "Members", by value: a sound record and an event in, the new record and the answer out. Messages stand here without their slot,
 // which is the record's own (02, ticket 6): who delivers one has tested it, and who sends one puts it in front.
+#![tactic(auto)]
 mod rows;
 
 ghost use Rattle.std.specs.Prelude.{◌≡◌, true};
@@ -14,7 +15,7 @@ use message::Body;
 use rows::{on_message, on_start_call};
 
 // What a step answers.
-#[derive(Drop)]
+#[derive(Clone, Copy)]
 pub enum StepAnswer {
     // 01's number.
     Refused(u32),
@@ -37,14 +38,14 @@ pub enum StepAnswer {
 }
 
 // What a row of the table leaves: the new record beside the answer.
-#[derive(Drop)]
+#[derive(Clone, Copy)]
 pub struct Move {
     pub state: MemberState,
     pub answer: StepAnswer,
 }
 
 // A step: the new record beside the answer, and whether one of J, V, W and L changed.
-#[derive(Drop)]
+#[derive(Clone, Copy)]
 pub struct MemberStep {
     pub state: MemberState,
     pub answer: StepAnswer,

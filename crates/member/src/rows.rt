@@ -167,7 +167,7 @@ fn on_propose(m: MemberState, r: Round, s: Member, v: u64) -> Move
 }
 
 // The row by which a message is handled. JOIN and VOTE share one, each counted in its phase, so that both are counted at one place.
-#[derive(Drop)]
+#[derive(Clone, Copy)]
 enum MessageRow {
     StartRow {
         round: Round,

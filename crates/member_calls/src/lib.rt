@@ -1,5 +1,6 @@
 // The member calls of 01, "Members", by value: a record in and out, and a reply buffer that what is sent is put in. A record takes messages of its own slot
 // alone, and what it sends is of that slot (02, ticket 6).
+#![tactic(auto)]
 pub mod reply;
 
 ghost use Rattle.std.specs.Prelude.{◌≡◌};

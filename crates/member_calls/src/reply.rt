@@ -15,7 +15,7 @@ use message::{Body, Message};
 
 // The result of a call: numbers of 01. Each that the call does not give or name is 0.
 #[repr(C)]
-#[derive(Drop)]
+#[derive(Clone, Copy)]
 pub struct Report {
     // Of the place table; 0 is OK.
     pub number: u32,
@@ -30,7 +30,7 @@ pub struct Report {
 }
 
 // The record after a call, beside its result.
-#[derive(Drop)]
+#[derive(Clone, Copy)]
 pub struct AfterCall {
     pub state: MemberState,
     pub report: Report,

@@ -3,6 +3,7 @@
 // slot, number and N for fresh; round and offer for start; the length of the reply, at most 40; the length of the message, at most 36, and 36 bytes
 // that start with it. A line for each case: the number, the sent length, the round, the value and the parent; the record after; each byte
 // of the reply after, in hex. Before a call each of these bytes is aa.
+#![tactic(auto)]
 ghost use Rattle.std.specs.Prelude.{◌+◌, ◌≤◌, length};
 
 use ids::{Member, Round, Slot};

@@ -1,4 +1,5 @@
 // A member record as numbers, for C: any bytes that a host puts there are some numbers.
+#![tactic(auto)]
 ghost use Rattle.std.specs.Prelude.{◌≡◌, ◌≤◌};
 ghost use Rattle.member_fields.specs.Fields.{BitAdded, bit, flags_of, mask_of, no_mask, state_of, fields_of, no_fields};
 
@@ -7,7 +8,7 @@ use member_record::{Durable, Lead, MemberState, Who};
 
 // A member record as numbers, in 01's order, and its slot behind them (02, ticket 6). No byte stands between them; four that say nothing stand behind the last.
 #[repr(C)]
-#[derive(Drop)]
+#[derive(Clone, Copy)]
 pub struct MemberFields {
     pub me: u32,
     pub n: u32,

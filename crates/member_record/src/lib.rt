@@ -1,4 +1,5 @@
 // The member record of 01, "Members", and the fresh record. Its layout is C's, since `member_lent` takes it lent.
+#![tactic(auto)]
 ghost use Rattle.std.specs.Prelude.{◌≡◌, ◌≤◌};
 ghost use Rattle.quorum.specs.Count.{count};
 ghost use Rattle.member_record.specs.Phases.{needed};
@@ -18,7 +19,7 @@ pub const DECIDED: u32 = 3;
 
 // Which member of which office a record is, and for which of its slots.
 #[repr(C)]
-#[derive(Drop)]
+#[derive(Clone, Copy)]
 pub struct Who {
     // The slot whose messages it takes (02, ticket 6).
     pub slot: Slot,
@@ -30,7 +31,7 @@ pub struct Who {
 
 // What must last: a member that forgot one of these could vote or lead against what it did.
 #[repr(C)]
-#[derive(Drop)]
+#[derive(Clone, Copy)]
 pub struct Durable {
     // J, the highest round joined or voted.
     pub joined: Round,
@@ -44,7 +45,7 @@ pub struct Durable {
 
 // What belongs to leading the round last led. In this order it takes the least room.
 #[repr(C)]
-#[derive(Drop)]
+#[derive(Clone, Copy)]
 pub struct Lead {
     // IDLE, COLLECTING, PROPOSED or DECIDED.
     pub phase: u32,
@@ -57,7 +58,7 @@ pub struct Lead {
 }
 
 #[repr(C)]
-#[derive(Drop)]
+#[derive(Clone, Copy)]
 pub struct MemberState {
     pub who: Who,
     pub durable: Durable,

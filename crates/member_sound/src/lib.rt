@@ -1,4 +1,5 @@
 // Which member records are sound (01, "Members"; 02, ticket 6); else number 17.
+#![tactic(auto)]
 ghost use Rattle.std.specs.Prelude.{◌≡◌, ◌≤◌};
 ghost use Rattle.member_record.specs.Record.{sound_durable, sound_flags, sound_idle, sound_count, sound_leading, sound_lead, sound};
 

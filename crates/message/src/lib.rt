@@ -1,4 +1,5 @@
 // The messages of 01, "Messages", and 02, ticket 6: slot and body, its ranges, and what the reader and the writer answer.
+#![tactic(auto)]
 ghost use Rattle.std.specs.Prelude.{◌≡◌};
 ghost use Rattle.message.specs.Fields.{head_in_range, vote_in_range, in_range};
 ghost use Rattle.message.specs.Layout.{no_kind};
@@ -6,7 +7,7 @@ ghost use Rattle.message.specs.Layout.{no_kind};
 use ids::{Member, Round, Slot};
 
 // What a message says: one of the four kinds, a JOIN without or with a vote.
-#[derive(Drop)]
+#[derive(Clone, Copy)]
 pub enum Body {
     Start {
         round: Round,
@@ -34,21 +35,21 @@ pub enum Body {
 }
 
 // A message by value: the slot that it is of, and what it says (02, ticket 6).
-#[derive(Drop)]
+#[derive(Clone, Copy)]
 pub struct Message {
     pub slot: Slot,
     pub body: Body,
 }
 
 // What bytes read as: the message, or the number of the place table that refuses them.
-#[derive(Drop)]
+#[derive(Clone, Copy)]
 pub enum Read {
     Got(Message),
     Refused(u32),
 }
 
 // What the writer answers: its number, and the length of what it put at the front; with a refusal that is 0.
-#[derive(Drop)]
+#[derive(Clone, Copy)]
 pub struct Written {
     pub number: u32,
     pub length: usize,

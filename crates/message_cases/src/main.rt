@@ -1,5 +1,6 @@
 // Writes a message of each kind and some with a slot or fields out of range, prints the bytes, and reads them back; then reads damaged bytes, and
 // some for a member of slot 5. A line has bytes in hex and what they read as; of a refused message it has the number and the buffer as that left it.
+#![tactic(auto)]
 use ids::{Member, Round, Slot};
 use libc::STDOUT_FILENO;
 use message::{Body, LONGEST, Message, Read};

@@ -1,4 +1,5 @@
 // The reader of messages (01, "Messages"; 02, ticket 6).
+#![tactic(auto)]
 ghost use Rattle.std.specs.Prelude.{◌≡◌, false, ◌+◌, ◌≤◌, length, take};
 ghost use Rattle.ids.specs.Ranges.{no_slot};
 ghost use Rattle.message.specs.declared.Body.TheVariants.{Start, Join, JoinVoted, Propose, Vote};

@@ -1,4 +1,5 @@
 // The writer of messages (01, "Messages"; 02, ticket 6).
+#![tactic(auto)]
 ghost use Rattle.std.specs.Prelude.{◌≡◌, [], ◌∷◌, ◌≤◌, length};
 ghost use Rattle.laws.specs.First.{first};
 ghost use Rattle.xdr.specs.Items.{integer, long, span};

@@ -1,5 +1,7 @@
 // The numbers of 01's place table and of 02, a name and a cause for each. A call that answers nothing else answers its number; else the number is a
 // field of its answer, or what its refusal holds. 0 is OK.
+#![tactic(auto)]
+
 ghost use Rattle.std.specs.Prelude.{◌≡◌};
 ghost use Rattle.numbers.specs.Numbers.{no_row_left};
 

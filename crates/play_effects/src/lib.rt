@@ -1,5 +1,6 @@
 // What the answer of a member's step does to the store, to the table of its slot and to what an office counts (01, "Play"): a message goes behind the
 // others, a proposal is added to the table, a decision committed.
+#![tactic(auto)]
 ghost use Rattle.std.specs.Prelude.{◌≡◌, true, ◌<◌, ◌≤◌};
 ghost use Rattle.tree_theory.specs.Machine.{add, commit};
 ghost use Rattle.tree_theory.specs.Table.{sized, Tree};
@@ -12,7 +13,7 @@ use ids::Round;
 use message::Message;
 
 // N, and of all slots how many messages were sent, proposals and decisions made, and how many rounds the proposals made GHOST.
-#[derive(Drop)]
+#[derive(Clone, Copy)]
 pub struct Tally {
     pub n: u32,
     pub sent: usize,
@@ -22,7 +23,7 @@ pub struct Tally {
 }
 
 // An event's number, and the tally after it. What becomes of the member's record goes by the number: whoever holds the records sees to it.
-#[derive(Drop)]
+#[derive(Clone, Copy)]
 pub struct EventEffect {
     pub tally: Tally,
     pub number: u32,

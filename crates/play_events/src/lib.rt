@@ -1,4 +1,5 @@
 // Event lists (01, "Play"; 02, ticket 6): the head, which is N and the event count, then the events. Both are read here alone.
+#![tactic(auto)]
 ghost use Rattle.std.specs.Prelude.{◌≡◌, ◌≤◌, length};
 ghost use Rattle.play_events.specs.List.{HEAD_BYTES, event_size, head_of, exact, body, list_fits};
 ghost use Rattle.play_events.specs.Value.{ReadsEvent};
@@ -29,7 +30,7 @@ pub const MOST_EVENTS: usize = 1000;
 pub const LONGEST_LIST: usize = HEAD_BYTES + START_BYTES * MOST_EVENTS;
 
 // N, the event count, and where the events begin.
-#[derive(Drop)]
+#[derive(Clone, Copy)]
 pub struct ListHead {
     pub members: u32,
     pub count: u32,
@@ -37,7 +38,7 @@ pub struct ListHead {
 }
 
 // An event of a slot by value.
-#[derive(Drop)]
+#[derive(Clone, Copy)]
 pub enum PlayEvent {
     Start {
         member: Member,
@@ -51,7 +52,7 @@ pub enum PlayEvent {
 }
 
 // An event's slot, the event, and how many bytes it takes.
-#[derive(Drop)]
+#[derive(Clone, Copy)]
 pub struct EventRead {
     pub slot: Slot,
     pub event: PlayEvent,

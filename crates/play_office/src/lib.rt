@@ -1,4 +1,5 @@
 // An office in play: what its records are at first, what it counts, the step of an event, and what the step's answer comes to (01, "Play"; 02, ticket 6).
+#![tactic(auto)]
 pub mod event;
 
 ghost use Rattle.std.specs.Prelude.{◌≡◌};
@@ -14,7 +15,7 @@ use play_effects::{EventEffect, Tally, decide, propose, refused_event, send};
 
 // What play holds of a member's record is all but who it is, which each of its events says. It is held in two parts, neither with a gap between its
 // fields: those at first, zeros, are written at once, and no gap is copied. These are J, V and W, L and B.
-#[derive(Drop)]
+#[derive(Clone, Copy)]
 pub struct HeldRounds {
     pub joined: Round,
     pub voted: Round,
@@ -24,7 +25,7 @@ pub struct HeldRounds {
 }
 
 // And these X, the flags, and the phase, which a byte holds.
-#[derive(Drop)]
+#[derive(Clone, Copy)]
 pub struct HeldLead {
     pub value: u64,
     pub flags: [bool; 7],

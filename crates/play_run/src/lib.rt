@@ -1,4 +1,5 @@
 // The events of a list that play takes, one after another (01, "Play"; 02, ticket 6).
+#![tactic(auto)]
 ghost use Rattle.play_run.specs.Lent.{as_lent};
 ghost use Rattle.play_run.specs.Ran.{SettleBefore, PartSettled, Ready, Ran};
 
@@ -9,7 +10,7 @@ use play_office::event::{place, record_of, step_event, table_slot};
 use play_office::{RECORDS, fresh_tally, lead_of, no_lead, no_rounds, rounds_of, settle};
 
 // The number of a list, and what its events came to; with a refusal each count is 0.
-#[derive(Drop)]
+#[derive(Clone, Copy)]
 pub struct PlayAnswer {
     pub number: u32,
     pub accepted: u32,

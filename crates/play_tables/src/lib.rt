@@ -1,4 +1,5 @@
 // The tables of the eight slots (02, ticket 6): one slice of 64-bit words holds them one after another in slot order, and each has its length.
+#![tactic(auto)]
 ghost use Rattle.std.specs.Prelude.{◌≡◌, ◌<◌, replicate};
 ghost use Rattle.ids.specs.Ranges.{SLOTS};
 ghost use Rattle.tree_theory.specs.Table.{fresh_table};

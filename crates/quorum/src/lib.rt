@@ -1,4 +1,6 @@
 // The quorum of an office. Facts about quorums, for every number of members, are in proofs/.
+#![tactic(auto)]
+
 ghost use Rattle.std.specs.Prelude.{◌≡◌};
 ghost use Rattle.quorum.specs.Quorum.{quorum};
 
@@ -6,6 +8,7 @@ ghost use Rattle.quorum.specs.Quorum.{quorum};
 const NO_QUORUM: u32 = 8;
 
 // The quorum of an office of n members, a case for each size.
+#[tactic(auto, unfolding(crate::specs::Quorum::quorum))]
 pub fn quorum_of(n: u32) -> u32
     ensures { result ≡ quorum n }
 {

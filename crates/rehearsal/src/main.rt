@@ -1,5 +1,6 @@
 // The rehearsal program (01, "Play"): reads a list from standard input and writes what `rehearsal_output` makes of it. Where reading or
 // writing fails it says so on standard error.
+#![tactic(auto)]
 ghost use Rattle.std.specs.Prelude.{◌≤◌, length};
 ghost use Rattle.rehearsal_output.specs.Output.{ENOUGH};
 

@@ -1,5 +1,6 @@
 // The quorum tree in lent memory (01, "The tree"): fresh, add, preview, commit and path over a slice of 64-bit words, four a row. `valued` says which
 // kind of tree it is: true for a value tree, 01's, whose values are compared; false for a command tree (02, ticket 1), whose aren't.
+#![tactic(auto)]
 ghost use Rattle.std.specs.Prelude.{◌≡◌, true, false};
 ghost use Rattle.numbers.specs.Numbers.{OK};
 ghost use Rattle.tree_theory.specs.Machine.{add, commit};
@@ -13,14 +14,14 @@ use tree_steps::call::{Plan, TreeCall};
 
 // The number of an add, a preview or a commit, and how many rounds it made GHOST, or a preview's add would (02, ticket 3): those that were ADDED
 // before it. 0 with a refusal; a commit makes none.
-#[derive(Drop)]
+#[derive(Clone, Copy)]
 pub struct CallAnswer {
     pub number: u32,
     pub ghosts: u32,
 }
 
 // How many rounds were written; 0 with a refusal.
-#[derive(Drop)]
+#[derive(Clone, Copy)]
 pub struct PathAnswer {
     pub number: u32,
     pub count: usize,

@@ -4,6 +4,7 @@
 // as s(words) says behind the last f; A, C, P and V are those of a command tree; w(word,value) writes a word of the table. All that is read is
 // written again: behind each call its number (of an add also how many rounds it made GHOST, of a path how many rounds, and the slice, of a preview
 // how many rounds would be made GHOST, and the second table), behind each line each node's round, parent, value and status.
+#![tactic(auto)]
 ghost use Rattle.std.specs.Prelude.{◌+◌, ◌*◌, ◌≤◌, length};
 
 use ids::Round;

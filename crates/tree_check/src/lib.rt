@@ -1,6 +1,7 @@
 // Whether a lent slice of 64-bit words is a node table that some list of calls leaves (01, "The tree"; numbers 1 and 2 of the place table), and
 // whether one can be previewed in another. `valued` says whether the tree's values are compared. The check takes time in the square of the used
 // rows.
+#![tactic(auto)]
 mod rows;
 
 ghost use Rattle.std.specs.Prelude.{◌≡◌, true, ◌*◌, ◌≤◌, ◌<◌, length};

@@ -5,7 +5,7 @@ ghost use Rattle.tree_crossing.specs.Looked.{look_of};
 
 // What the rows say of an edge (r, p): how many they are, whether one has round r, the first that has round p (as many as they are where none
 // has), whether one has a round above r, whether the edge crosses a COMMITTED one, and how many ADDED ones it crosses.
-#[derive(Drop)]
+#[derive(Clone, Copy)]
 pub struct Look {
     pub used: usize,
     pub present: bool,

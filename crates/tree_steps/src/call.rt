@@ -5,7 +5,7 @@ ghost use Rattle.tree_steps.specs.Planned.{call_of, call_written, call_strikes, 
 
 use ids::Round;
 
-#[derive(Drop)]
+#[derive(Clone, Copy)]
 pub enum TreeCall {
     Add {
         round: Round,
@@ -18,7 +18,7 @@ pub enum TreeCall {
 }
 
 // What a call comes to: its number and, where that is OK, the row that it writes, the status that it writes there, and how many others it strikes.
-#[derive(Drop)]
+#[derive(Clone, Copy)]
 pub struct Plan {
     pub number: u32,
     pub row: usize,

@@ -28,6 +28,7 @@ pub in_adds : {n : Node} (l : List Node) → n ∈ l → add_of n ∈ adds_of l
 unfolding adds_of
 in_adds (x ∷ l) (here e) = rw e (here refl)
 in_adds (x ∷ l) (there m) = there (in_adds l m)
+in_adds {n = n} [] x' = elim x' [ ]
 
 pub of_adds {κ} : {C : Type κ} {c : Call} (l : List Node) → c ∈ adds_of l → ((n : Node) → n ∈ l → c ≡ add_of n → C) → C
 unfolding adds_of
@@ -70,6 +71,7 @@ in_commits {n} (x ∷ l) (there m) s =
     by_test (eqb x.status COMMITTED)
     (λ t. rw (commits_taken x l t) (there (in_commits l m s)))
     (λ t. rw (commits_passed x l t) (in_commits l m s))
+in_commits {n = n} [] x'' s = elim x'' [ ]
 
 pub of_commits {κ} : {C : Type κ} {c : Call} (l : List Node) → c ∈ commits_of l → ((n : Node) → n ∈ l → n.status ≡ COMMITTED → c ≡ commit n.round → C) → C
 unfolding commits_of

@@ -44,6 +44,7 @@ module _ (h : List Call) where
   in_added (add r v p ∷ cs) (there m) = there (in_added cs m)
   in_added (commit r ∷ cs) (here e) = impossible (cc)
   in_added (commit r ∷ cs) (there m) = in_added cs m
+  in_added {r = r} {v = v} {p = p} [] x' = elim x' [ ]
 
   pub of_added {κ} : {C : Type κ} {n : Node} (cs : List Call) → n ∈ added_nodes h cs → ((r v p : ℕ) → add r v p ∈ cs → n ≡ made h r v p → C) → C
   unfolding added_nodes

@@ -1,4 +1,5 @@
 // XDR words (RFC 4506): unsigned integers of 4 bytes and unsigned hypers of 8, high byte first, at a place of a slice.
+#![tactic(auto)]
 ghost use Rattle.std.specs.Prelude.{◌≡◌, ◌++◌, ◌+◌, ◌≤◌, ◌<◌, length, take, drop};
 ghost use Rattle.xdr.specs.Words.{word, hyper, word_at, hyper_at};
 

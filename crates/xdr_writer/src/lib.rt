@@ -1,4 +1,5 @@
 // The writer of 01, "Messages": it holds the buffer lent for the reply and how far it has got. Each function puts one XDR number.
+#![tactic(auto)]
 ghost use Rattle.std.specs.Prelude.{◌≡◌, ◌+◌, ◌≤◌, length};
 ghost use Rattle.xdr.specs.Items.{integer, long};
 ghost use Rattle.xdr_writer.specs.Put.{Puts, putting};
