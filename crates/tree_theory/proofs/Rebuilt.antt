@@ -198,5 +198,7 @@ module _ (valued : Bool) (rows : ℕ) (h : List Call) (S : Story valued rows h) 
       stated_rebuilt n (there m) = of_added h h m (λ r v p i e. rw e (history_stated h r))
 
       ghosts_rebuilt : (n : Node) → n ∈ rebuilt h → eqb n.status GHOST ≡ crossed n.round (rebuilt h)
-      ghosts_rebuilt n (here e) = rw e (sym (crossed_rebuilt 0 ∙ root_clear))
-      ghosts_rebuilt n (there m) = of_added h h m (λ r v p i e. rw e (ghost_made i ∙ sym (crossed_rebuilt r)))
+      ghosts_rebuilt n (here e) = subst (λ x. eqb x.status GHOST ≡ crossed x.round (rebuilt h)) (sym e) (sym (crossed_rebuilt 0 ∙ root_clear))
+      ghosts_rebuilt n (there m) =
+          of_added h h m (λ r v p i e.
+          subst (λ x. eqb x.status GHOST ≡ crossed x.round (rebuilt h)) (sym e) (ghost_made i ∙ sym (crossed_rebuilt r)))
