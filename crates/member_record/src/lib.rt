@@ -1,5 +1,6 @@
 // The member record of 01, "Members", and the fresh record. Its layout is C's, since `member_lent` takes it lent.
 #![tactic(auto)]
+
 ghost use Rattle.std.specs.Prelude.{◌≡◌, ◌≤◌};
 ghost use Rattle.quorum.specs.Count.{count};
 ghost use Rattle.member_record.specs.Phases.{needed};
@@ -82,6 +83,7 @@ pub fn changes_durable(before: Durable, after: Durable) -> bool
 }
 
 // How many flags a phase needs to end, or ended with: the quorum of the office in each.
+#[tactic(auto, unfolding(crate::specs::Phases::needed))]
 pub fn needed(who: Who, phase: u32) -> u32
     ensures { result ≡ needed who phase }
 {
@@ -89,6 +91,7 @@ pub fn needed(who: Who, phase: u32) -> u32
 }
 
 // How many of the members below `to` are flagged.
+#[tactic(auto, unfolding(quorum::specs::Count::count))]
 pub fn count_below(flags: [bool; 7], to: usize) -> u32
     requires { to ≤ 7 }
     ensures { result ≡ count (flag flags) to }
@@ -105,6 +108,7 @@ pub fn count_below(flags: [bool; 7], to: usize) -> u32
 }
 
 // How many members are flagged.
+#[tactic(auto, unfolding(crate::specs::Record::flagged))]
 pub fn count_flags(flags: [bool; 7]) -> u32
     ensures { result ≡ flagged flags }
 {
