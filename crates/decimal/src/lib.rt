@@ -1,5 +1,6 @@
 // Numbers as text: decimal digits in ASCII, put at a place of lent bytes. Each function answers the place behind what it put.
 #![tactic(auto)]
+
 ghost use Rattle.std.specs.Prelude.{◌≡◌, [], ◌∷◌, ◌+◌, ◌-◌, ◌≤◌, ◌<◌, length, replicate};
 ghost use Rattle.decimal.specs.Digits.{BLANK, digit, decimal, decimal_in};
 ghost use Rattle.decimal.specs.Text.{PutText};
