@@ -1,5 +1,6 @@
 // XDR words (RFC 4506): unsigned integers of 4 bytes and unsigned hypers of 8, high byte first, at a place of a slice.
 #![tactic(auto)]
+
 ghost use Rattle.std.specs.Prelude.{◌≡◌, ◌++◌, ◌+◌, ◌≤◌, ◌<◌, length, take, drop};
 ghost use Rattle.xdr.specs.Words.{word, hyper, word_at, hyper_at};
 
@@ -11,6 +12,7 @@ fn wide(b: u8) -> u32
 }
 
 // The unsigned integer at a place.
+#[tactic(auto, using(crate::proofs::Laws::word_bytes))]
 pub fn word_at(s: &[u8], at: usize) -> u32
     requires { at + 4 ≤ length s.now }
     ensures { result ≡ word_at s.now at }
@@ -23,6 +25,7 @@ pub fn word_at(s: &[u8], at: usize) -> u32
 }
 
 // The unsigned hyper at a place: its high word, then its low word.
+#[tactic(auto, using(crate::proofs::Laws::hyper_at_words))]
 pub fn hyper_at(s: &[u8], at: usize) -> u64
     requires { at + 8 ≤ length s.now }
     ensures { result ≡ hyper_at s.now at }
@@ -33,6 +36,7 @@ pub fn hyper_at(s: &[u8], at: usize) -> u64
 }
 
 // Writes an unsigned integer at a place, and nothing beside it.
+#[tactic(auto, using(crate::proofs::Laws::word_stored))]
 pub fn set_word(buf: &mut [u8], at: usize, x: u32)
     requires { at + 4 ≤ length buf.old }
     ensures { buf.new ≡ take at buf.old ++ word x ++ drop (at + 4) buf.old }
@@ -44,6 +48,7 @@ pub fn set_word(buf: &mut [u8], at: usize, x: u32)
 }
 
 // Writes an unsigned hyper at a place, and nothing beside it.
+#[tactic(auto, using(crate::proofs::Laws::hyper_stored))]
 pub fn set_hyper(buf: &mut [u8], at: usize, x: u64)
     requires { at + 8 ≤ length buf.old }
     ensures { buf.new ≡ take at buf.old ++ hyper x ++ drop (at + 8) buf.old }
