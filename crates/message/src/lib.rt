@@ -1,5 +1,6 @@
 // The messages of 01, "Messages", and 02, ticket 6: slot and body, its ranges, and what the reader and the writer answer.
 #![tactic(auto)]
+
 ghost use Rattle.std.specs.Prelude.{◌≡◌};
 ghost use Rattle.message.specs.Fields.{head_in_range, vote_in_range, in_range};
 ghost use Rattle.message.specs.Layout.{no_kind};
