@@ -1,5 +1,6 @@
 // Which member records are sound (01, "Members"; 02, ticket 6); else number 17.
 #![tactic(auto)]
+
 ghost use Rattle.std.specs.Prelude.{◌≡◌, ◌≤◌};
 ghost use Rattle.member_record.specs.Record.{sound_durable, sound_flags, sound_idle, sound_count, sound_leading, sound_lead, sound};
 
@@ -26,6 +27,7 @@ fn durable_sound(d: Durable) -> bool
 }
 
 // Flags from N on are false: as many are counted below N as in all.
+#[tactic(auto, using(member_record::proofs::Flags::counts_agree))]
 fn flags_sound(who: Who, l: Lead) -> bool
     requires { who.n ≤ 7 }
     ensures { result ≡ sound_flags who l }
@@ -102,6 +104,7 @@ fn lead_sound(m: MemberState) -> bool
 }
 
 // Sound (01, "Members"; 02, ticket 6); else number 17.
+#[tactic(auto, unfolding(member_record::specs::Record::sound))]
 pub fn is_sound(m: MemberState) -> bool
     ensures { result ≡ sound m }
 {
