@@ -1,6 +1,7 @@
 // The rows of a node table, four 64-bit words a row: round, parent, value, status (01, "The tree"). Their words, searches over them, copies of
 // them, and the test of a value against the parent's.
 #![tactic(auto)]
+
 ghost use Rattle.std.specs.Prelude.{◌≡◌, ◌&&◌, not, ◌∷◌, ◌++◌, ◌+◌, ◌*◌, ◌≤◌, eqb, length, set, take, drop};
 ghost use Rattle.tree_theory.specs.Table.{used, row, rows_of};
 ghost use Rattle.tree_table.specs.Rows.{row_index};

@@ -1,0 +1,10 @@
+-- `tree_table::copy_rows`: after i turns the first i words are those of the table, and the rest is as it was.
+use Rattle.std.proofs.Common.{◌-◌}
+use Rattle.tree_table.proofs.Copying.{Copied}
+use Rattle.tree_table.proofs.copy_rows.Given as goal
+
+abbrev pub invariant-loop-word : goal.invariant-loop-word
+invariant-loop-word l = Copied l.t l.initial.to l.end l.word l.to
+
+abbrev pub decreases-loop-word : goal.decreases-loop-word
+decreases-loop-word l = l.end - l.word
