@@ -1,5 +1,6 @@
 // The writer of 01, "Messages": it holds the buffer lent for the reply and how far it has got. Each function puts one XDR number.
 #![tactic(auto)]
+
 ghost use Rattle.std.specs.Prelude.{◌≡◌, ◌+◌, ◌≤◌, length};
 ghost use Rattle.xdr.specs.Items.{integer, long};
 ghost use Rattle.xdr_writer.specs.Put.{Puts, putting};
@@ -12,6 +13,7 @@ pub struct Writer<'a> {
 }
 
 // Writes an unsigned integer at a place, and answers the place behind it.
+#[tactic(auto, unfolding(xdr::specs::Items::item_bytes))]
 fn word_to(buf: &mut [u8], at: usize, x: u32) -> usize
     requires { at + 4 ≤ length buf.old }
     ensures { Puts (integer x) buf.old at result buf.new }
@@ -21,6 +23,7 @@ fn word_to(buf: &mut [u8], at: usize, x: u32) -> usize
 }
 
 // Writes an unsigned hyper at a place, and answers the place behind it.
+#[tactic(auto, unfolding(xdr::specs::Items::item_bytes))]
 fn hyper_to(buf: &mut [u8], at: usize, x: u64) -> usize
     requires { at + 8 ≤ length buf.old }
     ensures { Puts (long x) buf.old at result buf.new }
