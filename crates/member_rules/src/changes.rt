@@ -76,6 +76,7 @@ fn adopted(m: MemberState, q: Round, w: u64) -> MemberState
 }
 
 // A JOIN with a vote for w in round q: a voted round above B replaces B and X.
+#[tactic(auto, unfolding(crate::specs::Changes::adopting))]
 pub fn adopting(m: MemberState, q: Round, w: u64) -> MemberState
     ensures { result ≡ adopting m q w }
 {
