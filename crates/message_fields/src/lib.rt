@@ -8,6 +8,7 @@ use ids::{Member, Round, Slot};
 use message::{Body, JOIN_KIND, Message, PROPOSE_KIND, START_KIND};
 
 // Whether a field that the kind doesn't have isn't 0.
+#[tactic(auto, unfolding(crate::specs::Fields::spare_fields))]
 fn spare_fields(kind: u32, present: u32, voted: u32, value: u64) -> bool
     ensures { result ≡ spare_fields kind present voted value }
 {
@@ -43,6 +44,7 @@ fn wrong_presence(kind: u32, present: u32) -> bool
 }
 
 // The first number that the fields of no message get, else 0.
+#[tactic(auto, unfolding(crate::specs::Fields::fields_row))]
 pub fn fields_number(slot: Slot, kind: u32, present: u32, voted: u32, value: u64) -> u32
     ensures { result ≡ first (fields_row slot kind present voted value) }
 {
@@ -64,6 +66,7 @@ pub fn fields_number(slot: Slot, kind: u32, present: u32, voted: u32, value: u64
 }
 
 // What the message of fields says.
+#[tactic(auto, unfolding(crate::specs::Fields::body_of))]
 fn body_of(kind: u32, round: Round, sender: Member, present: u32, voted: Round, value: u64) -> Body
     ensures { result ≡ body_of kind round sender present voted value }
 {
@@ -92,6 +95,7 @@ fn body_of(kind: u32, round: Round, sender: Member, present: u32, voted: Round, 
 }
 
 // The message of fields.
+#[tactic(auto, unfolding(crate::specs::Fields::message_of))]
 pub fn message_of(
     slot: Slot,
     kind: u32,

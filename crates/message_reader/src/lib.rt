@@ -96,6 +96,7 @@ fn as_vote(s: &[u8]) -> Body
 }
 
 // What the message says that bytes of the length of their kind spell.
+#[tactic(auto, unfolding(message::specs::Reading::decoded_body), using(message::proofs::Checks::size_least, message::proofs::Checks::size_join_least, message::proofs::Checks::size_join_voted, message::proofs::Checks::size_propose))]
 fn decode_body(s: &[u8]) -> Body
     requires { length s.now ≡ size s.now }
     ensures { result ≡ decoded_body s.now }
@@ -117,6 +118,7 @@ fn decode_body(s: &[u8]) -> Body
 }
 
 // The length of the message at the front of bytes that have room for any, by its kind and presence.
+#[tactic(auto, unfolding(message::specs::Reading::size, message::specs::Reading::decoded_body))]
 fn message_size(s: &[u8]) -> usize
     requires { longest_message ≤ length s.now }
     ensures { result ≡ size s.now }
@@ -143,6 +145,7 @@ pub fn slot_front(s: &[u8]) -> Slot
 }
 
 // And what it says, of its own length, and not of all the bytes.
+#[tactic(auto, using(message::proofs::Checks::size_most, message::proofs::Checks::own_length))]
 pub fn body_front(s: &[u8]) -> Body
     requires { longest_message ≤ length s.now }
     ensures { result ≡ decoded_body (take (size s.now) s.now) }
@@ -165,6 +168,7 @@ fn ranged(s: &[u8], body: Body) -> Read
 }
 
 // Reads a JOIN: its presence word has to be there before it is looked at.
+#[tactic(auto, using(message::proofs::Checks::join_short, message::proofs::Checks::join_neither, message::proofs::Checks::wrong_size, message::proofs::Checks::right_said, message::proofs::Checks::size_join, message::proofs::Checks::size_join_voted, message::proofs::Checks::decoded_join, message::proofs::Checks::decoded_join_voted))]
 fn read_join(s: &[u8]) -> Read
     requires { kind_in s.now ≡ JOIN_KIND }
     ensures { result ≡ told_reading false s.now }
@@ -189,6 +193,7 @@ fn read_join(s: &[u8]) -> Read
 }
 
 // Reads bytes whose slot isn't refused and whose kind is one of the four.
+#[tactic(auto, using(message::proofs::Checks::four_kinds, message::proofs::Checks::wrong_size, message::proofs::Checks::right_said, message::proofs::Checks::size_propose, message::proofs::Checks::size_other, message::proofs::Checks::decoded_start, message::proofs::Checks::decoded_propose, message::proofs::Checks::decoded_vote))]
 fn read_kind(s: &[u8]) -> Read
     requires { (kind_end ≤ length s.now) × (no_kind (kind_in s.now) ≡ false) }
     ensures { result ≡ told_reading false s.now }
@@ -213,6 +218,7 @@ fn read_kind(s: &[u8]) -> Read
 }
 
 // Reads bytes that tell slot and kind; `wrong` says whether their slot is refused.
+#[tactic(auto, using(message::proofs::Checks::slot_refused, message::proofs::Checks::kind_refused))]
 fn read_told(wrong: bool, s: &[u8]) -> Read
     requires { kind_end ≤ length s.now }
     ensures { result ≡ told_reading wrong s.now }
@@ -228,6 +234,7 @@ fn read_told(wrong: bool, s: &[u8]) -> Read
 }
 
 // Reads any bytes of any length: the message that they are, or the number that comes first.
+#[tactic(auto, using(message::proofs::Checks::too_short, message::proofs::Checks::told, message::proofs::RoundTrip::reader_gives))]
 pub fn read_message(s: &[u8]) -> Read
     ensures { ReaderGives no_slot s.now result }
 {
@@ -248,6 +255,7 @@ fn other_slot(own: Slot, slot: Slot) -> bool
 }
 
 // Reads bytes for a member of slot `own`, who takes no message of another.
+#[tactic(auto, using(message::proofs::Checks::too_short, message::proofs::Checks::told, message::proofs::RoundTrip::reader_gives))]
 pub fn read_own_message(own: Slot, s: &[u8]) -> Read
     ensures { ReaderGives (other_slot own) s.now result }
 {
