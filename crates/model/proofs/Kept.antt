@@ -228,6 +228,7 @@ module _ (z : Sizes) (o : Office) (K : KeptOffice z o) (e : Event) where
   }
     where
       of_own : (g : Message) (bs : List Body) → g ∈ map (in_slot (slot_number e.slot)) bs → g.slot.0 < SLOTS
+      of_own g [] i = elim i [ ]
       of_own g (b ∷ bs) (here q) = let same : g.slot.0 ≡ e.slot = ap (λ (x : Message). x.slot.0) q in omega (arith, a.slot)
       of_own g (b ∷ bs) (there i) = of_own g bs i
 

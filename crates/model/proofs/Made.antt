@@ -45,6 +45,7 @@ adds_in_calls (decision r x ∷ l) = adds_in_calls l
 
 pub proposal_call : {r x b : ℕ} (l : List Named) → proposal r x b ∈ l → add r x b ∈ calls l
 unfolding calls
+proposal_call [] i = elim i [ ]
 proposal_call (nothing ∷ l) (here e) = impossible (cc)
 proposal_call (nothing ∷ l) (there i) = proposal_call l i
 proposal_call {r} {x} {b} (proposal s y c ∷ l) (here e) = let q : add r x b ≡ add s y c = cc in here q
@@ -63,6 +64,7 @@ call_proposal (decision s y ∷ l) (there i) = there (call_proposal l i)
 
 pub decision_call : {r x : ℕ} (l : List Named) → decision r x ∈ l → commit r ∈ calls l
 unfolding calls
+decision_call [] i = elim i [ ]
 decision_call (nothing ∷ l) (here e) = impossible (cc)
 decision_call (nothing ∷ l) (there i) = decision_call l i
 decision_call (proposal s y c ∷ l) (here e) = impossible (cc)

@@ -59,6 +59,7 @@ all_in [] k = true
 all_in (a ∷ l) k = any (eqb a) k && all_in l k
 
 within : (l k : List ℕ) {a : ℕ} → all_in l k ≡ true → a ∈ l → a ∈ k
+within [] k h i = elim i [ ]
 within (b ∷ l) k h (here e) = rw e (among b k (and_left (any (eqb b) k) (all_in l k) h))
 within (b ∷ l) k h (there i) = within l k (and_right (any (eqb b) k) (all_in l k) h) i
 

@@ -75,6 +75,7 @@ of_slot_other s t (b ∷ bs) d = rw (ne_eqb s t d) (of_slot_other s t bs d)
 -- a message sent is seen in its slot
 pub seen_in : {g : Message} (s : ℕ) (gs : List Message) → g ∈ gs → g.slot.0 ≡ s → g.body ∈ of_slot s gs
 unfolding of_slot
+seen_in s [] i q = elim i [ ]
 seen_in {g} s (h ∷ gs) (here e) q =
     let same : h.slot.0 ≡ s = sym (ap (λ (x : Message). x.slot.0) e) ∙ q in
     rw (eq-eqb h.slot.0 s same) (here (ap (λ (x : Message). x.body) e))
