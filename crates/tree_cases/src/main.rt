@@ -5,134 +5,155 @@
 // written again: behind each call its number (of an add also how many rounds it made GHOST, of a path how many rounds, and the slice, of a preview
 // how many rounds would be made GHOST, and the second table), behind each line each node's round, parent, value and status.
 #![tactic(auto)]
+
 ghost use Rattle.std.specs.Prelude.{◌+◌, ◌*◌, ◌≤◌, length};
 
 use ids::Round;
-use libc::{STDIN_FILENO, STDOUT_FILENO};
+use std::io;
+use std::io::Read;
 use tree::{CallAnswer, PathAnswer};
 
-fn number(n: u64) {
-    io::write_all(STDOUT_FILENO, b" ");
-    io::print_decimal(STDOUT_FILENO, n);
+fn number(rt: &impl Print, n: u64) -> io::Result<()> {
+    print!(rt; " {n}")
 }
 
-fn numbers(s: &[u64]) {
-    let mut i = 0;
-    while i < s.len() {
-        number(s[i]);
-        i += 1;
+fn numbers(rt: &impl Print, s: &[u64]) -> io::Result<()> {
+    for n in s {
+        number(rt, *n)?;
     }
+    Ok(())
 }
 
 // Writes row i.
-fn node(t: &[u64], i: usize)
+fn node(rt: &impl Print, t: &[u64], i: usize) -> io::Result<()>
     requires { 4 * i + 4 ≤ length t.now }
 {
-    io::write_all(STDOUT_FILENO, b" |");
-    number(tree_table::round_at(t, i));
-    number(tree_table::parent_at(t, i));
-    number(tree_table::value_at(t, i));
-    number(tree_table::status_at(t, i));
+    print!(rt; " |")?;
+    number(rt, tree_table::round_at(t, i))?;
+    number(rt, tree_table::parent_at(t, i))?;
+    number(rt, tree_table::value_at(t, i))?;
+    number(rt, tree_table::status_at(t, i))
 }
 
-fn nodes(t: &[u64]) {
+fn nodes(rt: &impl Print, t: &[u64]) -> io::Result<()> {
     let n = tree_table::used_rows(t);
     let mut i = 0;
     while i < n {
-        node(t, i);
+        node(rt, t, i)?;
         i += 1;
     }
+    Ok(())
 }
 
-fn fresh(t: &mut [u64]) {
-    number(tree::fresh(t) as u64);
+fn fresh(rt: &impl Print, t: &mut [u64]) -> io::Result<()> {
+    number(rt, tree::fresh(t) as u64)
 }
 
 // Writes the number of an add's answer, and how many rounds it made GHOST.
-fn add_answer(a: CallAnswer) {
-    number(a.number as u64);
-    number(a.ghosts as u64);
+fn add_answer(rt: &impl Print, a: CallAnswer) -> io::Result<()> {
+    number(rt, a.number as u64)?;
+    number(rt, a.ghosts as u64)
 }
 
-fn add(t: &mut [u64], r: u32, v: u32, p: u32) {
-    add_answer(tree::add(t, Round(r), v as u64, Round(p)));
+fn add(rt: &impl Print, t: &mut [u64], r: u32, v: u32, p: u32) -> io::Result<()> {
+    add_answer(rt, tree::add(t, Round(r), v as u64, Round(p)))
 }
 
-fn commit(t: &mut [u64], r: u32) {
-    number(tree::commit(t, Round(r)) as u64);
+fn commit(rt: &impl Print, t: &mut [u64], r: u32) -> io::Result<()> {
+    number(rt, tree::commit(t, Round(r)) as u64)
 }
 
-fn command_add(t: &mut [u64], r: u32, v: u32, p: u32) {
-    add_answer(tree::command_add(t, Round(r), v as u64, Round(p)));
+fn command_add(rt: &impl Print, t: &mut [u64], r: u32, v: u32, p: u32) -> io::Result<()> {
+    add_answer(rt, tree::command_add(t, Round(r), v as u64, Round(p)))
 }
 
-fn command_commit(t: &mut [u64], r: u32) {
-    number(tree::command_commit(t, Round(r)) as u64);
+fn command_commit(rt: &impl Print, t: &mut [u64], r: u32) -> io::Result<()> {
+    number(rt, tree::command_commit(t, Round(r)) as u64)
 }
 
 // Writes the number of a path's answer, how many rounds it has, and the slice lent for it.
-fn path_answer(a: PathAnswer, out: &[u64]) {
-    number(a.number as u64);
-    number(a.count as u64);
-    numbers(out);
+fn path_answer(rt: &impl Print, a: PathAnswer, out: &[u64]) -> io::Result<()> {
+    number(rt, a.number as u64)?;
+    number(rt, a.count as u64)?;
+    numbers(rt, out)
 }
 
-fn path(t: &[u64], r: u32, out: &mut [u64]) {
+fn path(rt: &impl Print, t: &[u64], r: u32, out: &mut [u64]) -> io::Result<()> {
     let a = tree::path(t, Round(r), out);
-    path_answer(a, out);
+    path_answer(rt, a, out)
 }
 
-fn command_path(t: &[u64], r: u32, out: &mut [u64]) {
+fn command_path(rt: &impl Print, t: &[u64], r: u32, out: &mut [u64]) -> io::Result<()> {
     let a = tree::command_path(t, Round(r), out);
-    path_answer(a, out);
+    path_answer(rt, a, out)
 }
 
 // Makes a path of that name into so many words; none of another name.
-fn path_in(name: u8, t: &[u64], r: u32, words: usize) {
+fn path_in(rt: &impl Print, name: u8, t: &[u64], r: u32, words: usize) -> io::Result<()> {
     let mut out = [0u64; 256];
     if 256 < words {
-        return;
+        return Ok(());
     }
     if name == b'p' {
-        path(t, r, &mut out[0..words]);
-        return;
+        return path(rt, t, r, &mut out[0..words]);
     }
     if name == b'P' {
-        command_path(t, r, &mut out[0..words]);
-        return;
+        return command_path(rt, t, r, &mut out[0..words]);
     }
+    Ok(())
 }
 
 // Writes a preview's answer, and the second table.
-fn preview_answer(a: CallAnswer, second: &[u64]) {
-    add_answer(a);
-    numbers(second);
+fn preview_answer(rt: &impl Print, a: CallAnswer, second: &[u64]) -> io::Result<()> {
+    add_answer(rt, a)?;
+    numbers(rt, second)
 }
 
-fn preview(t: &[u64], second: &mut [u64], r: u32, v: u32, p: u32) {
+fn preview(
+    rt: &impl Print,
+    t: &[u64],
+    second: &mut [u64],
+    r: u32,
+    v: u32,
+    p: u32,
+) -> io::Result<()> {
     let a = tree::preview(t, second, Round(r), v as u64, Round(p));
-    preview_answer(a, second);
+    preview_answer(rt, a, second)
 }
 
-fn command_preview(t: &[u64], second: &mut [u64], r: u32, v: u32, p: u32) {
+fn command_preview(
+    rt: &impl Print,
+    t: &[u64],
+    second: &mut [u64],
+    r: u32,
+    v: u32,
+    p: u32,
+) -> io::Result<()> {
     let a = tree::command_preview(t, second, Round(r), v as u64, Round(p));
-    preview_answer(a, second);
+    preview_answer(rt, a, second)
 }
 
 // Makes a preview of that name in so many words; none of another name.
-fn preview_in(name: u8, t: &[u64], words: usize, r: u32, v: u32, p: u32) {
+fn preview_in(
+    rt: &impl Print,
+    name: u8,
+    t: &[u64],
+    words: usize,
+    r: u32,
+    v: u32,
+    p: u32,
+) -> io::Result<()> {
     let mut second = [7u64; 1024];
     if 1024 < words {
-        return;
+        return Ok(());
     }
     if name == b'v' {
-        preview(t, &mut second[0..words], r, v, p);
-        return;
+        return preview(rt, t, &mut second[0..words], r, v, p);
     }
     if name == b'V' {
-        command_preview(t, &mut second[0..words], r, v, p);
-        return;
+        return command_preview(rt, t, &mut second[0..words], r, v, p);
     }
+    Ok(())
 }
 
 fn put(t: &mut [u64], word: usize, x: u32) {
@@ -142,37 +163,40 @@ fn put(t: &mut [u64], word: usize, x: u32) {
 }
 
 // Makes the call of that name, a preview in so many words; a call with fewer than three arguments has them last.
-fn make(t: &mut [u64], second: usize, name: u8, a: u32, b: u32, c: u32) {
+fn make(
+    rt: &impl Print,
+    t: &mut [u64],
+    second: usize,
+    name: u8,
+    a: u32,
+    b: u32,
+    c: u32,
+) -> io::Result<()> {
     if name == b'f' {
-        fresh(t);
-        return;
+        return fresh(rt, t);
     }
     if name == b'a' {
-        add(t, a, b, c);
-        return;
+        return add(rt, t, a, b, c);
     }
     if name == b'c' {
-        commit(t, c);
-        return;
+        return commit(rt, t, c);
     }
     if name == b'w' {
         put(t, b as usize, c);
-        return;
+        return Ok(());
     }
     if name == b'A' {
-        command_add(t, a, b, c);
-        return;
+        return command_add(rt, t, a, b, c);
     }
     if name == b'C' {
-        command_commit(t, c);
-        return;
+        return command_commit(rt, t, c);
     }
-    path_in(name, t, b, c as usize);
-    preview_in(name, t, second, a, b, c);
+    path_in(rt, name, t, b, c as usize)?;
+    preview_in(rt, name, t, second, a, b, c)
 }
 
 // What was read: the lengths of the table and of the second, the name of a call, and its last three arguments.
-#[derive(Drop)]
+#[derive(Clone, Copy)]
 struct Input {
     words: usize,
     second: usize,
@@ -213,11 +237,11 @@ impl Input {
     }
 
     // Makes the call that was read.
-    fn call(self, t: &mut [u64]) -> Input {
+    fn call(self, rt: &impl Print, t: &mut [u64]) -> io::Result<Input> {
         let mut s = self;
         if self.name == b's' {
             s.second = self.c as usize;
-            return s;
+            return Ok(s);
         }
         if self.name == b'f' {
             s.words = self.c as usize;
@@ -226,39 +250,41 @@ impl Input {
         let words = s.words;
         if words <= t.len() {
             make(
+                rt,
                 &mut t[0..words],
                 s.second,
                 self.name,
                 self.a,
                 self.b,
                 self.c,
-            );
+            )?;
         }
-        s
+        Ok(s)
     }
 
     // Writes the nodes of the table.
-    fn show(self, t: &[u64]) {
+    fn show(self, rt: &impl Print, t: &[u64]) -> io::Result<()> {
         let words = self.words;
         if words <= t.len() {
-            nodes(&t[0..words]);
+            nodes(rt, &t[0..words])?;
         }
+        Ok(())
     }
 
-    fn next(self, t: &mut [u64], x: u8) -> Input {
+    fn next(self, rt: &impl Print, t: &mut [u64], x: u8) -> io::Result<Input> {
         if x == b'\n' {
-            self.show(t);
+            self.show(rt, t)?;
         }
         let byte = [x];
-        io::write_all(STDOUT_FILENO, &byte);
+        rt.write_all(&byte)?;
         if x == b')' {
-            return self.call(t);
+            return self.call(rt, t);
         }
-        self.read(x)
+        Ok(self.read(x))
     }
 }
 
-fn run(t: &mut [u64], text: &[u8]) {
+fn run(rt: &impl Print, t: &mut [u64], text: &[u8]) -> io::Result<()> {
     let mut s = Input {
         words: 0,
         second: 0,
@@ -267,16 +293,15 @@ fn run(t: &mut [u64], text: &[u8]) {
         b: 0,
         c: 0,
     };
-    let mut i = 0;
-    while i < text.len() {
-        s = s.next(t, text[i]);
-        i += 1;
+    for x in text {
+        s = s.next(rt, t, *x)?;
     }
+    Ok(())
 }
 
-fn main() {
+fn main(rt: HostRuntime) -> io::Result<()> {
     let mut t = [0u64; 1024];
-    let mut text = [0u8; 8192];
-    let n = io::read_full(STDIN_FILENO, &mut text);
-    run(&mut t, &text[..n]);
+    let mut text = Vec::new(rt.alloc());
+    rt.stdin().take(8192).read_to_end(&mut text)?;
+    run(&rt, &mut t, text.as_slice())
 }
