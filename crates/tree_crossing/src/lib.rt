@@ -1,5 +1,6 @@
 // Edges that cross (01, "The tree"): an edge (r, p) is a node r > 0 with parent p, and crosses c if p < c < r.
 #![tactic(auto)]
+
 pub mod look;
 
 ghost use Rattle.std.specs.Prelude.{◌≡◌, cond, ◌++◌, map, ◌+◌, ◌*◌, ◌≤◌, length, set, drop};
