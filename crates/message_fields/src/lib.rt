@@ -1,5 +1,6 @@
 // The fields of a message as numbers, for C: which of them are none of a message, and the message that they are of.
 #![tactic(auto)]
+
 ghost use Rattle.std.specs.Prelude.{◌≡◌};
 ghost use Rattle.laws.specs.First.{first};
 ghost use Rattle.message_fields.specs.Fields.{no_presence, spare_fields, fields_row, body_of, message_of};

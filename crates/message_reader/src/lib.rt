@@ -1,5 +1,6 @@
 // The reader of messages (01, "Messages"; 02, ticket 6).
 #![tactic(auto)]
+
 ghost use Rattle.std.specs.Prelude.{◌≡◌, false, ◌+◌, ◌≤◌, length, take};
 ghost use Rattle.ids.specs.Ranges.{no_slot};
 ghost use Rattle.message.specs.declared.Body.TheVariants.{Start, Join, JoinVoted, Propose, Vote};
@@ -234,7 +235,6 @@ fn read_told(wrong: bool, s: &[u8]) -> Read
 }
 
 // Reads any bytes of any length: the message that they are, or the number that comes first.
-#[tactic(auto, using(message::proofs::Checks::too_short, message::proofs::Checks::told, message::proofs::RoundTrip::reader_gives))]
 pub fn read_message(s: &[u8]) -> Read
     ensures { ReaderGives no_slot s.now result }
 {
@@ -255,7 +255,6 @@ fn other_slot(own: Slot, slot: Slot) -> bool
 }
 
 // Reads bytes for a member of slot `own`, who takes no message of another.
-#[tactic(auto, using(message::proofs::Checks::too_short, message::proofs::Checks::told, message::proofs::RoundTrip::reader_gives))]
 pub fn read_own_message(own: Slot, s: &[u8]) -> Read
     ensures { ReaderGives (other_slot own) s.now result }
 {
