@@ -1,6 +1,7 @@
 // The member steps of 01, "Members", by value: a sound record and an event in, the new record and the answer out. Messages stand here without their slot,
 // which is the record's own (02, ticket 6): who delivers one has tested it, and who sends one puts it in front.
 #![tactic(auto)]
+
 mod rows;
 
 ghost use Rattle.std.specs.Prelude.{◌≡◌, true};

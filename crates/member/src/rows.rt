@@ -185,6 +185,7 @@ enum MessageRow {
     },
 }
 
+#[tactic(auto, unfolding(crate::specs::ByRow::row_of))]
 fn row_of(g: Body) -> MessageRow
     ensures { result ≡ row_of g }
 {
@@ -223,6 +224,7 @@ fn row_of(g: Body) -> MessageRow
 }
 
 // The record in which a message is counted: with the vote that a JOIN carries.
+#[tactic(auto, unfolding(crate::specs::ByRow::taking))]
 fn taking(m: MemberState, g: Body) -> MemberState
     ensures { result ≡ taking m g }
 {
