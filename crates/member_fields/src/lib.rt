@@ -1,5 +1,6 @@
 // A member record as numbers, for C: any bytes that a host puts there are some numbers.
 #![tactic(auto)]
+
 ghost use Rattle.std.specs.Prelude.{◌≡◌, ◌≤◌};
 ghost use Rattle.member_fields.specs.Fields.{BitAdded, bit, flags_of, mask_of, no_mask, state_of, fields_of, no_fields};
 
@@ -63,6 +64,7 @@ fn widened(flag: bool, mask: u32) -> u32
     2 * mask
 }
 
+#[tactic(auto, unfolding(crate::specs::Fields::mask_of))]
 fn mask_of(flags: [bool; 7]) -> u32
     ensures { result ≡ mask_of flags }
 {
@@ -76,6 +78,7 @@ fn mask_of(flags: [bool; 7]) -> u32
 }
 
 // The record that numbers stand for.
+#[tactic(auto, unfolding(crate::specs::Fields::state_of))]
 pub fn state_of(f: MemberFields) -> MemberState
     ensures { result ≡ state_of f }
 {
@@ -100,6 +103,7 @@ pub fn state_of(f: MemberFields) -> MemberState
 }
 
 // The numbers of a record.
+#[tactic(auto, unfolding(crate::specs::Fields::fields_of))]
 pub fn fields_of(m: MemberState) -> MemberFields
     ensures { result ≡ fields_of m }
 {
