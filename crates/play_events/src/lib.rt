@@ -1,5 +1,6 @@
 // Event lists (01, "Play"; 02, ticket 6): the head, which is N and the event count, then the events. Both are read here alone.
 #![tactic(auto)]
+
 ghost use Rattle.std.specs.Prelude.{◌≡◌, ◌≤◌, length};
 ghost use Rattle.play_events.specs.List.{HEAD_BYTES, event_size, head_of, exact, body, list_fits};
 ghost use Rattle.play_events.specs.Value.{ReadsEvent};
@@ -71,6 +72,7 @@ pub fn read_head(list: &[u8]) -> ListHead
 }
 
 // How many bytes the event at the front takes; 0 where there is none.
+#[tactic(auto, unfolding(crate::specs::List::event_size))]
 fn event_size(rest: &[u8]) -> usize
     ensures { result ≡ event_size rest.now }
 {
@@ -90,6 +92,7 @@ fn event_size(rest: &[u8]) -> usize
 }
 
 // The event at the front.
+#[tactic(auto, using(crate::proofs::Sizes::room, crate::proofs::Sizes::start_room, crate::proofs::Sizes::size_start, crate::proofs::Sizes::size_else), unfolding(crate::specs::List::event_at))]
 pub fn read_event(rest: &[u8]) -> EventRead
     requires { event_size rest.now ≡ 0 → ⊥ }
     ensures { ReadsEvent rest.now result }
@@ -135,6 +138,7 @@ fn events_fill(list: &[u8], count: u32) -> bool
 }
 
 // Whether the bytes, the count and the kinds match, with at most 1,000 events (number 26).
+#[tactic(auto, unfolding(crate::specs::List::list_fits))]
 pub fn list_fits(list: &[u8]) -> bool
     ensures { result ≡ list_fits list.now }
 {
