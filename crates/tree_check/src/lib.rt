@@ -2,6 +2,7 @@
 // whether one can be previewed in another. `valued` says whether the tree's values are compared. The check takes time in the square of the used
 // rows.
 #![tactic(auto)]
+
 mod rows;
 
 ghost use Rattle.std.specs.Prelude.{◌≡◌, true, ◌*◌, ◌≤◌, ◌<◌, length};

@@ -15,7 +15,8 @@ use Rattle.tree_steps.proofs.Planning.{beyond, within}
 use Rattle.tree_steps.proofs.add.add_number.Goals as goal
 
 -- what the rows said, and that the round is in range and not present
-module _ (valued : Bool) (ws : List ℕ) {l : Look} {r p : ℕ} (v : ℕ) (L : LookedAt ws r p l) (ranged : out_of_range r ≡ false) (new : l.present ≡ false) where
+module _ (valued : Bool) (ws : List ℕ) {l : Look} {r p : ℕ} (v : ℕ) (L : LookedAt ws r p l)
+    (ranged : out_of_range r ≡ false) (new : l.present ≡ false) where
   abbrev answered : ℕ
   answered = answer valued (rows ws) (nodes ws) (add r v p)
 
@@ -62,7 +63,8 @@ module _ (valued : Bool) (ws : List ℕ) {l : Look} {r p : ℕ} (v : ℕ) (L : L
       crossing t s x = same_value t s ∙ rw (sym (blocked_is L) ∙ x) refl
 
       -- no cause but the last
-      last : p < r → b ≡ false → l.blocked ≡ false → {full : Bool} → full ≡ no_row_left (rows ws) l.used → answered ≡ first (full gives NO_FREE_ROW ∷ [])
+      last : p < r → b ≡ false → l.blocked ≡ false → {full : Bool} → full ≡ no_row_left (rows ws) l.used →
+          answered ≡ first (full gives NO_FREE_ROW ∷ [])
       last t s x f =
           let n : length (nodes ws) ≡ l.used = length_rows _ _ ∙ sym (used_is L) in
           same_value t s ∙ rw (sym (blocked_is L) ∙ x, n, ← f) refl

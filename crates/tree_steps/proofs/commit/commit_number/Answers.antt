@@ -12,7 +12,8 @@ use Rattle.tree_steps.proofs.Planning.{beyond, within}
 use Rattle.tree_steps.proofs.commit.commit_number.Goals as goal
 
 -- once the round is known to be present, only the status read is left
-present_there : (ws : List ℕ) (r : ℕ) {k s : ℕ} → k ≡ row_index r (rows_of ws (rows ws)) → out_of_range r ≡ false → k < rows ws → s ≡ (row ws k).status →
+present_there : (ws : List ℕ) (r : ℕ) {k s : ℕ} → k ≡ row_index r (rows_of ws (rows ws)) → out_of_range r ≡ false → k < rows ws →
+    s ≡ (row ws k).status →
     answer true (rows ws) (rows_of ws (rows ws)) (commit r) ≡ first (eqb s COMMITTED gives IS_COMMITTED ∷ eqb s GHOST gives IS_GHOST ∷ [])
 unfolding answer causes
 present_there ws r e ranged there es =
