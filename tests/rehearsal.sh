@@ -7,7 +7,8 @@ cd "$(dirname "$0")/.." || exit 2
 . tests/check.bash
 dir=$(mktemp -d)
 trap 'rm -rf "$dir"' EXIT
-program=target/bin/rehearsal
+# as `rt ci` leaves it, or `rt run` in the crate's folder
+program=crates/rehearsal/out/rehearsal
 
 prints() {
     "$program" <"$1" | cmp -s - "$2"

@@ -2,7 +2,7 @@
  * and the message writer.
  * docs/REFERENCE.md says more of each of them, of the bytes and of the numbers.
  *
- * Linking: after `rt staticlib exports` and `rt staticlib exports_member`,
+ * Linking: after `host/archives.sh`,
  *
  *     cc -Ihost/include PROGRAM.c target/staticlib/libexports.a target/staticlib/libexports_member.a
  *

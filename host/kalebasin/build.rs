@@ -30,7 +30,7 @@ fn main() {
                 "cargo:warning=an archive of the proved core isn't there, so nothing links: {}",
                 archive.display()
             );
-            println!("cargo:warning=build it at the repository's root with `rt staticlib {name}`,");
+            println!("cargo:warning=build it at the repository's root with `host/archives.sh {name}`,");
             println!("cargo:warning=or name the folder that holds it in KALEBASIN_LIB,");
             println!("cargo:warning=or leave the core out with `--no-default-features`");
         }

@@ -1,5 +1,5 @@
 //! The member calls on a lent record, of the crate `member_lent`, against the second implementation. They are no part of the
-//! archive that a host links: this needs one of its own, which `rt staticlib member_lent` writes beside it.
+//! archive that a host links: this needs one of its own, which `host/archives.sh member_lent` writes beside it.
 
 #![cfg(feature = "core")]
 
