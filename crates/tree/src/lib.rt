@@ -1,6 +1,7 @@
 // The quorum tree in lent memory (01, "The tree"): fresh, add, preview, commit and path over a slice of 64-bit words, four a row. `valued` says which
 // kind of tree it is: true for a value tree, 01's, whose values are compared; false for a command tree (02, ticket 1), whose aren't.
 #![tactic(auto)]
+
 ghost use Rattle.std.specs.Prelude.{◌≡◌, true, false};
 ghost use Rattle.numbers.specs.Numbers.{OK};
 ghost use Rattle.tree_theory.specs.Machine.{add, commit};
