@@ -1,5 +1,6 @@
 // The writer of messages (01, "Messages"; 02, ticket 6).
 #![tactic(auto)]
+
 ghost use Rattle.std.specs.Prelude.{◌≡◌, [], ◌∷◌, ◌≤◌, length};
 ghost use Rattle.laws.specs.First.{first};
 ghost use Rattle.xdr.specs.Items.{integer, long, span};
@@ -79,6 +80,7 @@ fn write_propose(buf: &mut [u8], slot: u32, kind: u32, round: u32, sender: u32, 
 }
 
 // Writes a message at the front of a buffer that has room for any, and answers its length.
+#[tactic(auto, unfolding(message::specs::Layout::layout, message::specs::Layout::layout_in))]
 fn put_message(m: Message, buf: &mut [u8]) -> usize
     requires { longest_message ≤ length buf.old }
     ensures { Fronts (layout m) buf.old result buf.new }
