@@ -1,5 +1,6 @@
 // The message store of play (01, "Play"; 02, ticket 6): lent bytes in rows that have room for any message; message k stands at the front of row k, zeros after.
 #![tactic(auto)]
+
 ghost use Rattle.std.specs.Prelude.{◌≡◌, true, length, replicate};
 ghost use Rattle.message.specs.Fields.{message_in_range};
 ghost use Rattle.play_store.specs.Rows.{store_sized, HasRow, put_row, fetched};
