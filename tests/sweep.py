@@ -4,10 +4,10 @@
     tests/sweep.py [--jobs N] [--crates A,B] [--minutes M] [--list] [--out FILE]
 
 A change is of one comparison, operator, number (those in brackets too) or Boolean, or exchanges two arguments of a call or the values of two fields; whether
-they are of one type is left to the compiler. Contracts, comments, signatures and imports stay. It is tried in a copy of the repository, in its crate, by the
-quick loop (`rt dev`). Changes of different functions of a crate are tried together: a function's proof rests on the contracts of what it calls and not on
+they are of one type is left to the compiler. Contracts, comments, signatures and imports stay. It is tried in a copy of the repository, in its crate, by
+`rt check` over what earlier checks kept. Changes of different functions of a crate are tried together: a function's proof rests on the contracts of what it calls and not on
 their bodies, so each is refused or proved by itself. A change of a constant is tried alone, in its crate; where that is still proved, its new value stands for
-its name in the functions of one crate after another that use it. What is refused nowhere is proved again without the quick loop, in all crates.
+its name in the functions of one crate after another that use it. What is refused nowhere is proved again from nothing, and then in all crates.
 FILE (target/sweep.tsv) has a line for each change tried: what became of it, the crate and function or constant, the place, the change.
     fact     refused, at a fact that no longer holds
     shape    refused, but only because the proof no longer fits the code's shape
@@ -26,6 +26,8 @@ import threading
 import time
 from collections import namedtuple
 
+from trying import Tree, errors_in, kind_of
+
 OTHERS = {
     "<": ["<=", ">"], "<=": ["<", ">="], ">": [">=", "<"], ">=": [">", "<="], "==": ["!="], "!=": ["=="],
     "+": ["-"], "-": ["+"], "*": ["+"], "/": ["*"], "%": ["/"], "+=": ["-="], "-=": ["+="],
@@ -33,7 +35,6 @@ OTHERS = {
 }
 TOKEN = re.compile(r"//[^\n]*|b?\"(?:[^\"\\]|\\.)*\"|b'(?:[^'\\]|\\.)'|'\w+(?!')|\d\w*|\w+|::|=>|->|\.\.=|\.\.|<=|>=|==|!=|&&|\|\||\+=|-=|\S")
 BEFORE_OPERAND = {"return", "in", "if", "while", "match", "let", "mut", "as", "else", "=>"}
-SHAPE = re.compile(r"that can be named from here|has no field `|is not in scope|does not define it|[Pp]arse error| error: `[^`]*-spec`:")
 Token = namedtuple("Token", "text start end")
 # edits: (start, end, new text) of the file, not overlapping
 Change = namedtuple("Change", "crate unit path shown edits")
@@ -162,7 +163,7 @@ def sources():
     """The source files of each library crate, in the order of crates.txt."""
     found = {}
     for line in open("crates.txt", encoding="utf-8"):
-        name = line.split("#")[0].split(":")[0].strip()
+        name = (line.split("#")[0].split(":")[0].split() or [""])[0]
         if name and os.path.exists(f"crates/{name}/src/lib.rt"):
             found[name] = [f"crates/{name}/src/{f}" for f in sorted(os.listdir(f"crates/{name}/src"))]
     return found
@@ -192,51 +193,16 @@ def constants(files, changes=()):
     return values
 
 
-class Tree:
-    """A copy of the repository in which changes are tried."""
-
-    def __init__(self, folder):
-        self.folder = folder
-        shutil.rmtree(folder, ignore_errors=True)
-        os.makedirs(folder)
-        shutil.copy("crates.txt", folder)
-        shutil.copytree("crates", f"{folder}/crates")
-        shutil.copytree("target", f"{folder}/target", ignore=shutil.ignore_patterns("sweep*", "must-fail"))
-
-    def put(self, texts):
-        for path, text in texts.items():
-            open(f"{self.folder}/{path}", "w", encoding="utf-8").write(text)
-
-    def run(self, *words):
-        got = subprocess.run(["rt", *words], cwd=self.folder, capture_output=True, env={**os.environ, "RT_JOBS": "1"})
-        return got.returncode, (got.stdout + got.stderr).decode("utf-8", "replace").split("\n")
-
-    def tried(self, crate, texts):
-        """The log of the quick loop on a crate with these texts, and whether it got as far as the proofs; None where all is proved."""
-        own = {path: open(path, encoding="utf-8").read() for path in texts}
-        self.put(texts)
-        status, log = self.run("dev", crate)
-        self.put(own)
-        return None if status == 0 else log, any(l.startswith(("logic=", "rattle: no verdict")) for l in log)
-
-    def proved_anew(self, crate, texts):
-        """Without the quick loop: the log of the crate where it is refused, None where all crates are proved, else an empty one."""
-        own = {path: open(path, encoding="utf-8").read() for path in texts}
-        self.put(texts)
-        status, log = self.run("check", crate)
-        if status == 0:
-            log = None if self.run("check")[0] == 0 else []
-        self.put(own)
-        self.run("check")
-        return log
-
-
-def errors_in(log):
-    return [l for l in log if (" error: " in l or ": it is not proved that " in l) and "was not admitted" not in l]
-
-
-def kind_of(errors):
-    return "untold" if not errors else "shape" if any(SHAPE.search(l) for l in errors) else "fact"
+def proved_anew(tree, crate, texts):
+    """From nothing: the log of the crate where it is refused, None where all crates are proved, else an empty one."""
+    own = {path: open(path, encoding="utf-8").read() for path in texts}
+    tree.put(texts)
+    shutil.rmtree(f"{tree.folder}/crates/{crate}/out", ignore_errors=True)
+    status, log = tree.run("verdict", "--jobs", "1", crate=crate)
+    if status == 0:
+        log = None if tree.run("all", "check", "--jobs", "1")[0] == 0 else []
+    tree.put(own)
+    return log
 
 
 def alone(tree, change, files):
@@ -253,7 +219,7 @@ def alone(tree, change, files):
                 log, judged = tree.tried(crate, texts_there)
                 if log is not None and judged and kind_of(errors_in(log)) == "fact":
                     return "above"
-    log = tree.proved_anew(change.crate, texts)
+    log = proved_anew(tree, change.crate, texts)
     return "proved" if log is None else kind_of(errors_in(log)) if log else "above"
 
 
@@ -285,10 +251,9 @@ def own_lines(path, text, change):
 def own_errors(log, change):
     """The errors that are of the change's function; none where it isn't refused for itself."""
     module = os.path.basename(change.path)[:-3]
-    place = re.compile(rf"/proofs/{'' if module == 'lib' else module + '/'}(\+\w+)*\+?{change.unit}(\+\w+)*/")
+    place = re.compile(rf"(\./)?proofs/{'' if module == 'lib' else module + '/'}(\+\w+)*\+?{change.unit}(\+\w+)*/")
     path = re.escape(f"{change.crate}::{'' if module == 'lib' else module + '::'}{change.unit}")
-    own = [l for l in errors_in(log) if place.search(l.split(" error: ")[0])]
-    return own + [l for l in log if re.match(rf"fn {path}: no proof: ", l)]
+    return [it for it in errors_in(log) if place.match(it) or re.match(rf"fn {path}: no proof: ", it)]
 
 
 def together(tree, changes):
@@ -304,7 +269,7 @@ def together(tree, changes):
                 own = own_errors(log, c)
                 found[key(c)] = kind_of(own) if own else None
             break
-        places = [(m.group(1), int(m.group(2))) for l in log for m in [re.search(r"/(crates/\w+/src/\w+\.rt):(\d+):\d+: error", l)] if m]
+        places = [(f"crates/{left[0].crate}/{m.group(1)}", int(m.group(2))) for l in log for m in [re.match(r"(src/\w+\.rt):(\d+):\d+: error", l)] if m]
         refused = [c for c in left if any(p == c.path and n in lines for p, n in places for lines in own_lines(p, texts[c.path], c))]
         if not refused:
             break
@@ -339,7 +304,7 @@ def main():
     queue = sorted((c for c in work if work[c]), key=lambda c: -len(work[c]))
     left = sum(len(changes) for changes in work.values())
     print(f"{len(done)} changes tried before, {left} to try", flush=True)
-    subprocess.run(["rt", "check"], check=True, stdout=subprocess.DEVNULL)
+    subprocess.run(["rt", "all", "check"], check=True, stdout=subprocess.DEVNULL)
     lock, began, counts = threading.Lock(), time.time(), {}
     total = left
 
@@ -355,8 +320,8 @@ def main():
             rest = (time.time() - began) / (total - left) * left / 60
             print(f"{total - left} tried ({summary}), {left} left, about {rest:.0f} min: {changes[-1].crate}", flush=True)
 
-    def worker(job):
-        tree = Tree(f"target/sweep-{job}")
+    def worker():
+        tree = Tree()
         while True:
             with lock:
                 if not queue:
@@ -379,9 +344,9 @@ def main():
                     group = [constant.pop(0)]
                 for c in group:
                     tell([c], [alone(tree, c, files)])
-        shutil.rmtree(tree.folder, ignore_errors=True)
+        tree.gone()
 
-    threads = [threading.Thread(target=worker, args=(j,)) for j in range(asked.jobs)]
+    threads = [threading.Thread(target=worker) for _ in range(asked.jobs)]
     for t in threads:
         t.start()
     for t in threads:
