@@ -1,5 +1,5 @@
 -- Where each table starts, one after another. Assumes nothing.
-use mathlib.Core.Path.{◌≡◌, refl, ap, ◌∙◌}
+use mathlib.Core.Path.{◌≡◌, ap, ◌∙◌}
 use mathlib.Core.List.{List}
 use Prim.Native.Nat.{ℕ, ◌+◌, ◌<◌, ◌≤◌}
 use native.Mathlib.Omega.{arith}
@@ -33,3 +33,7 @@ module _ {ls : List ℕ} {k : ℕ} {starts : List ℕ} {a : ℕ} (G : StartsTo l
 
   pub starts_all : SLOTS ≤ k → StartsAt ls starts
   starts_all h = record { eight = G.eight; each = λ s l. G.done s (omega arith) }
+
+-- where the last table ends
+pub last_end : (ls : List ℕ) {starts : List ℕ} → StartsAt ls starts → get_or starts 7 0 + length_at ls 7 ≡ start_of ls SLOTS
+last_end ls S = omega (arith, S.each 7 (omega arith), start_next ls 7)

@@ -1,5 +1,6 @@
 // The tables of the eight slots (02, ticket 6): one slice of 64-bit words holds them one after another in slot order, and each has its length.
 #![tactic(auto)]
+
 ghost use Rattle.std.specs.Prelude.{◌≡◌, ◌<◌, replicate};
 ghost use Rattle.ids.specs.Ranges.{SLOTS};
 ghost use Rattle.tree_theory.specs.Table.{fresh_table};
@@ -9,6 +10,7 @@ ghost use Rattle.play_tables.specs.Tables.{AllSized, StartsAt, TablesFit};
 use tree_steps::fresh::{clear, write_root};
 
 // The first slot, in slot order, whose length is no table's; 8 where each is.
+#[tactic(auto, using(crate::proofs::Sizes::unsized_stop, crate::proofs::Sizes::unsized_go), unfolding(crate::specs::Tables::unsized_from))]
 pub fn first_unsized(lengths: &[usize; 8]) -> usize
     ensures { result ≡ first_unsized lengths.now }
 {
@@ -23,6 +25,7 @@ pub fn first_unsized(lengths: &[usize; 8]) -> usize
 }
 
 // Where each table starts.
+#[tactic(auto, using(crate::proofs::Starts::starts_more, crate::proofs::Starts::starts_all, crate::proofs::Parts::start_next, crate::proofs::Sizes::start_most), unfolding(crate::specs::Tables::start_of))]
 pub fn starts_of(lengths: &[usize; 8]) -> [usize; 8]
     requires { AllSized lengths.now }
     ensures { StartsAt lengths.now result }
@@ -39,6 +42,7 @@ pub fn starts_of(lengths: &[usize; 8]) -> [usize; 8]
 }
 
 // 1 where a length, taken in slot order, is no table's, or where all eight don't fill the slice.
+#[tactic(auto, using(crate::proofs::Sizes::all_sized, crate::proofs::Sizes::start_most, crate::proofs::Starts::last_end), unfolding(crate::specs::Tables::tables_number))]
 pub fn tables_number(lengths: &[usize; 8], nodes: &[u64]) -> u32
     ensures { result ≡ tables_number lengths.now nodes.now }
 {
@@ -63,6 +67,7 @@ fn fresh_slot(nodes: &mut [u64], lengths: &[usize; 8], starts: &[usize; 8], s: u
 }
 
 // Makes each table fresh: all words are cleared at once, then each table gets its root.
+#[tactic(auto, using(crate::proofs::Parts::fit_kept, crate::proofs::Fresh::fresh_none, crate::proofs::Fresh::zeros_next, crate::proofs::Fresh::fresh_more, crate::proofs::Fresh::fresh_all))]
 pub fn fresh_tables(nodes: &mut [u64], lengths: &[usize; 8])
     requires { TablesFit lengths.now nodes.old }
     ensures { nodes.new ≡ fresh_tables lengths.now nodes.old }
