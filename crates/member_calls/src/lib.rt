@@ -1,6 +1,7 @@
 // The member calls of 01, "Members", by value: a record in and out, and a reply buffer that what is sent is put in. A record takes messages of its own slot
 // alone, and what it sends is of that slot (02, ticket 6).
 #![tactic(auto)]
+
 pub mod reply;
 
 ghost use Rattle.std.specs.Prelude.{◌≡◌};
@@ -15,6 +16,7 @@ use member_sound::is_sound;
 use message::{LONGEST, Read};
 
 // Fresh: where the slot, the number or N isn't allowed, the old record stays.
+#[tactic(auto, unfolding(crate::specs::Calls::fresh_call))]
 pub fn fresh_into(m: MemberState, slot: Slot, me: Member, n: u32) -> AfterCall
     ensures { LeavesReport (fresh_call m slot me n) result.state result.report }
 {

@@ -1,0 +1,13 @@
+-- What a step sends is within the ranges of its kind.
+use Rattle.member.proofs.Checks.{sent_in_bounds, proposed_in_bounds}
+use Rattle.member_calls.proofs.reply.tell.Goals as goal
+
+pub send-n-requires : goal.send-n-requires
+send-n-requires c =
+    let (room, slot, kept) = c.requires in
+    (room, slot, sent_in_bounds c.args.s.state c.in-Sent.is kept)
+
+pub send-n-requires-in-Proposed : goal.send-n-requires-in-Proposed
+send-n-requires-in-Proposed c =
+    let (room, slot, kept) = c.requires in
+    (room, slot, proposed_in_bounds c.args.s.state c.in-Proposed.is kept)
