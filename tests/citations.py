@@ -13,7 +13,8 @@ PAGES = ["README.md", "docs/REVIEW.md", "docs/PROVING.md"]
 WORDS = """rt rattle cargo rustc gcc rpcgen valgrind omega search simp rw cc refl subst ap needs arith tests omega unfolding unfoldable abbrev pub
 requires ensures returns let in ghost old new old: new: u8 u32 u64 usize bool true false cond first if match else while & &mut _ . .. ? × ≢ ≡ Lts tie c
 NAME FN N M Err Ok main.rs lib.rs --ignored target/ target/inc RT_JOBS drop replicate take getD length set .before .kept .last .inv .given .ensures
-impl self not return cargo-web target/staticlib/libexports.a target/staticlib/libexports_member.a must-fail""".split()
+impl self not return cargo-web target/staticlib/libexports.a target/staticlib/libexports_member.a must-fail
+c.args.x c.if-x-lt5.true c.in-5.is c.in-V.is c.in-V c.loop-i.invariant.field target/rt-ci.log""".split()
 
 
 def text(path):
