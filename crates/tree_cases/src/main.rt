@@ -35,12 +35,11 @@ fn node(rt: &impl Print, t: &[u64], i: usize) -> io::Result<()>
     number(rt, tree_table::status_at(t, i))
 }
 
+// The used rows lie within the table.
+#[tactic(auto, using(tree_theory::proofs::Words::used_rows))]
 fn nodes(rt: &impl Print, t: &[u64]) -> io::Result<()> {
-    let n = tree_table::used_rows(t);
-    let mut i = 0;
-    while i < n {
+    for i in 0..tree_table::used_rows(t) {
         node(rt, t, i)?;
-        i += 1;
     }
     Ok(())
 }
