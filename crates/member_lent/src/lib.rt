@@ -2,6 +2,7 @@
 // Each copies the record out, makes the call by value of `member_calls`, and copies in the record that it left. They are C functions so that a
 // test can lend them a record; a host has the calls of `exports_member`, whose record is numbers alone: a flag's byte can hold what no Boolean is.
 #![tactic(auto)]
+
 ghost use Rattle.member_calls.specs.Reports.{LeavesReport, LeavesReply};
 ghost use Rattle.member_calls.specs.Calls.{fresh_call, start_call, deliver_call};
 
