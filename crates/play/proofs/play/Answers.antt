@@ -1,0 +1,84 @@
+-- Each refusal in its order, then the events on a cleared store and fresh tables.
+use mathlib.Core.Path.{◌≡◌, sym, ap, ◌∙◌}
+use mathlib.Core.Bool.{Bool}
+use mathlib.Core.List.{List}
+use Prim.Native.Nat.{ℕ}
+use native.Mathlib.Omega.{arith}
+use Rattle.member_record.specs.Record.{allowed}
+use Rattle.play_events.specs.declared.ListHead.{ListHead}
+use Rattle.play_events.specs.List.{members_of, count_of, head_of}
+use Rattle.play_tables.proofs.Sizes.{number_fits}
+use Rattle.play_run.proofs.Running.{list_parts}
+use Rattle.play.proofs.Giving.{as_given, not_exact, not_allowed, store_odd, answers_few, tables_odd, ready_to_run, given_taken}
+use Rattle.play.proofs.play.Goals as goal
+
+-- what the head that was read says
+members_read : (list : List ℕ) {h : ListHead} {b : Bool} → h ≡ head_of list → b ≡ allowed h.members → allowed (members_of list) ≡ b
+members_read list q p = ap (λ (h : ListHead). allowed h.members) (sym q) ∙ sym p
+
+count_read : (list : List ℕ) {h : ListHead} → h ≡ head_of list → h.count ≡ count_of list
+count_read list q = ap (λ (h : ListHead). h.count) q
+
+pub returns-then-not-list_fits : goal.returns-then-not-list_fits
+returns-then-not-list_fits c =
+    as_given _ c.refused_list.ensures (not_exact (sym c.list_fits.ensures ∙ c.if-not-list_fits.true))
+
+pub read_head-head-requires : goal.read_head-head-requires
+read_head-head-requires c = (list_parts (sym c.list_fits.ensures ∙ c.if-not-list_fits.false)).head
+
+pub returns-then-not-is_allowed : goal.returns-then-not-is_allowed
+returns-then-not-is_allowed c =
+    as_given _ c.refused_list-then-not-is_allowed.ensures
+    (not_allowed (sym c.list_fits.ensures ∙ c.if-not-list_fits.false)
+    (members_read c.args.list.now c.read_head-head.ensures c.is_allowed.ensures ∙ c.if-not-is_allowed.true))
+
+pub returns-then-not-has_store_length : goal.returns-then-not-has_store_length
+returns-then-not-has_store_length c =
+    as_given _ c.refused_list-then-not-has_store_length.ensures
+    (store_odd (sym c.list_fits.ensures ∙ c.if-not-list_fits.false)
+    (members_read c.args.list.now c.read_head-head.ensures c.is_allowed.ensures ∙ c.if-not-is_allowed.false)
+    (sym c.has_store_length.ensures ∙ c.if-not-has_store_length.true))
+
+pub returns-then-answered-head : goal.returns-then-answered-head
+returns-then-answered-head c =
+    as_given _ c.refused_list-then-answered-head.ensures
+    (answers_few (sym c.list_fits.ensures ∙ c.if-not-list_fits.false)
+    (members_read c.args.list.now c.read_head-head.ensures c.is_allowed.ensures ∙ c.if-not-is_allowed.false)
+    (sym c.has_store_length.ensures ∙ c.if-not-has_store_length.false)
+    (omega (arith, count_read c.args.list.now c.read_head-head.ensures)))
+
+pub returns-then-number-ne-OK : goal.returns-then-number-ne-OK
+returns-then-number-ne-OK c =
+    as_given _ c.refused_list-then-number-ne-OK.ensures
+    (tables_odd (sym c.list_fits.ensures ∙ c.if-not-list_fits.false)
+    (members_read c.args.list.now c.read_head-head.ensures c.is_allowed.ensures ∙ c.if-not-is_allowed.false)
+    (sym c.has_store_length.ensures ∙ c.if-not-has_store_length.false)
+    (omega (arith, count_read c.args.list.now c.read_head-head.ensures))
+    c.tables_number-number.ensures c.if-number-ne-OK.true)
+
+pub fresh_tables-requires : goal.fresh_tables-requires
+fresh_tables-requires c = number_fits _ _ (sym c.tables_number-number.ensures ∙ c.if-number-ne-OK.false)
+
+pub run-requires : goal.run-requires
+run-requires c =
+    ready_to_run
+    (record {
+      fits = sym c.list_fits.ensures ∙ c.if-not-list_fits.false;
+      members = members_read c.args.list.now c.read_head-head.ensures c.is_allowed.ensures ∙ c.if-not-is_allowed.false;
+      store_length = sym c.has_store_length.ensures ∙ c.if-not-has_store_length.false;
+      room = omega (arith, count_read c.args.list.now c.read_head-head.ensures);
+      tables_fit = number_fits _ _ (sym c.tables_number-number.ensures ∙ c.if-number-ne-OK.false);
+    })
+    c.clear.ensures c.fresh_tables.ensures
+
+pub returns : goal.returns
+returns c =
+    given_taken
+    (record {
+      fits = sym c.list_fits.ensures ∙ c.if-not-list_fits.false;
+      members = members_read c.args.list.now c.read_head-head.ensures c.is_allowed.ensures ∙ c.if-not-is_allowed.false;
+      store_length = sym c.has_store_length.ensures ∙ c.if-not-has_store_length.false;
+      room = omega (arith, count_read c.args.list.now c.read_head-head.ensures);
+      tables_fit = number_fits _ _ (sym c.tables_number-number.ensures ∙ c.if-number-ne-OK.false);
+    })
+    c.clear.ensures c.fresh_tables.ensures c.run.ensures
