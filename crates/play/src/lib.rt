@@ -1,5 +1,6 @@
 // Play (01, "Play"; 02, ticket 6): a list of events over a whole office, in lent memory.
 #![tactic(auto)]
+
 ghost use Rattle.std.specs.Prelude.{◌≡◌};
 ghost use Rattle.play_run.specs.Lent.{as_lent};
 ghost use Rattle.play.specs.Promise.{refused_list, Given};

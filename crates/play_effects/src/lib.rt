@@ -1,6 +1,7 @@
 // What the answer of a member's step does to the store, to the table of its slot and to what an office counts (01, "Play"): a message goes behind the
 // others, a proposal is added to the table, a decision committed.
 #![tactic(auto)]
+
 ghost use Rattle.std.specs.Prelude.{◌≡◌, true, ◌<◌, ◌≤◌};
 ghost use Rattle.tree_theory.specs.Machine.{add, commit};
 ghost use Rattle.tree_theory.specs.Table.{sized, Tree};

@@ -1,5 +1,6 @@
 // An office in play: what its records are at first, what it counts, the step of an event, and what the step's answer comes to (01, "Play"; 02, ticket 6).
 #![tactic(auto)]
+
 pub mod event;
 
 ghost use Rattle.std.specs.Prelude.{◌≡◌};

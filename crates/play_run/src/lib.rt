@@ -1,5 +1,6 @@
 // The events of a list that play takes, one after another (01, "Play"; 02, ticket 6).
 #![tactic(auto)]
+
 ghost use Rattle.play_run.specs.Lent.{as_lent};
 ghost use Rattle.play_run.specs.Ran.{SettleBefore, PartSettled, Ready, Ran};
 
