@@ -90,7 +90,10 @@ loop-k-preserved c =
     (start_known c.starts_of-starts.ensures r.slot.0 t.ensures) (end_known c.args.lengths.now _ r.slot.0 t.ensures)
     w.ensures c.loop-k-test.true (to_end l.at _) c.read_event-r.ensures w.auto.messages w.auto.nodes
     (elim c.if-w-eq-OK.branch [
-      | then-w-eq-OK b ↦ inl (b.if-w-eq-OK.true, b.rounds-is ∙ ap (set l.rounds i) b.rounds_of-left.ensures, b.leads-is ∙ ap (set l.leads i) b.lead_of-reached.ensures, b.accepted-is)
+      | then-w-eq-OK b ↦
+          let rounds = b.rounds-is ∙ ap (set l.rounds i) b.rounds_of-left.ensures in
+          let leads = b.leads-is ∙ ap (set l.leads i) b.lead_of-reached.ensures in
+          inl (b.if-w-eq-OK.true, rounds, leads, b.accepted-is)
       | else-w-eq-OK b ↦ inr (b.if-w-eq-OK.false, b.rounds-is, b.leads-is, b.accepted-is)
     ])
 
