@@ -2,6 +2,7 @@
 // so that play's has one place of call for a member's step, and the compiler makes the step part of play. A record passes by value,
 // as numbers alone (`member_fields`); what is no sound record is refused with 17.
 #![tactic(auto)]
+
 ghost use Rattle.std.specs.Prelude.{◌≡◌, ◌≤◌};
 ghost use Rattle.message.specs.Layout.{longest_message};
 ghost use Rattle.member_record.specs.Record.{slot_number};
@@ -106,6 +107,7 @@ pub extern "C" fn kalebasin_member_fresh(slot: u32, number: u32, members: u32) -
 }
 
 // start(round, offer) of the member whose record this is. What it sends is of the record's slot.
+#[tactic(auto, using(crate::proofs::MemberResults::slot_kept), unfolding(crate::specs::Members::start_outcome))]
 #[unsafe(no_mangle)]
 pub extern "C" fn kalebasin_member_start(
     f: MemberFields,
@@ -124,6 +126,7 @@ pub extern "C" fn kalebasin_member_start(
 }
 
 // Delivers the message that bytes are to the member whose record this is: 32 unless it is of the record's slot, of which is what it sends.
+#[tactic(auto, using(crate::proofs::MemberResults::slot_kept), unfolding(crate::specs::Members::deliver_outcome))]
 #[unsafe(no_mangle)]
 pub extern "C" fn kalebasin_member_deliver(
     f: MemberFields,
