@@ -1,6 +1,7 @@
 // The C functions that the host calls: play, the message reader and the calls of both kinds of trees, thin over the proved crates. A slice passes as
 // a pointer and a count of elements. A number is 0 for OK, else a refusal.
 #![tactic(auto)]
+
 ghost use Rattle.std.specs.Prelude.{◌≡◌, true, false};
 ghost use Rattle.tree_theory.specs.Machine.{add, commit};
 ghost use Rattle.tree_theory.specs.Table.{fresh_number, fresh_table};
@@ -275,6 +276,7 @@ pub struct PathResult {
 }
 
 // path(round) of either kind of tree: the rounds from the root to this one, written from the first word.
+#[tactic(auto, using(crate::proofs::PathCount::count_fits))]
 fn path_result(valued: bool, nodes: &[u64], round: u32, out: &mut [u64]) -> PathResult
     ensures { PathGiven valued nodes.now round out.old result.number result.count out.new }
 {
