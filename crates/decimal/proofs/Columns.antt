@@ -6,7 +6,7 @@ use native.Mathlib.Omega.{arith}
 use lib.ListN.{length, replicate, length-append, length-replicate, replicate-append-replicate}
 use Rattle.decimal.specs.Digits.{BLANK, digit, decimal_in}
 use Rattle.decimal.specs.Text.{PutText}
-use Rattle.decimal.proofs.Text.{text_behind}
+use Rattle.decimal.proofs.Text.{text_behind, text_room}
 use Rattle.decimal.proofs.Decimal.{column_one, column_more}
 
 -- one blank more
@@ -31,3 +31,23 @@ module _ (w n : ℕ) where
     pub more_put : 10 ≤ n → PutText out at (decimal_in (w - 1) (n / 10)) to mid → PutText mid to (digit (n % 10) ∷ []) next new →
         PutText out at (decimal_in w n) next new
     more_put h P Q = rw (column_more w n h) (text_behind P Q (omega (arith, more_length h)))
+
+  -- the same where the width that is left has a name, and the room for the last digit
+  module _ {rest : ℕ} (e : rest ≡ w - 1) {out mid : List ℕ} {at to : ℕ} (room : at + length (decimal_in w n) ≤ length out) where
+    pub one_room : n < 10 → PutText out at (replicate rest BLANK) to mid → to < length mid
+    one_room h P =
+        let size : length (replicate rest BLANK) ≡ rest = length-replicate rest BLANK in
+        omega (arith, text_room 1 P (omega (arith, one_length h)))
+
+    pub one_rest : n < 10 → PutText out at (replicate rest BLANK) to mid → {new : List ℕ} → {next : ℕ} → PutText mid to (digit n ∷ []) next new →
+        PutText out at (decimal_in w n) next new
+    one_rest h P Q = one_put room h (rw e at P) Q
+
+    pub more_room : 10 ≤ n → PutText out at (decimal_in rest (n / 10)) to mid → to < length mid
+    more_room h P =
+        let size : length (decimal_in w n) ≡ length (decimal_in rest (n / 10)) + 1 = rw e (more_length h) in
+        omega (arith, text_room 1 P (omega arith))
+
+    pub more_rest : 10 ≤ n → PutText out at (decimal_in rest (n / 10)) to mid → {new : List ℕ} → {next : ℕ} →
+        PutText mid to (digit (n % 10) ∷ []) next new → PutText out at (decimal_in w n) next new
+    more_rest h P Q = more_put room h (rw e at P) Q

@@ -51,6 +51,7 @@ fn narrower(width: usize) -> usize
 }
 
 // A number at the right of a column.
+#[tactic(auto, using(crate::proofs::Columns::one_length, crate::proofs::Columns::more_length, crate::proofs::Columns::one_room, crate::proofs::Columns::more_room))]
 pub fn put_decimal_in(out: &mut [u8], at: usize, width: usize, n: u64) -> usize
     requires { at + length (decimal_in width n) ≤ length out.old }
     ensures { PutText out.old at (decimal_in width n) result out.new }
@@ -65,6 +66,7 @@ pub fn put_decimal_in(out: &mut [u8], at: usize, width: usize, n: u64) -> usize
 }
 
 // A number.
+#[tactic(auto, using(crate::proofs::Decimal::column_none))]
 pub fn put_decimal(out: &mut [u8], at: usize, n: u64) -> usize
     requires { at + length (decimal n) ≤ length out.old }
     ensures { PutText out.old at (decimal n) result out.new }

@@ -16,8 +16,8 @@ use base.Fml.{Lft, Share, GName, Fml, ftrue, fsep, fat, flft}
 use prog.Wp.{Calls, Loops, WpFn, Tables}
 use types.Logic.{Logic, sem}
 use contract.Monad.{fact}
-use types.Kit.{‵, raw, given, ◌⊛◌, some, later, ◌$◌, ◌∵◌, !, qed, by, move, drop, keep, use1, use2, use3, rewrite, split, join, pick, learn, fsplit, fjoin}
-use types.Kit.{feq_l, suffices, frame, await, done}
+use types.Kit.{‵, raw, given, ◌⊛◌, some, later, ◌$◌, ◌∵◌, !, qed, by, move, keep, use1, use2, use3, rewrite, split, join, pick, learn, fsplit, fjoin}
+use types.Kit.{drop, feq_l, suffices, frame, await, done}
 use types.Run.{look, init, forget, stop, hop, fld, from, load, addr, of_opd, and_then, no_more, assigns, land, returns, enter, alloc1, alloc0, params1, pass1}
 use types.Run.{pass0, free1, free0}
 use types.Part.{agg, whole, sub, look_in}
@@ -152,7 +152,8 @@ module _ (w : Width) (of : ℕ → Item) (callee : Callee) {M : Type 1} {𝓤 : 
           -- what the callee ensures, at some last list
           split ! $ move ! (1 ∷ []) $ use1 𝓛 (some (λ (zs : List ℕ × (Unit {0} × (Unit {0} × Unit {0}))). ‵
           (lasts (to_ended w) (ν ∷ [], tt) (x δ ys, (n, (v, tt))) zs) ⊛ raw (fact 𝓤 (Puts (of v) ys n r zs.0)))) (id⊢ 𝓤 _) $ pick ! (λ zs.
-          split ! $ move ! (1 ∷ []) $ heard ! (Puts (of v) ys n r zs.0) (λ e. fsplit ! $ fsplit ! $ fsplit ! $ move ! (2 ∷ []) $ drop ! $ move ! (1 ∷ []) $ feq_l ! (λ l.
+          split ! $ move ! (1 ∷ []) $ heard ! (Puts (of v) ys n r zs.0) (λ e. fsplit ! $ fsplit ! $ fsplit ! $
+          move ! (2 ∷ []) $ drop ! $ move ! (1 ∷ []) $ feq_l ! (λ l.
           move ! (2 ∷ []) $ split ! $ move ! (1 ∷ []) $ peeks ! usize (Is usize) (shows 𝓛 usize) r (u ∷ []) (λ is.
           land ! (from ! (stop !)) (init ! 16 refl ((uint_Lawful 𝓛 w64).typed r _ is).0) $ rewrite ! 16
           (λ (z : Val). ‵ (fat full_share (ty_int w64) l₄ 0 z)) (ap only is.0) refl $
