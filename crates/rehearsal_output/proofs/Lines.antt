@@ -96,6 +96,15 @@ pub room_for_next : {out u mid : List ℕ} {at to : ℕ} (j : ℕ) (first : Bool
     n < BELOW_64_BITS → to + length (in_line first n) ≤ length mid
 room_for_next j first n P h fits = omega (arith, within_room j ROOM_FOR_NUMBER P h, in_line_64 first n fits)
 
+-- the first number of a line of 64 bits put, and one more
+pub first_put : {out mid : List ℕ} {at to : ℕ} (n : ℕ) → at + ROOM_FOR_NUMBER ≤ length out → n < BELOW_64_BITS → PutText out at (in_line true n) to mid →
+    PutWithin out at (in_line true n) to mid ROOM_FOR_NUMBER
+first_put {out = out} {at = at} n h fits Q = within_more 0 ROOM_FOR_NUMBER (within_none out at) Q (in_line_64 true n fits) (omega arith)
+
+pub next_put : {out u mid new : List ℕ} {at to next : ℕ} (j n : ℕ) → PutWithin out at u to mid j → at + j + ROOM_FOR_NUMBER ≤ length out → n < BELOW_64_BITS →
+    PutText mid to (in_line false n) next new → PutWithin out at (u ++ in_line false n) next new (j + ROOM_FOR_NUMBER)
+next_put j n P h fits Q = within_more j ROOM_FOR_NUMBER P Q (in_line_64 false n fits) h
+
 -- one answer more
 module _ {out mid new : List ℕ} {at to next : ℕ} (answered : List ℕ) (i : ℕ) (room : at + ROOM_FOR_ANSWER * length answered < length out)
     (P : PutWithin out at (spaced (take i answered)) to mid (ROOM_FOR_ANSWER * i)) where

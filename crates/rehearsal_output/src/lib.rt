@@ -1,5 +1,6 @@
 // What the rehearsal prints (01, "Play" and "Cases from the rig"; 02, ticket 6), put into lent bytes.
 #![tactic(auto)]
+
 ghost use Rattle.std.specs.Prelude.{◌≡◌, [], ◌∷◌, ◌++◌, ◌+◌, ◌*◌, ◌≤◌, ◌<◌, length, take};
 ghost use Rattle.ids.specs.Ranges.{SLOTS};
 ghost use Rattle.decimal.specs.Text.{PutText};
