@@ -2,7 +2,7 @@
 // writing fails it says so on standard error.
 #![tactic(auto)]
 
-ghost use Rattle.std.specs.Prelude.{◌≤◌, IfOk, length};
+ghost use Rattle.std.specs.Prelude.{◌≡◌, ◌≤◌, IfOk, length};
 ghost use Rattle.rehearsal_output.specs.Output.{ENOUGH};
 
 use play_events::LONGEST_LIST;
@@ -10,9 +10,11 @@ use std::io;
 use std::io::Read;
 
 // Reads to the end of the input, or until `list` is full, and answers how many bytes; it has room for as much as tells what is printed (`enough_read`).
+// Where reading fails, `list` is as long as it was, and holds what was read.
 fn read_input(input: &mut impl Read, list: &mut [u8]) -> io::Result<usize>
     requires { ENOUGH ≤ length list.old }
-    ensures { IfOk result (λ count. count ≤ length list.new) }
+    ensures read { IfOk result (λ count. count ≤ length list.new) }
+    ensures kept { length list.new ≡ length list.old }
 {
     let mut at = 0;
     while at < list.len() {
