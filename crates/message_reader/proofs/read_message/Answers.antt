@@ -1,17 +1,13 @@
 -- It goes by whether the slot is above 7.
-use Rattle.std.proofs.Common.{sym, ap, ◌∙◌, Bool}
-use Rattle.ids.specs.declared.Slot.{Slot}
+use Rattle.std.proofs.Common.{rules, sym, arith}
 use Rattle.ids.specs.Ranges.{no_slot}
-use Rattle.message.specs.Reading.{told_reading}
-use Rattle.message.proofs.Checks.{too_short, told}
+use Rattle.message.proofs.Checks.{too_short}
 use Rattle.message.proofs.RoundTrip.{reader_gives}
+use Rattle.message_reader.proofs.Told.{told_gives}
 use Rattle.message_reader.proofs.read_message.Goals as goal
 
 pub returns-then-s-lt-KIND_END : goal.returns-then-s-lt-KIND_END
-returns-then-s-lt-KIND_END c = reader_gives _ _ _ (sym (too_short _ _ c.if-s-lt-KIND_END.true))
+returns-then-s-lt-KIND_END c = reader_gives _ _ _ (sym (too_short c.args.s.now no_slot (omega arith)))
 
 pub returns : goal.returns
-returns c =
-    let above = c.no_slot.ensures ∙ ap (λ (i : Slot). no_slot i.0) c.slot_of.ensures in
-    reader_gives _ _ _
-    (c.read_told.ensures ∙ ap (λ (b : Bool). told_reading b c.args.s.now) above ∙ sym (told _ no_slot c.if-s-lt-KIND_END.false))
+returns c = told_gives _ _ _ _ (omega arith) c.read_told.ensures (search rules)

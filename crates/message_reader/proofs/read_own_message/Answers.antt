@@ -1,16 +1,13 @@
 -- It goes by whether the slot is another.
-use Rattle.std.proofs.Common.{sym, ap, ◌∙◌, Bool}
-use Rattle.ids.specs.declared.Slot.{Slot}
-use Rattle.message.specs.Reading.{other_slot, told_reading}
-use Rattle.message.proofs.Checks.{too_short, told}
+use Rattle.std.proofs.Common.{rules, sym, arith}
+use Rattle.message.specs.Reading.{other_slot}
+use Rattle.message.proofs.Checks.{too_short}
 use Rattle.message.proofs.RoundTrip.{reader_gives}
+use Rattle.message_reader.proofs.Told.{told_gives}
 use Rattle.message_reader.proofs.read_own_message.Goals as goal
 
 pub returns-then-s-lt-KIND_END : goal.returns-then-s-lt-KIND_END
-returns-then-s-lt-KIND_END c = reader_gives _ _ _ (sym (too_short _ _ c.if-s-lt-KIND_END.true))
+returns-then-s-lt-KIND_END c = reader_gives _ _ _ (sym (too_short c.args.s.now (other_slot c.args.own) (omega arith)))
 
 pub returns : goal.returns
-returns c =
-    let other = c.other_slot.ensures ∙ ap (λ (i : Slot). other_slot c.args.own i.0) c.slot_of.ensures in
-    reader_gives _ _ _
-    (c.read_told.ensures ∙ ap (λ (b : Bool). told_reading b c.args.s.now) other ∙ sym (told _ (other_slot c.args.own) c.if-s-lt-KIND_END.false))
+returns c = told_gives _ _ _ _ (omega arith) c.read_told.ensures (search rules)

@@ -1,0 +1,2 @@
+-- What the two readers share.
+pub mod Told
