@@ -179,8 +179,8 @@ pub fn preview_on_table(
 }
 
 pub fn preview(t: &[u64], second: &mut [u64], r: Round, v: u64, p: Round) -> CallAnswer
-    ensures { Previewed true t.now second.old (add r.0 v p.0) result.number result.ghosts
-        t.now second.new }
+    ensures { Previewed true t.now second.old (add r.0 v p.0) result.number
+        result.ghosts t.now second.new }
 {
     preview_on_table(true, t, second, r, v, p)
 }
