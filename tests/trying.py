@@ -13,6 +13,7 @@ SHAPE = re.compile(
     r"|(expected|has) type `[^` ]*Lts[^` ]*\.[A-Z]"
     r"|((expected|has) type|computed as far as they go, the two types [a-z ]*where one has) `\(?([^` ]*\.)?(ℕ|Bool|List [^`]*)`"
     r"|^(\./)?specs/\S+: error: "
+    r"| error: `[^`]*_spec`"
 )
 # An error of a proof, a goal that isn't proved, a function whose measure or answers aren't found. What rests on a refused part says nothing more.
 ERROR = re.compile(r"\S+:\d+:\d+: error|note: \S+:\d+:\d+: it is not proved that |fn \S+: no proof: expected ")

@@ -6,7 +6,7 @@
 // how many rounds would be made GHOST, and the second table), behind each line each node's round, parent, value and status.
 #![tactic(auto)]
 
-ghost use Rattle.std.specs.Prelude.{◌+◌, ◌*◌, ◌≤◌, length};
+ghost use Rattle.std.specs.Prelude.{◌≡◌, ◌+◌, ◌*◌, ◌≤◌, IfOk, length};
 
 use ids::Round;
 use std::io;
@@ -298,9 +298,25 @@ fn run(rt: &impl Print, t: &mut [u64], text: &[u8]) -> io::Result<()> {
     Ok(())
 }
 
+// Reads until `buf` is full or the input ends, and answers how many bytes. Where reading fails, `buf` is as long as it was, and holds what was read.
+fn read_full(input: &mut impl Read, buf: &mut [u8]) -> io::Result<usize>
+    ensures read { IfOk result (λ count. count ≤ length buf.new) }
+    ensures kept { length buf.new ≡ length buf.old }
+{
+    let mut at = 0;
+    while at < buf.len() {
+        let more = input.read(&mut buf[at..])?;
+        if more == 0 {
+            return Ok(at);
+        }
+        at += more;
+    }
+    Ok(at)
+}
+
 fn main(rt: HostRuntime) -> io::Result<()> {
     let mut t = [0u64; 1024];
-    let mut text = Vec::new(rt.alloc());
-    rt.stdin().take(8192).read_to_end(&mut text)?;
-    run(&rt, &mut t, text.as_slice())
+    let mut text = [0u8; 8192];
+    let n = read_full(&mut rt.stdin(), &mut text)?;
+    run(&rt, &mut t, &text[..n])
 }
