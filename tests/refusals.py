@@ -14,6 +14,7 @@ import re
 import sys
 import threading
 
+sys.dont_write_bytecode = True
 import trying
 
 LINE = re.compile(r"rt: must-fail (\w+/[^/ ]+)\.edit: (.*)")
