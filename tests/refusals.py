@@ -14,6 +14,7 @@ import re
 import sys
 import threading
 
+sys.dont_write_bytecode = True
 import trying
 
 LINE = re.compile(r"rt: must-fail (\w+/[^/ ]+)\.edit: (.*)")
@@ -79,11 +80,12 @@ def whole(names, jobs):
                     crate, own = queue.pop()
                 for edit in own:
                     texts = edited(crate, edit)
-                    log, _ = tree.tried(crate, texts) if texts else ([], False)
+                    log, judged = tree.tried(crate, texts) if texts else ([], False)
                     os.makedirs(f"target/must-fail/{crate}", exist_ok=True)
                     with open(f"target/must-fail/{crate}/{edit}.log", "w", encoding="utf-8") as file:
                         file.write("\n".join(log or []))
-                    kind = "can't be applied" if not texts else "wasn't refused" if log is None else trying.kind_of(trying.errors_in(log))
+                    kind = "wasn't refused" if log is None else trying.kind_of(trying.errors_in(log)) if judged else "came to no verdict"
+                    kind = kind if texts else "can't be applied"
                     wrong = {"fact": None, "shape": "was refused for its shape, not at a fact", "untold": "was refused at no fact"}.get(kind, kind)
                     with lock:
                         found[f"{crate}/{edit}"] = wrong

@@ -26,6 +26,7 @@ import threading
 import time
 from collections import namedtuple
 
+sys.dont_write_bytecode = True
 from trying import Tree, errors_in, kind_of
 
 OTHERS = {
