@@ -2,7 +2,7 @@
 # Builds the archives that a host links, target/staticlib/libNAME.a, of the crates named, or of `exports` and `exports_member` where none is named.
 # Only a proved crate gets one: rt proves what has changed. An archive that is newer than every source stays as it is.
 # With OVER_CI=1, right after `rt ci`, an archive is built over the libraries that it proved and left in out/. Rt's other commands don't take those and
-# would prove each library again.
+# would prove each library again. Where libraries are missing, rt proves them.
 cd "$(dirname "$0")/.." || exit 2
 [ $# -gt 0 ] || set -- exports exports_member
 mkdir -p target/staticlib
@@ -31,8 +31,7 @@ for crate in "$@"; do
     archive=target/staticlib/lib$crate.a
     is_new "$archive" && continue
     touch "$begun"
-    if [ "${OVER_CI:-}" = 1 ]; then build=(over_ci "$crate"); else build=(rt lib); fi
-    if ! (cd "crates/$crate" && "${build[@]}") >"$said" 2>&1; then
+    if ! { [ "${OVER_CI:-}" = 1 ] && (cd "crates/$crate" && over_ci "$crate"); } >"$said" 2>&1 && ! (cd "crates/$crate" && rt lib) >"$said" 2>&1; then
         cat "$said"
         echo "host/archives.sh: no archive of $crate"
         exit 1
