@@ -30,6 +30,9 @@ def said_of(line):
     refused = re.fullmatch(r"refused, as it must be: (.*)", line)
     if refused:
         return "was refused for its shape, not at a fact" if trying.SHAPE.search(refused[1]) else None
+    if line == "refused, as it must be":
+        # No error has a place, as each that speaks of the shape has: what is left is a goal of a function without a proof file, which the search left open.
+        return None
     if line.startswith("refused, as it must be (only because a proof file names"):
         return "was refused for its shape, not at a fact"
     return "was refused at no fact" if line.startswith("refused") else "is a bad edit" if line.startswith("BAD EDIT") else "wasn't refused"
