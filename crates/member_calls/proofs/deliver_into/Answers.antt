@@ -1,5 +1,6 @@
 -- Each return goes by the row's number, and by what the bytes read as for the record's slot.
 use Rattle.std.proofs.Common.{refl, sym, ◌∙◌}
+use Rattle.laws.specs.Tests.{tests}
 use Rattle.message.specs.Reading.{other_slot, message_row, decoded_body}
 use Rattle.message.proofs.RoundTrip.{got}
 use Rattle.member.specs.Table.{delivers, sound_step}
@@ -28,7 +29,7 @@ pub tell-requires : goal.tell-requires
 tell-requires c =
     let row = c.record_number-number in (
       (passing c.args.m c.args.reply.now row.result row.ensures c.if-number-ne-OK.false).1,
-      slotted c.args.m c.args.reply.now row.result row.ensures c.if-number-ne-OK.false,
+      omega (tests, slotted c.args.m c.args.reply.now row.result row.ensures c.if-number-ne-OK.false),
       c.deliver_sound.ensures.kept,
     )
 
@@ -43,8 +44,5 @@ pub returns-in-Got : goal.returns-in-Got
 returns-in-Got c =
     let row = c.record_number-number in
     let read = sym c.read_own_message-read.ensures.answer ∙ c.in-Got.is in
-    rw (
-      read_as c.args.m c.args.bytes.now c.args.reply.now row.result row.ensures c.if-number-ne-OK.false c.in-Got.g read,
-      ← c.deliver_sound.ensures.equals,
-    )
-    c.tell.ensures
+    rw (read_as c.args.m c.args.bytes.now c.args.reply.now row.result row.ensures c.if-number-ne-OK.false c.in-Got.g read)
+    (rw c.deliver_sound.ensures.equals at c.tell.ensures)

@@ -1,15 +1,20 @@
 -- Each refusal in its order, then the events on a cleared store and fresh tables.
 use mathlib.Core.Path.{◌≡◌, sym, ap, ◌∙◌}
-use mathlib.Core.Bool.{Bool}
+use mathlib.Core.Bool.{Bool, true}
 use mathlib.Core.List.{List}
-use Prim.Native.Nat.{ℕ}
+use Prim.Native.Nat.{ℕ, ◌≤◌}
 use native.Mathlib.Omega.{arith}
+use lib.ListN.{length}
+use Rattle.numbers.specs.Numbers.{OK}
 use Rattle.member_record.specs.Record.{allowed}
 use Rattle.play_events.specs.declared.ListHead.{ListHead}
-use Rattle.play_events.specs.List.{members_of, count_of, head_of}
+use Rattle.play_events.specs.List.{members_of, count_of, head_of, list_fits}
+use Rattle.play_store.specs.Rows.{store_sized}
+use Rattle.play_tables.specs.Tables.{tables_number}
 use Rattle.play_tables.proofs.Sizes.{number_fits}
+use Rattle.play_run.specs.Lent.{Lent}
 use Rattle.play_run.proofs.Running.{list_parts}
-use Rattle.play.proofs.Giving.{as_given, not_exact, not_allowed, store_odd, answers_few, tables_odd, ready_to_run, given_taken}
+use Rattle.play.proofs.Giving.{PassedList, as_given, not_exact, not_allowed, store_odd, answers_few, tables_odd, ready_to_run, given_taken}
 use Rattle.play.proofs.play.Goals as goal
 
 -- what the head that was read says
@@ -18,6 +23,18 @@ members_read list q p = ap (λ (h : ListHead). allowed h.members) (sym q) ∙ sy
 
 count_read : (list : List ℕ) {h : ListHead} → h ≡ head_of list → h.count ≡ count_of list
 count_read list q = ap (λ (h : ListHead). h.count) q
+
+-- and what each test left behind
+passed_list : {list ls : List ℕ} {L : Lent} {h : ListHead} {a b d : Bool} {k : ℕ} → a ≡ list_fits list → h ≡ head_of list → b ≡ allowed h.members →
+    d ≡ store_sized L.store → k ≡ tables_number ls L.words → a ≡ true → b ≡ true → d ≡ true → h.count ≤ length L.answers → k ≡ OK → PassedList list ls L
+passed_list ea eh eb ed ek ta tb td room tk =
+    record {
+      fits = sym ea ∙ ta;
+      members = members_read _ eh eb ∙ tb;
+      store_length = sym ed ∙ td;
+      room = omega (arith, count_read _ eh);
+      tables_fit = number_fits _ _ (sym ek ∙ tk);
+    }
 
 pub returns-then-not-list_fits : goal.returns-then-not-list_fits
 returns-then-not-list_fits c =
@@ -62,23 +79,13 @@ fresh_tables-requires c = number_fits _ _ (sym c.tables_number-number.ensures �
 pub run-requires : goal.run-requires
 run-requires c =
     ready_to_run
-    (record {
-      fits = sym c.list_fits.ensures ∙ c.if-not-list_fits.false;
-      members = members_read c.args.list.now c.read_head-head.ensures c.is_allowed.ensures ∙ c.if-not-is_allowed.false;
-      store_length = sym c.has_store_length.ensures ∙ c.if-not-has_store_length.false;
-      room = omega (arith, count_read c.args.list.now c.read_head-head.ensures);
-      tables_fit = number_fits _ _ (sym c.tables_number-number.ensures ∙ c.if-number-ne-OK.false);
-    })
-    c.clear.ensures c.fresh_tables.ensures
+    (passed_list c.list_fits.ensures c.read_head-head.ensures c.is_allowed.ensures c.has_store_length.ensures c.tables_number-number.ensures
+    c.if-not-list_fits.false c.if-not-is_allowed.false c.if-not-has_store_length.false (omega arith) c.if-number-ne-OK.false) c.clear.ensures
+    c.fresh_tables.ensures
 
 pub returns : goal.returns
 returns c =
     given_taken
-    (record {
-      fits = sym c.list_fits.ensures ∙ c.if-not-list_fits.false;
-      members = members_read c.args.list.now c.read_head-head.ensures c.is_allowed.ensures ∙ c.if-not-is_allowed.false;
-      store_length = sym c.has_store_length.ensures ∙ c.if-not-has_store_length.false;
-      room = omega (arith, count_read c.args.list.now c.read_head-head.ensures);
-      tables_fit = number_fits _ _ (sym c.tables_number-number.ensures ∙ c.if-number-ne-OK.false);
-    })
+    (passed_list c.list_fits.ensures c.read_head-head.ensures c.is_allowed.ensures c.has_store_length.ensures c.tables_number-number.ensures
+    c.if-not-list_fits.false c.if-not-is_allowed.false c.if-not-has_store_length.false (omega arith) c.if-number-ne-OK.false)
     c.clear.ensures c.fresh_tables.ensures c.run.ensures

@@ -1,12 +1,20 @@
 -- A proposal makes no more rounds GHOST than a table has nodes.
+use mathlib.Core.Path.{◌≡◌}
 use mathlib.Core.Bool.{true}
+use mathlib.Core.List.{List}
+use Prim.Native.Nat.{ℕ, ◌≤◌}
 use native.Mathlib.Omega.{arith}
 use Rattle.tree_theory.specs.Machine.{add}
+use Rattle.tree_theory.specs.Table.{sized, Tree}
+use Rattle.tree_theory.specs.Ghosts.{stepped_ghosts}
 use Rattle.tree_theory.proofs.Ghosts.{tree_few}
 use Rattle.play_effects.proofs.propose.Goals as goal
 
+-- whatever the call of add names
+few : {ws : List ℕ} {n : ℕ} (r v p : ℕ) → sized ws ≡ true → Tree true ws → n ≡ stepped_ghosts true ws (add r v p) → n ≤ 256
+few {ws} r v p s T e = omega (arith, e, tree_few true ws s T (add r v p))
+
 pub counted-requires : goal.counted-requires
 counted-requires c =
-    let a = c.args in
-    let few = tree_few true a.nodes.now c.requires.2 c.requires.3 (add a.round.0 a.value a.parent.0) in
-    (c.requires.0, omega arith, omega arith, omega arith, omega (arith, c.add_in_tree-added.ensures.ghosts_are, few))
+    let most = few _ _ _ c.requires.2 c.requires.3 c.add_in_tree-added.ensures.ghosts_are in
+    (c.requires.0, omega arith, omega arith, omega arith, omega (arith, most))
