@@ -17,6 +17,7 @@ import threading
 sys.dont_write_bytecode = True
 import trying
 
+PART = 8  # edits that one worker takes at a time
 LINE = re.compile(r"rt: must-fail (\w+/[^/ ]+)\.edit: (.*)")
 
 
@@ -68,10 +69,11 @@ def edited(crate, edit):
 
 def whole(names, jobs):
     found, lock = {}, threading.Lock()
-    queue = {}
+    crates = {}
     for it in edits(names):
-        queue.setdefault(it.split("/")[0], []).append(it.split("/")[1])
-    queue = sorted(queue.items(), key=lambda it: len(it[1]))
+        crates.setdefault(it.split("/")[0], []).append(it.split("/")[1])
+    # a large crate's edits go to several workers
+    queue = [(crate, own[i : i + PART]) for crate, own in crates.items() for i in range(0, len(own), PART)][::-1]
 
     def worker():
         tree = trying.Tree()
