@@ -1,2 +1,3 @@
 -- Theorems about the message store.
+mod Parts
 pub mod Stored

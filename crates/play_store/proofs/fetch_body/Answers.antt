@@ -1,11 +1,10 @@
 -- The part lent is the row.
-use Rattle.std.proofs.Common.{◌≡◌, ◌+◌, ◌-◌, arith}
-use Rattle.message.specs.Reading.{decoded}
-use Rattle.play_store.specs.Rows.{row_length, row_start, fetched}
+use Rattle.std.proofs.Common.{List, ℕ, take, ap, ◌∙◌}
+use Rattle.message.specs.Reading.{size, decoded, decoded_body}
+use Rattle.play_store.specs.Rows.{fetched}
+use Rattle.play_store.proofs.Parts.{part_row}
 use Rattle.play_store.proofs.fetch_body.Goals as goal
 
 pub returns : goal.returns
 unfolding fetched decoded
-returns c =
-    let e : row_start c.args.k + row_length - row_start c.args.k ≡ row_length = omega arith in
-    rw e at c.body_front.ensures
+returns c = c.body_front.ensures ∙ ap (λ (l : List ℕ). decoded_body (take (size l) l)) (part_row c.args.s.now c.args.k)

@@ -1,11 +1,12 @@
 -- The part lent is the row, and its first word is in the message at its front, however long that is.
-use Rattle.std.proofs.Common.{◌≡◌, ℕ, List, ◌++◌, ◌+◌, ◌-◌, ◌≤◌, length, take, drop, sym, ap, ◌∙◌, arith, length-drop}
+use Rattle.std.proofs.Common.{◌≡◌, ℕ, List, ◌++◌, ◌≤◌, length, take, drop, sym, ap, ◌∙◌, arith}
 use Rattle.std.proofs.lemmas.List.{length-take-le, take-append-drop}
 use Rattle.xdr.proofs.Laws.{word_at_front}
 use Rattle.message.specs.Layout.{longest_message, slot_place, message_slot}
 use Rattle.message.specs.Reading.{size, decoded}
 use Rattle.message.proofs.Checks.{size_least, size_most}
-use Rattle.play_store.specs.Rows.{HasRow, row_length, row_start, row_at, fetched}
+use Rattle.play_store.specs.Rows.{row_at, fetched}
+use Rattle.play_store.proofs.Parts.{part_row, length_part}
 use Rattle.play_store.proofs.fetch_slot.Goals as goal
 
 -- the slot of the message at the front of bytes is their first word
@@ -18,15 +19,9 @@ slot_first r h =
     let same = word_at_front front (drop (size r) r) slot_place (omega (arith, size_least r)) in
     ap (λ (x : List ℕ). message_slot x) (sym both) ∙ ap (λ (x : ℕ). record { 0 = x }) same
 
-row_whole : (s : List ℕ) (k : ℕ) → HasRow s k → longest_message ≤ length (row_at s k)
-row_whole s k h =
-    let room : row_length ≤ length (drop (row_start k) s) = rw (length-drop (row_start k) s) (omega arith) in
-    omega (arith, length-take-le row_length (drop (row_start k) s) room)
-
 pub returns : goal.returns
 unfolding fetched
 returns c =
     let s = c.args.s.now in
     let k = c.args.k in
-    let e : row_start k + row_length - row_start k ≡ row_length = omega arith in
-    rw e at c.slot_front.ensures ∙ slot_first (row_at s k) (row_whole s k c.requires)
+    c.slot_front.ensures ∙ ap (λ (l : List ℕ). message_slot l) (part_row s k) ∙ slot_first (row_at s k) (length_part s k c.requires)
