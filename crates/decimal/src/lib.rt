@@ -1,4 +1,4 @@
-// Numbers as text: decimal digits in ASCII, put at a place of lent bytes. Each function answers the place behind what it put.
+// Numbers as text: decimal digits in ASCII, put at a place of lent bytes.
 #![tactic(auto)]
 
 ghost use Rattle.std.specs.Prelude.{◌≡◌, [], ◌∷◌, ◌+◌, ◌-◌, ◌≤◌, ◌<◌, length, replicate};
@@ -10,66 +10,68 @@ pub const BLANK: u8 = 32;
 // A digit's character is this and the digit.
 const ZERO: u8 = 48;
 
-// A character.
-pub fn put_byte(out: &mut [u8], at: usize, b: u8) -> usize
-    requires { at < length out.old }
-    ensures { PutText out.old at (b ∷ []) result out.new }
-{
-    out[at] = b;
-    at + 1
+// The buffer lent for the text, and the place of the next character.
+#[derive(Drop)]
+pub struct Page<'a> {
+    pub out: &'a mut [u8],
+    pub at: usize,
 }
 
-fn put_digit(out: &mut [u8], at: usize, d: u64) -> usize
-    requires { (at < length out.old) × (d < 10) }
-    ensures { PutText out.old at (digit d ∷ []) result out.new }
-{
-    put_byte(out, at, ZERO + d as u8)
-}
-
-// So many blanks.
-fn put_blanks(out: &mut [u8], at: usize, count: usize) -> usize
-    requires { at + count ≤ length out.old }
-    ensures { PutText out.old at (replicate count BLANK) result out.new }
-{
-    let mut next = at;
-    let mut i = 0;
-    while i < count {
-        next = put_byte(out, next, BLANK);
-        i += 1;
+// Each method puts its text at the place, and moves on behind it. The buffer stays the one that was lent, as long as it was (`text_length`).
+impl Page<'_> {
+    // A character.
+    pub fn put_byte(&mut self, b: u8)
+        requires { self.old.at < length self.old.out.now }
+        ensures text { PutText self.old.out.now self.old.at (b ∷ []) self.new.at self.new.out.now }
+        ensures same_buffer { self.new.out.ghost_name ≡ self.old.out.ghost_name }
+    {
+        self.out[self.at] = b;
+        self.at += 1;
     }
-    next
-}
 
-// A column with one character less.
-fn narrower(width: usize) -> usize
-    ensures { result ≡ width - 1 }
-{
-    if width == 0 {
-        return 0;
+    fn put_digit(&mut self, d: u64)
+        requires { (self.old.at < length self.old.out.now) × (d < 10) }
+        ensures text { PutText self.old.out.now self.old.at (digit d ∷ []) self.new.at self.new.out.now }
+        ensures same_buffer { self.new.out.ghost_name ≡ self.old.out.ghost_name }
+    {
+        self.put_byte(ZERO + d as u8);
     }
-    width - 1
-}
 
-// A number at the right of a column.
-#[tactic(auto, using(crate::proofs::Columns::one_length, crate::proofs::Columns::more_length, crate::proofs::Columns::one_room, crate::proofs::Columns::more_room))]
-pub fn put_decimal_in(out: &mut [u8], at: usize, width: usize, n: u64) -> usize
-    requires { at + length (decimal_in width n) ≤ length out.old }
-    ensures { PutText out.old at (decimal_in width n) result out.new }
-{
-    let rest = narrower(width);
-    if n < 10 {
-        let from = put_blanks(out, at, rest);
-        return put_digit(out, from, n);
+    // So many blanks.
+    fn put_blanks(&mut self, count: usize)
+        requires { self.old.at + count ≤ length self.old.out.now }
+        ensures text { PutText self.old.out.now self.old.at (replicate count BLANK) self.new.at self.new.out.now }
+        ensures same_buffer { self.new.out.ghost_name ≡ self.old.out.ghost_name }
+    {
+        let next = self.at + count;
+        self.out[self.at..next].fill(BLANK);
+        self.at = next;
     }
-    let last = put_decimal_in(out, at, rest, n / 10);
-    put_digit(out, last, n % 10)
-}
 
-// A number.
-#[tactic(auto, using(crate::proofs::Decimal::column_none))]
-pub fn put_decimal(out: &mut [u8], at: usize, n: u64) -> usize
-    requires { at + length (decimal n) ≤ length out.old }
-    ensures { PutText out.old at (decimal n) result out.new }
-{
-    put_decimal_in(out, at, 0, n)
+    // A number at the right of a column.
+    #[tactic(auto, using(crate::proofs::Columns::one_length, crate::proofs::Columns::more_length, crate::proofs::Columns::one_room, crate::proofs::Columns::more_room))]
+    pub fn put_decimal_in(&mut self, width: usize, n: u64)
+        requires { self.old.at + length (decimal_in width n) ≤ length self.old.out.now }
+        ensures text { PutText self.old.out.now self.old.at (decimal_in width n) self.new.at self.new.out.now }
+        ensures same_buffer { self.new.out.ghost_name ≡ self.old.out.ghost_name }
+    {
+        let rest = width.saturating_sub(1);
+        if n < 10 {
+            self.put_blanks(rest);
+            self.put_digit(n);
+            return;
+        }
+        self.put_decimal_in(rest, n / 10);
+        self.put_digit(n % 10);
+    }
+
+    // A number.
+    #[tactic(auto, using(crate::proofs::Decimal::column_none))]
+    pub fn put_decimal(&mut self, n: u64)
+        requires { self.old.at + length (decimal n) ≤ length self.old.out.now }
+        ensures text { PutText self.old.out.now self.old.at (decimal n) self.new.at self.new.out.now }
+        ensures same_buffer { self.new.out.ghost_name ≡ self.old.out.ghost_name }
+    {
+        self.put_decimal_in(0, n);
+    }
 }

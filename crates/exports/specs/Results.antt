@@ -1,22 +1,29 @@
 -- The fields that the C functions hand back, for each answer of the crates below.
-use Rattle.std.specs.Prelude.{ℕ}
+use Rattle.std.specs.Prelude.{◌≡◌, Result, ℕ}
 use Rattle.ids.specs.declared.Round.{Round}
 use Rattle.ids.specs.declared.Member.{Member}
 use Rattle.ids.specs.declared.Slot.{Slot}
-use Rattle.numbers.specs.Numbers.{OK}
+use Rattle.numbers.specs.declared.Refusal.{Refusal}
+use Rattle.numbers.specs.Numbers.{OK, number_of}
 use Rattle.message.specs.declared.Message.{Message}
 use Rattle.message.specs.declared.Body.{Body}
 use Rattle.message.specs.declared.Body.TheVariants.{Start, Join, JoinVoted, Propose, Vote}
-use Rattle.message.specs.declared.Read.{Read}
-use Rattle.message.specs.declared.Read.TheVariants.{Got, Refused}
+use Rattle.message.specs.Answers.{Read, Got, Refused}
 use Rattle.message.specs.Layout.{START_KIND, JOIN_KIND, PROPOSE_KIND, VOTE_KIND}
-use Rattle.play_run.specs.declared.PlayAnswer.{PlayAnswer}
+use Rattle.tree.specs.Promises.{counted_of}
+use Rattle.play_run.specs.Answer.{PlayAnswer}
 use Rattle.exports.specs.declared.PlayResult.{PlayResult}
+use Rattle.exports.specs.declared.AddResult.{AddResult}
 use Rattle.exports.specs.declared.MessageResult.{MessageResult}
 
 -- a result of play as play answers it
 abbrev pub as_play_answer : PlayResult → PlayAnswer
 as_play_answer r = record { number = r.number; accepted = r.accepted; messages = r.messages; proposals = r.proposals; decisions = r.decisions; ghosts = r.ghosts }
+
+-- an add's answer, and a preview's
+pub record AddIs (answer : Result ℕ Refusal) (r : AddResult) : Type 0 where
+  pub number_is : r.number ≡ number_of answer
+  pub ghosts_are : r.ghosts ≡ counted_of answer
 
 -- a message of a slot that tells no vote; a value that its kind doesn't have is 0
 abbrev pub voteless : Slot → ℕ → Round → Member → ℕ → MessageResult

@@ -1,19 +1,23 @@
 // The C functions that the host calls: play, the message reader and the calls of both kinds of trees, thin over the proved crates. A slice passes as
-// a pointer and a count of elements. A number is 0 for OK, else a refusal.
+// a pointer and a count of elements. A number is 0 for OK, else a refusal. Results are structs of numbers and each kind of tree has its names, as C wants them.
 #![tactic(auto)]
 
 ghost use Rattle.std.specs.Prelude.{◌≡◌, true, false};
+ghost use Rattle.numbers.specs.Numbers.{refusal_number};
 ghost use Rattle.tree_theory.specs.Machine.{add, commit};
 ghost use Rattle.tree_theory.specs.Table.{fresh_number, fresh_table};
 ghost use Rattle.tree.specs.Promises.{CalledOnTable, CountedOnTable, Previewed, PathGiven};
 ghost use Rattle.ids.specs.Ranges.{no_slot};
+ghost use Rattle.message.specs.Kinds.{kind_number};
 ghost use Rattle.message.specs.Reading.{reading};
 ghost use Rattle.play_run.specs.Lent.{as_lent};
-ghost use Rattle.play.specs.Promise.{Given};
-ghost use Rattle.exports.specs.Results.{as_play_answer, voteless, message_result, refused_result, read_result};
+ghost use Rattle.play.specs.Promise.{answer_of, Given};
+ghost use Rattle.exports.specs.Results.{as_play_answer, AddIs, voteless, message_result, refused_result, read_result};
 
 use ids::{Member, Round, Slot};
-use message::{Body, JOIN_KIND, Message, PROPOSE_KIND, Read, START_KIND, VOTE_KIND};
+use message::{Body, Kind, Message};
+use numbers::Refusal;
+use play_run::Played;
 
 // The version of the C functions, one number for both archives. It goes up with each change that a caller of either sees.
 const VERSION: u32 = 6;
@@ -27,7 +31,7 @@ pub extern "C" fn kalebasin_version() -> u32
 
 // With a refusal each count is 0.
 #[repr(C)]
-#[derive(Clone, Copy)]
+#[derive(Clone, Copy, Debug, PartialEq, Eq)]
 pub struct PlayResult {
     pub number: u32,
     pub accepted: u32,
@@ -35,6 +39,31 @@ pub struct PlayResult {
     pub proposals: u32,
     pub decisions: u32,
     pub ghosts: u32,
+}
+
+impl From<Result<Played, Refusal>> for PlayResult {
+    ghost from_gives = { λ answer r. as_play_answer r ≡ answer_of answer };
+
+    fn from(answer: Result<Played, Refusal>) -> PlayResult {
+        match answer {
+            Ok(p) => PlayResult {
+                number: 0,
+                accepted: p.accepted,
+                messages: p.messages,
+                proposals: p.proposals,
+                decisions: p.decisions,
+                ghosts: p.ghosts,
+            },
+            Err(refusal) => PlayResult {
+                number: u32::from(refusal),
+                accepted: 0,
+                messages: 0,
+                proposals: 0,
+                decisions: 0,
+                ghosts: 0,
+            },
+        }
+    }
 }
 
 // Plays a list of events over an office: list, store, tables and answers are lent. `nodes` holds the tables of the eight slots one after another, and
@@ -50,15 +79,7 @@ pub extern "C" fn kalebasin_play(
     ensures { Given list.now lengths.now (as_lent messages.old nodes.old answered.old)
         (as_play_answer result) (as_lent messages.new nodes.new answered.new) }
 {
-    let p = play::play(list, messages, nodes, lengths, answered);
-    PlayResult {
-        number: p.number,
-        accepted: p.accepted,
-        messages: p.messages,
-        proposals: p.proposals,
-        decisions: p.decisions,
-        ghosts: p.ghosts,
-    }
+    PlayResult::from(play::play(list, messages, nodes, lengths, answered))
 }
 
 // A field that the kind doesn't have is 0; with a refusal all but the number.
@@ -78,13 +99,13 @@ pub struct MessageResult {
 }
 
 // A message that tells no vote.
-fn voteless(slot: Slot, kind: u32, round: Round, sender: Member, value: u64) -> MessageResult
-    ensures { result ≡ voteless slot kind round sender value }
+fn voteless(slot: Slot, kind: Kind, round: Round, sender: Member, value: u64) -> MessageResult
+    ensures { result ≡ voteless slot (kind_number kind) round sender value }
 {
     MessageResult {
-        number: numbers::OK,
+        number: 0,
         slot: slot.0,
-        kind,
+        kind: u32::from(kind),
         round: round.0,
         sender: sender.0,
         present: 0,
@@ -98,19 +119,18 @@ fn message_result(m: Message) -> MessageResult
     ensures { result ≡ message_result m }
 {
     let slot = m.slot;
-    let body = m.body;
-    match body {
-        Body::Start { round, sender } => voteless(slot, START_KIND, round, sender, 0),
-        Body::Join { round, sender } => voteless(slot, JOIN_KIND, round, sender, 0),
+    match m.body {
+        Body::Start { round, sender } => voteless(slot, Kind::Start, round, sender, 0),
+        Body::Join { round, sender } => voteless(slot, Kind::Join, round, sender, 0),
         Body::JoinVoted {
             round,
             sender,
             voted,
             value,
         } => MessageResult {
-            number: numbers::OK,
+            number: 0,
             slot: slot.0,
-            kind: JOIN_KIND,
+            kind: u32::from(Kind::Join),
             round: round.0,
             sender: sender.0,
             present: 1,
@@ -121,17 +141,17 @@ fn message_result(m: Message) -> MessageResult
             round,
             sender,
             value,
-        } => voteless(slot, PROPOSE_KIND, round, sender, value),
-        Body::Vote { round, sender } => voteless(slot, VOTE_KIND, round, sender, 0),
+        } => voteless(slot, Kind::Propose, round, sender, value),
+        Body::Vote { round, sender } => voteless(slot, Kind::Vote, round, sender, 0),
     }
 }
 
 // A refusal's number alone.
-fn refused_result(number: u32) -> MessageResult
-    ensures { result ≡ refused_result number }
+fn refused_result(refusal: Refusal) -> MessageResult
+    ensures { result ≡ refused_result (refusal_number refusal) }
 {
     MessageResult {
-        number,
+        number: u32::from(refusal),
         slot: 0,
         kind: 0,
         round: 0,
@@ -147,10 +167,9 @@ fn refused_result(number: u32) -> MessageResult
 pub extern "C" fn kalebasin_read_message(s: &[u8]) -> MessageResult
     ensures { result ≡ read_result (reading no_slot s.now) }
 {
-    let m = message_reader::read_message(s);
-    match m {
-        Read::Got(m) => message_result(m),
-        Read::Refused(number) => refused_result(number),
+    match message_reader::read_message(s) {
+        Ok(m) => message_result(m),
+        Err(refusal) => refused_result(refusal),
     }
 }
 
@@ -160,26 +179,39 @@ pub extern "C" fn kalebasin_tree_fresh(nodes: &mut [u64]) -> u32
     ensures number { result ≡ fresh_number nodes.old }
     ensures left { nodes.new ≡ fresh_table nodes.old }
 {
-    tree::fresh(nodes)
+    numbers::number_of(tree::fresh(nodes))
 }
 
 // How many rounds are ADDED before an add and GHOST after it, of a preview before and after the add that it shows; 0 with a refusal.
 #[repr(C)]
-#[derive(Clone, Copy)]
+#[derive(Clone, Copy, Debug, PartialEq, Eq)]
 pub struct AddResult {
     pub number: u32,
     pub ghosts: u32,
 }
 
-// add(round, value, parent) of either kind of tree.
-fn add_result(valued: bool, nodes: &mut [u64], round: u32, value: u64, parent: u32) -> AddResult
-    ensures { CountedOnTable valued nodes.old (add round value parent) result.number result.ghosts nodes.new }
-{
-    let added = tree::add_on_table(valued, nodes, Round(round), value, Round(parent));
-    AddResult {
-        number: added.number,
-        ghosts: added.ghosts,
+impl From<Result<u32, Refusal>> for AddResult {
+    ghost from_gives = { AddIs };
+
+    fn from(answer: Result<u32, Refusal>) -> AddResult {
+        AddResult {
+            number: numbers::number_of(answer),
+            ghosts: answer.unwrap_or(0),
+        }
     }
+}
+
+// add(round, value, parent) of either kind of tree.
+fn add_result<const VALUED: bool>(
+    nodes: &mut [u64],
+    round: u32,
+    value: u64,
+    parent: u32,
+) -> AddResult
+    ensures { CountedOnTable VALUED nodes.old (add round value parent) result.number result.ghosts nodes.new }
+{
+    let added = tree::add::<VALUED>(nodes, Round(round), value, Round(parent));
+    AddResult::from(added)
 }
 
 #[unsafe(no_mangle)]
@@ -191,26 +223,22 @@ pub extern "C" fn kalebasin_tree_add(
 ) -> AddResult
     ensures { CountedOnTable true nodes.old (add round value parent) result.number result.ghosts nodes.new }
 {
-    add_result(true, nodes, round, value, parent)
+    add_result::<true>(nodes, round, value, parent)
 }
 
 // What add(round, value, parent) would make of a table of either kind, made in a second one (02, ticket 5).
-fn preview_result(
-    valued: bool,
+fn preview_result<const VALUED: bool>(
     nodes: &[u64],
     second: &mut [u64],
     round: u32,
     value: u64,
     parent: u32,
 ) -> AddResult
-    ensures { Previewed valued nodes.now second.old (add round value parent) result.number result.ghosts
+    ensures { Previewed VALUED nodes.now second.old (add round value parent) result.number result.ghosts
         nodes.now second.new }
 {
-    let shown = tree::preview_on_table(valued, nodes, second, Round(round), value, Round(parent));
-    AddResult {
-        number: shown.number,
-        ghosts: shown.ghosts,
-    }
+    let shown = tree::preview::<VALUED>(nodes, second, Round(round), value, Round(parent));
+    AddResult::from(shown)
 }
 
 #[unsafe(no_mangle)]
@@ -224,14 +252,14 @@ pub extern "C" fn kalebasin_tree_preview(
     ensures { Previewed true nodes.now second.old (add round value parent) result.number result.ghosts
         nodes.now second.new }
 {
-    preview_result(true, nodes, second, round, value, parent)
+    preview_result::<true>(nodes, second, round, value, parent)
 }
 
 #[unsafe(no_mangle)]
 pub extern "C" fn kalebasin_tree_commit(nodes: &mut [u64], round: u32) -> u32
     ensures { CalledOnTable true nodes.old (commit round) result nodes.new }
 {
-    tree::commit(nodes, Round(round))
+    numbers::number_of(tree::commit::<true>(nodes, Round(round)))
 }
 
 #[unsafe(no_mangle)]
@@ -243,7 +271,7 @@ pub extern "C" fn kalebasin_command_add(
 ) -> AddResult
     ensures { CountedOnTable false nodes.old (add round value parent) result.number result.ghosts nodes.new }
 {
-    add_result(false, nodes, round, value, parent)
+    add_result::<false>(nodes, round, value, parent)
 }
 
 #[unsafe(no_mangle)]
@@ -257,14 +285,14 @@ pub extern "C" fn kalebasin_command_preview(
     ensures { Previewed false nodes.now second.old (add round value parent) result.number result.ghosts
         nodes.now second.new }
 {
-    preview_result(false, nodes, second, round, value, parent)
+    preview_result::<false>(nodes, second, round, value, parent)
 }
 
 #[unsafe(no_mangle)]
 pub extern "C" fn kalebasin_command_commit(nodes: &mut [u64], round: u32) -> u32
     ensures { CalledOnTable false nodes.old (commit round) result nodes.new }
 {
-    tree::command_commit(nodes, Round(round))
+    numbers::number_of(tree::commit::<false>(nodes, Round(round)))
 }
 
 // With a refusal the count is 0.
@@ -277,14 +305,13 @@ pub struct PathResult {
 
 // path(round) of either kind of tree: the rounds from the root to this one, written from the first word.
 #[tactic(auto, using(crate::proofs::PathCount::count_fits))]
-fn path_result(valued: bool, nodes: &[u64], round: u32, out: &mut [u64]) -> PathResult
-    ensures { PathGiven valued nodes.now round out.old result.number result.count out.new }
+fn path_result<const VALUED: bool>(nodes: &[u64], round: u32, out: &mut [u64]) -> PathResult
+    ensures { PathGiven VALUED nodes.now round out.old result.number result.count out.new }
 {
-    let a = tree::path_on_table(valued, nodes, Round(round), out);
-    let count = a.count as u32;
+    let given = tree::path::<VALUED>(nodes, Round(round), out);
     PathResult {
-        number: a.number,
-        count,
+        number: numbers::number_of(given),
+        count: given.unwrap_or(0) as u32,
     }
 }
 
@@ -292,12 +319,12 @@ fn path_result(valued: bool, nodes: &[u64], round: u32, out: &mut [u64]) -> Path
 pub extern "C" fn kalebasin_tree_path(nodes: &[u64], round: u32, out: &mut [u64]) -> PathResult
     ensures { PathGiven true nodes.now round out.old result.number result.count out.new }
 {
-    path_result(true, nodes, round, out)
+    path_result::<true>(nodes, round, out)
 }
 
 #[unsafe(no_mangle)]
 pub extern "C" fn kalebasin_command_path(nodes: &[u64], round: u32, out: &mut [u64]) -> PathResult
     ensures { PathGiven false nodes.now round out.old result.number result.count out.new }
 {
-    path_result(false, nodes, round, out)
+    path_result::<false>(nodes, round, out)
 }

@@ -11,7 +11,7 @@ use Rattle.numbers.specs.Numbers.{OK}
 use Rattle.message.specs.declared.Body.{Body}
 use Rattle.message.specs.declared.Message.{Message}
 use Rattle.message.specs.Layout.{longest_message}
-use Rattle.message.specs.declared.Written.{Written}
+use Rattle.message.specs.Answers.{Written}
 use Rattle.message.specs.Writing.{writer_row, writing, buffer_after, WriterLeaves}
 use Rattle.message.proofs.Checks.{count_most}
 use Rattle.message.proofs.RoundTrip.{bytes_short}

@@ -4,6 +4,8 @@
 #![tactic(auto)]
 
 ghost use Rattle.std.specs.Prelude.{◌≡◌, ◌≤◌};
+ghost use Rattle.numbers.specs.Numbers.{refusal_number};
+ghost use Rattle.message.specs.Answers.{written_of};
 ghost use Rattle.message.specs.Layout.{longest_message};
 ghost use Rattle.member_record.specs.Record.{slot_number};
 ghost use Rattle.member_calls.specs.Reports.{reply_after};
@@ -14,8 +16,12 @@ ghost use Rattle.exports_member.specs.Members.{write_result, written_after};
 
 use ids::{Member, Round, Slot};
 use member_calls::reply::AfterCall;
-use member_fields::MemberFields;
+use member_calls::{deliver_into, fresh_into, start_into};
+use member_fields::{MemberFields, no_mask};
 use member_record::MemberState;
+use message_fields::{check_fields, message_of};
+use message_writer::write_message;
+use numbers::Refusal;
 
 // The version of the C functions, one number for both archives. It goes up with each change that a caller of either sees.
 const VERSION: u32 = 6;
@@ -51,11 +57,11 @@ pub struct WriteResult {
 }
 
 // A refused call gives the record back as it came.
-fn refuse(f: MemberFields, number: u32) -> MemberResult
-    ensures { result ≡ refused_call f number }
+fn refuse(f: MemberFields, refusal: Refusal) -> MemberResult
+    ensures { result ≡ refused_call f (refusal_number refusal) }
 {
     MemberResult {
-        number,
+        number: u32::from(refusal),
         sent: 0,
         round: 0,
         parent: 0,
@@ -65,13 +71,14 @@ fn refuse(f: MemberFields, number: u32) -> MemberResult
 }
 
 // The record that goes back: the one that came where the call is refused, else the one after.
-fn fields_after(f: MemberFields, m: MemberState, answer: u32) -> MemberFields
-    ensures { result ≡ fields_after f m answer }
+fn fields_after(f: MemberFields, m: MemberState, number: u32) -> MemberFields
+    ensures { result ≡ fields_after f m number }
 {
-    if answer != numbers::OK {
-        return f;
+    if number == 0 {
+        MemberFields::from(m)
+    } else {
+        f
     }
-    member_fields::fields_of(m)
 }
 
 // What a call on a record handed back, as numbers.
@@ -79,15 +86,13 @@ fn result(f: MemberFields, c: AfterCall) -> MemberResult
     requires { c.report.sent ≤ longest_message }
     ensures { result ≡ call_result f c }
 {
-    let report = c.report;
-    let m = c.state;
     MemberResult {
-        number: report.number,
-        sent: report.sent as u32,
-        round: report.round.0,
-        parent: report.parent.0,
-        value: report.value,
-        fields: fields_after(f, m, report.number),
+        number: c.report.number,
+        sent: c.report.sent as u32,
+        round: c.report.round.0,
+        parent: c.report.parent.0,
+        value: c.report.value,
+        fields: fields_after(f, c.state, c.report.number),
     }
 }
 
@@ -96,13 +101,8 @@ fn result(f: MemberFields, c: AfterCall) -> MemberResult
 pub extern "C" fn kalebasin_member_fresh(slot: u32, number: u32, members: u32) -> MemberResult
     ensures { result ≡ member_result no_fields (fresh_outcome slot number members) }
 {
-    let f = member_fields::no_fields();
-    let c = member_calls::fresh_into(
-        member_fields::state_of(f),
-        Slot(slot),
-        Member(number),
-        members,
-    );
+    let f = MemberFields::default();
+    let c = fresh_into(MemberState::from(f), Slot(slot), Member(number), members);
     result(f, c)
 }
 
@@ -118,10 +118,10 @@ pub extern "C" fn kalebasin_member_start(
     ensures answer { result ≡ member_result f (start_outcome f round offer reply.old) }
     ensures left { reply.new ≡ reply_after (slot_number f.slot) (start_outcome f round offer reply.old).sent reply.old }
 {
-    if member_fields::no_mask(f.flags) {
-        return refuse(f, numbers::RECORD_UNSOUND);
+    if no_mask(f.flags) {
+        return refuse(f, Refusal::RecordUnsound);
     }
-    let c = member_calls::start_into(member_fields::state_of(f), Round(round), offer, reply);
+    let c = start_into(MemberState::from(f), Round(round), offer, reply);
     result(f, c)
 }
 
@@ -136,11 +136,28 @@ pub extern "C" fn kalebasin_member_deliver(
     ensures answer { result ≡ member_result f (deliver_outcome f bytes.now reply.old) }
     ensures left { reply.new ≡ reply_after (slot_number f.slot) (deliver_outcome f bytes.now reply.old).sent reply.old }
 {
-    if member_fields::no_mask(f.flags) {
-        return refuse(f, numbers::RECORD_UNSOUND);
+    if no_mask(f.flags) {
+        return refuse(f, Refusal::RecordUnsound);
     }
-    let c = member_calls::deliver_into(member_fields::state_of(f), bytes, reply);
+    let c = deliver_into(MemberState::from(f), bytes, reply);
     result(f, c)
+}
+
+// What the writer answered, as numbers.
+fn written(answer: Result<usize, Refusal>) -> WriteResult
+    requires { (written_of answer).length ≤ longest_message }
+    ensures { (result.number ≡ (written_of answer).number) × (result.length ≡ (written_of answer).length) }
+{
+    match answer {
+        Ok(length) => WriteResult {
+            number: 0,
+            length: length as u32,
+        },
+        Err(refusal) => WriteResult {
+            number: u32::from(refusal),
+            length: 0,
+        },
+    }
 }
 
 // Puts the message that has these fields at the front of the buffer lent for it. A field that its kind doesn't have is 0.
@@ -158,11 +175,10 @@ pub extern "C" fn kalebasin_write_message(
     ensures answer { result ≡ write_result slot kind round sender present voted value buf.old }
     ensures left { buf.new ≡ written_after slot kind round sender present voted value buf.old }
 {
-    let number = message_fields::fields_number(Slot(slot), kind, present, voted, value);
-    if number != numbers::OK {
-        return WriteResult { number, length: 0 };
+    if let Err(refusal) = check_fields(Slot(slot), kind, present, Round(voted), value) {
+        return written(Err(refusal));
     }
-    let m = message_fields::message_of(
+    let m = message_of(
         Slot(slot),
         kind,
         Round(round),
@@ -171,10 +187,5 @@ pub extern "C" fn kalebasin_write_message(
         Round(voted),
         value,
     );
-    let w = message_writer::write_message(m, buf);
-    let length = w.length as u32;
-    WriteResult {
-        number: w.number,
-        length,
-    }
+    written(write_message(m, buf))
 }

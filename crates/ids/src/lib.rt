@@ -6,28 +6,28 @@ ghost use Rattle.std.specs.Prelude.{◌≡◌, not, ◌<◌, ◌%◌};
 ghost use Rattle.ids.specs.Ranges.{above_range, out_of_range, no_slot};
 
 #[repr(C)]
-#[derive(Clone, Copy)]
+#[derive(Clone, Copy, Debug, PartialEq, Eq, PartialOrd, Ord)]
 pub struct Round(pub u32);
 
 #[repr(C)]
-#[derive(Clone, Copy)]
+#[derive(Clone, Copy, Debug, PartialEq, Eq, PartialOrd, Ord)]
 pub struct Member(pub u32);
 
 // Which of an office's password sets: 0 to 7.
 #[repr(C)]
-#[derive(Clone, Copy)]
+#[derive(Clone, Copy, Debug, PartialEq, Eq, PartialOrd, Ord)]
 pub struct Slot(pub u32);
 
 // An office has so many slots.
 pub const SLOTS: usize = 8;
 
-const LAST_SLOT: u32 = 7;
+const LAST_SLOT: Slot = Slot(7);
 
 // Whether a slot is none of 0 to 7.
 pub fn no_slot(s: Slot) -> bool
     ensures { result ≡ no_slot s.0 }
 {
-    LAST_SLOT < s.0
+    LAST_SLOT < s
 }
 
 const LAST_ROUND: u64 = 1000000;
@@ -43,10 +43,7 @@ pub fn above_range(x: u64) -> bool
 pub fn number_in_range(x: u64) -> bool
     ensures { result ≡ not (out_of_range x) }
 {
-    if x == 0 {
-        return false;
-    }
-    !above_range(x)
+    x != 0 && !above_range(x)
 }
 
 // Whether a round is one of 1 to 1,000,000.

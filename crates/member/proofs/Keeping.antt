@@ -33,7 +33,7 @@ use Rattle.member.specs.Table.{silent, start_call_row, START_row, complete, comp
 use Rattle.member.specs.Table.{MemberEvent, starts, delivers, fitting, step_causes, step_row, sound_step, member_step}
 use Rattle.member.specs.declared.Move.{Move}
 use Rattle.member.specs.declared.MemberStep.{MemberStep}
-use Rattle.member.specs.Answers.{MoveIs, step_outcome}
+use Rattle.member.specs.Answers.{move_outcome, step_outcome}
 use Rattle.member.specs.Kept.{Kept, StepOf}
 use Rattle.member.proofs.Checks.{causes_byte}
 
@@ -275,10 +275,10 @@ step_kept m e seven s f =
 -- so is the step that the code makes of a row's move
 pub step_of_move : (m : MemberState) (e : MemberEvent) {t : Move} {s : MemberStep} →
     (s.state ≡ t.state) × (s.answer ≡ t.answer) × (s.lasting ≡ changes_durable m.durable s.state.durable) →
-    MoveIs (sound_step m e) t → Kept (sound_step m e) → StepOf m e s
+    move_outcome t ≡ sound_step m e → Kept (sound_step m e) → StepOf m e s
 step_of_move m e {t} {s} (state, answer, lasting) moved k =
-    let same : step_outcome s ≡ sound_step m e = rw (state, answer) moved.equals in
-    record { equals = same; kept = rw same k; numbered = rw answer moved.numbered; lasting = lasting }
+    let same : step_outcome s ≡ sound_step m e = rw (state, answer) moved in
+    record { equals = same; kept = rw same k; lasting = lasting }
 
 -- the step of any record at any event is that of a sound record where the record is sound and the message within its ranges
 pub step_of_sound : (m : MemberState) (e : MemberEvent) → sound m ≡ true → fitting e ≡ true → member_step m e ≡ sound_step m e

@@ -1,5 +1,5 @@
 -- Laws of the member steps.
-pub mod Checks
 pub mod ByRow
+pub mod Checks
 pub mod Keeping
 pub mod Repeated

@@ -1,13 +1,20 @@
--- How the code finds a message's row of the member table of 01, "Members": JOIN and VOTE are one, each counted in its phase.
+-- The row of the member table of 01, "Members", by which the code handles a message: JOIN and VOTE are one, each counted in its phase.
+use Rattle.std.specs.Prelude.{ℕ}
+use Rattle.ids.specs.declared.Round.{Round}
+use Rattle.ids.specs.declared.Member.{Member}
 use Rattle.message.specs.declared.Body.{Body}
 use Rattle.message.specs.declared.Body.TheVariants.{Start, Join, JoinVoted, Propose, Vote}
 use Rattle.member_record.specs.declared.MemberState.{MemberState}
 use Rattle.member_record.specs.Phases.{COLLECTING, PROPOSED}
 use Rattle.member_rules.specs.Causes.{START_causes, count_causes, PROPOSE_causes}
 use Rattle.member_rules.specs.Changes.{adopting}
-use Rattle.member.specs.declared.rows.MessageRow.{MessageRow}
-use Rattle.member.specs.declared.rows.MessageRow.TheVariants.{StartRow, CountRow, ProposeRow}
 use Rattle.member.specs.Table.{Outcome, unless, START_row, count_row, PROPOSE_row}
+
+-- the row by which a message is handled
+pub data MessageRow : Type 0 where
+  StartRow : Round → Member → MessageRow
+  CountRow : ℕ → Round → Member → MessageRow
+  ProposeRow : Round → Member → ℕ → MessageRow
 
 -- the row of a message
 unfoldable pub row_of : Body → MessageRow

@@ -1,6 +1,6 @@
 -- The meanings of the member steps.
 pub mod Table
-pub mod ByRow
 pub mod Answers
+pub mod ByRow
 pub mod Kept
 pub mod Repeated

@@ -13,13 +13,13 @@ ghost use Rattle.member.specs.Kept.{StepOf};
 use ids::Round;
 use member_record::{MemberState, changes_durable};
 use message::Body;
+use numbers::Refusal;
 use rows::{on_message, on_start_call};
 
 // What a step answers.
 #[derive(Clone, Copy)]
 pub enum StepAnswer {
-    // 01's number.
-    Refused(u32),
+    Refused(Refusal),
     // What the message says that is to be sent.
     Sent(Body),
     // Accepted, with nothing to send or to name.
@@ -57,14 +57,10 @@ pub struct MemberStep {
 fn step_of(m: MemberState, moved: Move) -> MemberStep
     ensures { (result.state ≡ moved.state) × (result.answer ≡ moved.answer) × (result.lasting ≡ changes_durable m.durable result.state.durable) }
 {
-    let before = m.durable;
-    let state = moved.state;
-    let after = state.durable;
-    let answer = moved.answer;
     MemberStep {
-        state,
-        answer,
-        lasting: changes_durable(before, after),
+        state: moved.state,
+        answer: moved.answer,
+        lasting: changes_durable(m.durable, moved.state.durable),
     }
 }
 

@@ -1,10 +1,11 @@
-// The rows of the member table of 01, "Members", for records that are sound.
+// The rows of the member table of 01, "Members", for records that are sound. N of a record may be any number, since C lends records: a row asks for what it
+// needs of N, and a type around the record would be unwrapped at each use.
 ghost use Rattle.std.specs.Prelude.{◌≡◌, ◌≤◌, ◌<◌};
+ghost use Rattle.numbers.specs.Numbers.{refusal_number};
 ghost use Rattle.member_rules.specs.Causes.{start_call_causes, START_causes, count_causes, PROPOSE_causes};
 ghost use Rattle.member.specs.Table.{refused, sends, unless, start_call_row, START_row, complete, proposes, decides, completes};
 ghost use Rattle.member.specs.Table.{count_row, PROPOSE_row, delivers, sound_step};
-ghost use Rattle.member.specs.ByRow.{row_of, taking};
-ghost use Rattle.member.specs.Answers.{MoveIs};
+ghost use Rattle.member.specs.Answers.{move_outcome};
 
 use crate::{Move, StepAnswer};
 use ids::{Member, Round};
@@ -14,21 +15,21 @@ use member_rules::changes::{
 };
 use member_rules::refusals::{check_count, check_propose, check_start, check_start_call};
 use message::Body;
+use numbers::Refusal;
 
 // A refusal leaves the record as it was.
-fn refuse(m: MemberState, number: u32) -> Move
-    requires { 0 < number }
-    ensures { MoveIs (refused number m) result }
+fn refuse(m: MemberState, refusal: Refusal) -> Move
+    ensures { move_outcome result ≡ refused (refusal_number refusal) m }
 {
     Move {
         state: m,
-        answer: StepAnswer::Refused(number),
+        answer: StepAnswer::Refused(refusal),
     }
 }
 
 // A message is sent.
 fn send(m: MemberState, g: Body) -> Move
-    ensures { MoveIs (sends m g) result }
+    ensures { move_outcome result ≡ sends m g }
 {
     Move {
         state: m,
@@ -39,67 +40,60 @@ fn send(m: MemberState, g: Body) -> Move
 // start(r, offer).
 pub fn on_start_call(m: MemberState, r: Round, offer: u64) -> Move
     requires { 1 ≤ m.who.n }
-    ensures { MoveIs (unless (start_call_causes m r) m (start_call_row m r offer)) result }
+    ensures { move_outcome result ≡ unless (start_call_causes m r) m (start_call_row m r offer) }
 {
-    let number = check_start_call(m, r);
-    if number != numbers::OK {
-        return refuse(m, number);
+    match check_start_call(m, r) {
+        Ok(()) => send(
+            starting(m, r, offer),
+            Body::Start {
+                round: r,
+                sender: m.who.me,
+            },
+        ),
+        Err(refusal) => refuse(m, refusal),
     }
-    let me = m.who.me;
-    send(
-        starting(m, r, offer),
-        Body::Start {
-            round: r,
-            sender: me,
-        },
-    )
 }
 
 // START r.
 fn on_start(m: MemberState, r: Round, s: Member) -> Move
     requires { 1 ≤ m.who.n }
-    ensures { MoveIs (unless (START_causes m r s) m (START_row m r)) result }
+    ensures { move_outcome result ≡ unless (START_causes m r s) m (START_row m r) }
 {
-    let number = check_start(m, r, s);
-    if number != numbers::OK {
-        return refuse(m, number);
+    match check_start(m, r, s) {
+        Ok(()) => send(joining(m, r), join_message(m, r)),
+        Err(refusal) => refuse(m, refusal),
     }
-    send(joining(m, r), join_message(m, r))
 }
 
 // Whether the flags are as many as the phase needs.
 fn is_complete(m: MemberState) -> bool
     ensures { result ≡ complete m }
 {
-    let flags = m.lead.flags;
-    let who = m.who;
-    count_flags(flags) == needed(who, m.lead.phase)
+    count_flags(m.lead.flags) == needed(m.who, m.lead.phase)
 }
 
 // The joins are complete: PROPOSE is sent, and the proposal named.
 fn propose(m: MemberState, r: Round) -> Move
-    ensures { MoveIs (proposes m r) result }
+    ensures { move_outcome result ≡ proposes m r }
 {
-    let me = m.who.me;
-    let source = m.lead.source;
     Move {
         state: proposing(m),
         answer: StepAnswer::Proposed {
             sent: Body::Propose {
                 round: r,
-                sender: me,
+                sender: m.who.me,
                 value: m.lead.value,
             },
             round: r,
             value: m.lead.value,
-            parent: source,
+            parent: m.lead.source,
         },
     }
 }
 
 // The votes are complete: the decision is named.
 fn decide(m: MemberState, r: Round) -> Move
-    ensures { MoveIs (decides m r) result }
+    ensures { move_outcome result ≡ decides m r }
 {
     Move {
         state: deciding(m),
@@ -112,166 +106,80 @@ fn decide(m: MemberState, r: Round) -> Move
 
 // The flags of a phase are complete.
 fn end_phase(phase: u32, m: MemberState, r: Round) -> Move
-    ensures { MoveIs (completes phase m r) result }
+    ensures { move_outcome result ≡ completes phase m r }
 {
     if phase == COLLECTING {
-        return propose(m, r);
+        propose(m, r)
+    } else {
+        decide(m, r)
     }
-    decide(m, r)
 }
 
 // A JOIN or VOTE is counted; short of what the phase needs, nothing is sent or named.
 fn count(phase: u32, m: MemberState, r: Round, s: Member) -> Move
     requires { s.0 < 7 }
-    ensures { MoveIs (count_row phase m r s) result }
+    ensures { move_outcome result ≡ count_row phase m r s }
 {
     let counted = counting(m, s);
-    if !is_complete(counted) {
-        return Move {
+    if is_complete(counted) {
+        end_phase(phase, counted, r)
+    } else {
+        Move {
             state: counted,
             answer: StepAnswer::Done,
-        };
+        }
     }
-    end_phase(phase, counted, r)
 }
 
 // JOIN r or VOTE r, each awaited in its phase: where it isn't refused it is counted in `taken`, the record with the vote that a JOIN carries.
 fn on_count(phase: u32, m: MemberState, taken: MemberState, r: Round, s: Member) -> Move
     requires { m.who.n ≤ 7 }
-    ensures { MoveIs (unless (count_causes phase m r s) m (count_row phase taken r s)) result }
+    ensures { move_outcome result ≡ unless (count_causes phase m r s) m (count_row phase taken r s) }
 {
-    let number = check_count(m, phase, r, s);
-    if number != numbers::OK {
-        return refuse(m, number);
+    match check_count(m, phase, r, s) {
+        Ok(()) => count(phase, taken, r, s),
+        Err(refusal) => refuse(m, refusal),
     }
-    count(phase, taken, r, s)
 }
 
 // PROPOSE r, v.
 fn on_propose(m: MemberState, r: Round, s: Member, v: u64) -> Move
     requires { 1 ≤ m.who.n }
-    ensures { MoveIs (unless (PROPOSE_causes m r s v) m (PROPOSE_row m r v)) result }
+    ensures { move_outcome result ≡ unless (PROPOSE_causes m r s v) m (PROPOSE_row m r v) }
 {
-    let number = check_propose(m, r, s, v);
-    if number != numbers::OK {
-        return refuse(m, number);
-    }
-    let me = m.who.me;
-    send(
-        voting(m, r, v),
-        Body::Vote {
-            round: r,
-            sender: me,
-        },
-    )
-}
-
-// The row by which a message is handled. JOIN and VOTE share one, each counted in its phase, so that both are counted at one place.
-#[derive(Clone, Copy)]
-enum MessageRow {
-    StartRow {
-        round: Round,
-        sender: Member,
-    },
-    CountRow {
-        phase: u32,
-        round: Round,
-        sender: Member,
-    },
-    ProposeRow {
-        round: Round,
-        sender: Member,
-        value: u64,
-    },
-}
-
-#[tactic(auto, unfolding(crate::specs::ByRow::row_of))]
-fn row_of(g: Body) -> MessageRow
-    ensures { result ≡ row_of g }
-{
-    match g {
-        Body::Start { round, sender } => MessageRow::StartRow { round, sender },
-        Body::Join { round, sender } => MessageRow::CountRow {
-            phase: COLLECTING,
-            round,
-            sender,
-        },
-        Body::JoinVoted {
-            round,
-            sender,
-            voted: _,
-            value: _,
-        } => MessageRow::CountRow {
-            phase: COLLECTING,
-            round,
-            sender,
-        },
-        Body::Propose {
-            round,
-            sender,
-            value,
-        } => MessageRow::ProposeRow {
-            round,
-            sender,
-            value,
-        },
-        Body::Vote { round, sender } => MessageRow::CountRow {
-            phase: PROPOSED,
-            round,
-            sender,
-        },
+    match check_propose(m, r, s, v) {
+        Ok(()) => send(
+            voting(m, r, v),
+            Body::Vote {
+                round: r,
+                sender: m.who.me,
+            },
+        ),
+        Err(refusal) => refuse(m, refusal),
     }
 }
 
-// The record in which a message is counted: with the vote that a JOIN carries.
-#[tactic(auto, unfolding(crate::specs::ByRow::taking))]
-fn taking(m: MemberState, g: Body) -> MemberState
-    ensures { result ≡ taking m g }
-{
-    match g {
-        Body::Start {
-            round: _,
-            sender: _,
-        } => m,
-        Body::Join {
-            round: _,
-            sender: _,
-        } => m,
-        Body::JoinVoted {
-            round: _,
-            sender: _,
-            voted,
-            value,
-        } => adopting(m, voted, value),
-        Body::Propose {
-            round: _,
-            sender: _,
-            value: _,
-        } => m,
-        Body::Vote {
-            round: _,
-            sender: _,
-        } => m,
-    }
-}
-
-// Any message, by its row.
+// Any message. JOIN and VOTE are counted at one place of call, for speed: the compiler makes a function part of its caller where that is its only one.
+#[tactic(auto, unfolding(crate::specs::Table::sound_step, crate::specs::Table::step_causes, crate::specs::Table::step_row))]
 pub fn on_message(m: MemberState, g: Body) -> Move
     requires { (1 ≤ m.who.n) × (m.who.n ≤ 7) }
-    ensures { MoveIs (sound_step m (delivers g)) result }
+    ensures { move_outcome result ≡ sound_step m (delivers g) }
 {
-    let row = row_of(g);
-    match row {
-        MessageRow::StartRow { round, sender } => on_start(m, round, sender),
-        MessageRow::CountRow {
-            phase,
+    let (phase, taken, round, sender) = match g {
+        Body::Start { round, sender } => return on_start(m, round, sender),
+        Body::Join { round, sender } => (COLLECTING, m, round, sender),
+        Body::JoinVoted {
             round,
             sender,
-        } => on_count(phase, m, taking(m, g), round, sender),
-        MessageRow::ProposeRow {
+            voted,
+            value,
+        } => (COLLECTING, adopting(m, voted, value), round, sender),
+        Body::Propose {
             round,
             sender,
             value,
-        } => on_propose(m, round, sender, value),
-    }
+        } => return on_propose(m, round, sender, value),
+        Body::Vote { round, sender } => (PROPOSED, m, round, sender),
+    };
+    on_count(phase, m, taken, round, sender)
 }

@@ -6,52 +6,54 @@ pub mod reply;
 
 ghost use Rattle.std.specs.Prelude.{◌≡◌};
 ghost use Rattle.laws.specs.First.{first};
+ghost use Rattle.numbers.specs.Numbers.{number_of};
 ghost use Rattle.member_calls.specs.Reports.{LeavesReport, LeavesReply};
 ghost use Rattle.member_calls.specs.Calls.{record_row, fresh_call, start_call, deliver_call};
 
-use crate::reply::{AfterCall, give, refuse, tell};
+use crate::reply::{AfterCall, NOTHING, refuse, tell};
 use ids::{Member, Round, Slot};
+use member::{deliver_sound, start_sound};
 use member_record::{MemberState, fresh_record, who_sound};
 use member_sound::is_sound;
-use message::{LONGEST, Read};
+use message::LONGEST;
+use message_reader::read_own_message;
+use numbers::Refusal;
 
 // Fresh: where the slot, the number or N isn't allowed, the old record stays.
 #[tactic(auto, unfolding(crate::specs::Calls::fresh_call))]
 pub fn fresh_into(m: MemberState, slot: Slot, me: Member, n: u32) -> AfterCall
     ensures { LeavesReport (fresh_call m slot me n) result.state result.report }
 {
-    let fresh = fresh_record(slot, me, n);
     if !who_sound(slot, me, n) {
-        return refuse(m, numbers::RECORD_UNSOUND);
+        return refuse(m, u32::from(Refusal::RecordUnsound));
     }
-    give(fresh, numbers::OK, 0, Round(0), 0, Round(0))
+    AfterCall {
+        state: fresh_record(slot, me, n),
+        report: NOTHING,
+    }
 }
 
-// The first number of the row "record, then buffer" whose cause holds, else 0. The buffer is asked for even where nothing would be sent.
-fn record_number(m: MemberState, room: usize) -> u32
-    ensures { result ≡ first (record_row m room) }
+// The first refusal of the row "record, then buffer" whose cause holds. The buffer is asked for even where nothing would be sent.
+fn check_record(m: MemberState, room: usize) -> Result<(), Refusal>
+    ensures { number_of result ≡ first (record_row m room) }
 {
-    let unsound = !is_sound(m);
-    let short = room < LONGEST;
-    if unsound {
-        return numbers::RECORD_UNSOUND;
+    if !is_sound(m) {
+        return Err(Refusal::RecordUnsound);
     }
-    if short {
-        return numbers::REPLY_TOO_SHORT;
+    if room < LONGEST {
+        return Err(Refusal::ReplyTooShort);
     }
-    numbers::OK
+    Ok(())
 }
 
 // start(r, offer).
 pub fn start_into(m: MemberState, r: Round, offer: u64, reply: &mut [u8]) -> AfterCall
     ensures { LeavesReply m.who.slot (start_call m r offer reply.old) reply.old result.state result.report reply.new }
 {
-    let number = record_number(m, reply.len());
-    if number != numbers::OK {
-        return refuse(m, number);
+    if let Err(refusal) = check_record(m, reply.len()) {
+        return refuse(m, u32::from(refusal));
     }
-    let slot = m.who.slot;
-    tell(slot, member::start_sound(m, r, offer), reply)
+    tell(m.who.slot, start_sound(m, r, offer), reply)
 }
 
 // Delivery of the message that bytes are: 32 unless it is of the record's slot.
@@ -59,17 +61,11 @@ pub fn deliver_into(m: MemberState, bytes: &[u8], reply: &mut [u8]) -> AfterCall
     ensures { LeavesReply m.who.slot (deliver_call m bytes.now reply.old) reply.old result.state result.report
         reply.new }
 {
-    let number = record_number(m, reply.len());
-    if number != numbers::OK {
-        return refuse(m, number);
+    if let Err(refusal) = check_record(m, reply.len()) {
+        return refuse(m, u32::from(refusal));
     }
-    let slot = m.who.slot;
-    let read = message_reader::read_own_message(slot, bytes);
-    match read {
-        Read::Refused(number) => refuse(m, number),
-        Read::Got(g) => {
-            let body = g.body;
-            tell(slot, member::deliver_sound(m, body), reply)
-        }
+    match read_own_message(m.who.slot, bytes) {
+        Ok(g) => tell(m.who.slot, deliver_sound(m, g.body), reply),
+        Err(refusal) => refuse(m, u32::from(refusal)),
     }
 }

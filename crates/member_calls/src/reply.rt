@@ -12,8 +12,9 @@ use ids::{Round, Slot};
 use member::{MemberStep, StepAnswer};
 use member_record::MemberState;
 use message::{Body, Message};
+use message_writer::write_message;
 
-// The result of a call: numbers of 01. Each that the call does not give or name is 0.
+// The result of a call: numbers of 01, as C has them. Each that the call does not give or name is 0.
 #[repr(C)]
 #[derive(Clone, Copy)]
 pub struct Report {
@@ -36,32 +37,23 @@ pub struct AfterCall {
     pub report: Report,
 }
 
-// A refused call leaves the record as it was, and its number alone is not 0.
+// Of a call that is done, sends nothing and names nothing.
+pub const NOTHING: Report = Report {
+    number: 0,
+    sent: 0,
+    round: Round(0),
+    value: 0,
+    parent: Round(0),
+};
+
+// A refused call leaves the record as it was, and its number alone is not 0. It takes any number: a report has C's.
 pub fn refuse(m: MemberState, number: u32) -> AfterCall
     ensures { LeavesReport (refused number m) result.state result.report }
 {
-    give(m, number, 0, Round(0), 0, Round(0))
-}
-
-// A record and a result.
-pub fn give(
-    m: MemberState,
-    number: u32,
-    sent: usize,
-    round: Round,
-    value: u64,
-    parent: Round,
-) -> AfterCall
-    ensures { result ≡ record { state = m; report = record { number = number; sent = sent; round = round; value = value; parent = parent } } }
-{
-    let report = Report {
-        number,
-        sent,
-        round,
-        value,
-        parent,
-    };
-    AfterCall { state: m, report }
+    AfterCall {
+        state: m,
+        report: Report { number, ..NOTHING },
+    }
 }
 
 // Puts a message of this slot at the front of the reply, and answers its length.
@@ -69,35 +61,42 @@ fn send(slot: Slot, g: Body, reply: &mut [u8]) -> usize
     requires { (longest_message ≤ length reply.old) × (no_slot slot.0 ≡ false) × (in_range g ≡ true) }
     ensures { (result ≡ reply_length (g ∷ [])) × (reply.new ≡ reply_after slot (g ∷ []) reply.old) }
 {
-    let m = Message { slot, body: g };
-    let w = message_writer::write_message(m, reply);
-    w.length
+    write_message(Message { slot, body: g }, reply).unwrap()
 }
 
-// The result of a step, and what it sends in this slot.
+// The result of a step, and what it sends in this slot. As a call of its own it costs a member call some 130 instructions, since the step is handed on in memory.
+#[inline(always)]
 pub fn tell(slot: Slot, s: MemberStep, reply: &mut [u8]) -> AfterCall
     requires { (longest_message ≤ length reply.old) × (no_slot slot.0 ≡ false) × Kept (step_outcome s) }
     ensures { LeavesReply slot (step_outcome s) reply.old result.state result.report reply.new }
 {
-    let m = s.state;
-    let answer = s.answer;
-    let none = Round(0);
-    match answer {
-        StepAnswer::Refused(number) => refuse(m, number),
-        StepAnswer::Sent(g) => {
-            let n = send(slot, g, reply);
-            give(m, numbers::OK, n, none, 0, none)
-        }
-        StepAnswer::Done => give(m, numbers::OK, 0, none, 0, none),
+    let report = match s.answer {
+        StepAnswer::Refused(refusal) => return refuse(s.state, u32::from(refusal)),
+        StepAnswer::Sent(g) => Report {
+            sent: send(slot, g, reply),
+            ..NOTHING
+        },
+        StepAnswer::Done => NOTHING,
         StepAnswer::Proposed {
             sent,
             round,
             value,
             parent,
-        } => {
-            let n = send(slot, sent, reply);
-            give(m, numbers::OK, n, round, value, parent)
-        }
-        StepAnswer::Decided { round, value } => give(m, numbers::OK, 0, round, value, none),
+        } => Report {
+            sent: send(slot, sent, reply),
+            round,
+            value,
+            parent,
+            ..NOTHING
+        },
+        StepAnswer::Decided { round, value } => Report {
+            round,
+            value,
+            ..NOTHING
+        },
+    };
+    AfterCall {
+        state: s.state,
+        report,
     }
 }

@@ -5,102 +5,60 @@
 // of the reply after, in hex. Before a call each of these bytes is aa.
 #![tactic(auto)]
 
-ghost use Rattle.std.specs.Prelude.{◌+◌, ◌≤◌, length};
-
 use ids::{Member, Round, Slot};
 use member_calls::reply::{AfterCall, Report};
 use member_record::{Durable, Lead, MemberState, Who};
 use std::io;
 use std::io::Read;
 
-fn put_number(rt: &impl Print, n: u64) -> io::Result<()> {
-    print!(rt; "{n} ")
-}
+// The length of a case.
+const CASE_BYTES: usize = 148;
 
-fn put_byte(rt: &impl Print, b: u8) -> io::Result<()> {
-    print!(rt; "{b:02x}")
-}
-
-fn put_bytes(rt: &impl Print, s: &[u8]) -> io::Result<()> {
-    for b in s {
-        put_byte(rt, *b)?;
-    }
-    Ok(())
-}
-
-fn put_flag(rt: &impl Print, flag: bool) -> io::Result<()> {
-    if flag {
-        return put_number(rt, 1);
-    }
-    put_number(rt, 0)
-}
-
-fn put_flags(rt: &impl Print, flags: [bool; 7]) -> io::Result<()> {
-    for flag in flags {
-        put_flag(rt, flag)?;
-    }
-    Ok(())
-}
+type Case = [u8; CASE_BYTES];
 
 fn put_report(rt: &impl Print, r: Report) -> io::Result<()> {
-    put_number(rt, r.number as u64)?;
-    put_number(rt, r.sent as u64)?;
-    put_number(rt, r.round.0 as u64)?;
-    put_number(rt, r.value)?;
-    put_number(rt, r.parent.0 as u64)
+    print!(rt;
+        "{} {} {} {} {} ",
+        r.number, r.sent, r.round.0, r.value, r.parent.0
+    )
 }
 
 fn put_record(rt: &impl Print, m: MemberState) -> io::Result<()> {
-    put_number(rt, m.who.slot.0 as u64)?;
-    put_number(rt, m.who.me.0 as u64)?;
-    put_number(rt, m.who.n as u64)?;
-    put_number(rt, m.durable.joined.0 as u64)?;
-    put_number(rt, m.durable.voted.0 as u64)?;
-    put_number(rt, m.durable.vote)?;
-    put_number(rt, m.durable.led.0 as u64)?;
-    put_number(rt, m.lead.phase as u64)?;
-    put_number(rt, m.lead.value)?;
-    put_number(rt, m.lead.source.0 as u64)?;
-    let flags = m.lead.flags;
-    put_flags(rt, flags)
+    print!(rt; "{} {} {} ", m.who.slot.0, m.who.me.0, m.who.n)?;
+    print!(rt;
+        "{} {} {} {} ",
+        m.durable.joined.0, m.durable.voted.0, m.durable.vote, m.durable.led.0
+    )?;
+    print!(rt; "{} {} {} ", m.lead.phase, m.lead.value, m.lead.source.0)?;
+    for flag in m.lead.flags {
+        print!(rt; "{} ", u8::from(flag))?;
+    }
+    Ok(())
 }
 
 // Writes what a call left.
 fn put_called(rt: &impl Print, c: AfterCall, reply: &[u8]) -> io::Result<()> {
-    let r = c.report;
-    put_report(rt, r)?;
+    put_report(rt, c.report)?;
     print!(rt; "| ")?;
-    let m = c.state;
-    put_record(rt, m)?;
+    put_record(rt, c.state)?;
     print!(rt; "| ")?;
-    put_bytes(rt, reply)?;
+    for byte in reply {
+        print!(rt; "{byte:02x}")?;
+    }
     println!(rt)
 }
 
-fn flag_at(s: &[u8], at: usize) -> bool
-    requires { at + 4 ≤ length s.now }
-{
-    xdr::word_at(s, at) != 0
-}
-
-fn flags_of(s: &[u8]) -> [bool; 7]
-    requires { 148 ≤ length s.now }
-{
-    [
-        flag_at(s, 52),
-        flag_at(s, 56),
-        flag_at(s, 60),
-        flag_at(s, 64),
-        flag_at(s, 68),
-        flag_at(s, 72),
-        flag_at(s, 76),
-    ]
+// The flags of a case, a word for each.
+fn flags_of(s: &Case) -> [bool; 7] {
+    let mut flags = [false; 7];
+    for (k, flag) in flags.iter_mut().enumerate() {
+        *flag = xdr::word_at(s, 52 + 4 * k) != 0;
+    }
+    flags
 }
 
 // The record of a case.
-fn record_of(s: &[u8]) -> MemberState
-    requires { 148 ≤ length s.now }
-{
+fn record_of(s: &Case) -> MemberState {
     let who = Who {
         slot: Slot(xdr::word_at(s, 4)),
         me: Member(xdr::word_at(s, 8)),
@@ -121,9 +79,7 @@ fn record_of(s: &[u8]) -> MemberState
     MemberState { who, durable, lead }
 }
 
-fn fresh(rt: &impl Print, s: &[u8], reply: &[u8]) -> io::Result<()>
-    requires { 148 ≤ length s.now }
-{
+fn fresh(rt: &impl Print, s: &Case, reply: &[u8]) -> io::Result<()> {
     let m = record_of(s);
     let slot = Slot(xdr::word_at(s, 80));
     let me = Member(xdr::word_at(s, 84));
@@ -131,9 +87,7 @@ fn fresh(rt: &impl Print, s: &[u8], reply: &[u8]) -> io::Result<()>
     put_called(rt, member_calls::fresh_into(m, slot, me, n), reply)
 }
 
-fn start(rt: &impl Print, s: &[u8], reply: &mut [u8]) -> io::Result<()>
-    requires { 148 ≤ length s.now }
-{
+fn start(rt: &impl Print, s: &Case, reply: &mut [u8]) -> io::Result<()> {
     let m = record_of(s);
     let round = Round(xdr::word_at(s, 92));
     let offer = xdr::hyper_at(s, 96);
@@ -141,9 +95,7 @@ fn start(rt: &impl Print, s: &[u8], reply: &mut [u8]) -> io::Result<()>
     put_called(rt, c, reply)
 }
 
-fn deliver(rt: &impl Print, s: &[u8], reply: &mut [u8]) -> io::Result<()>
-    requires { 148 ≤ length s.now }
-{
+fn deliver(rt: &impl Print, s: &Case, reply: &mut [u8]) -> io::Result<()> {
     let n = xdr::word_at(s, 108) as usize;
     if n <= 36 {
         let m = record_of(s);
@@ -154,23 +106,16 @@ fn deliver(rt: &impl Print, s: &[u8], reply: &mut [u8]) -> io::Result<()>
 }
 
 // Makes the call of a case.
-fn call(rt: &impl Print, s: &[u8], reply: &mut [u8]) -> io::Result<()>
-    requires { 148 ≤ length s.now }
-{
-    let kind = xdr::word_at(s, 0);
-    if kind == 0 {
-        return fresh(rt, s, reply);
+fn call(rt: &impl Print, s: &Case, reply: &mut [u8]) -> io::Result<()> {
+    match xdr::word_at(s, 0) {
+        0 => fresh(rt, s, reply),
+        1 => start(rt, s, reply),
+        _ => deliver(rt, s, reply),
     }
-    if kind == 1 {
-        return start(rt, s, reply);
-    }
-    deliver(rt, s, reply)
 }
 
 // Lends the reply of a case.
-fn lend(rt: &impl Print, s: &[u8]) -> io::Result<()>
-    requires { 148 ≤ length s.now }
-{
+fn lend(rt: &impl Print, s: &Case) -> io::Result<()> {
     let mut reply = [170u8; 40];
     let room = xdr::word_at(s, 104) as usize;
     if room <= 40 {
@@ -179,24 +124,11 @@ fn lend(rt: &impl Print, s: &[u8]) -> io::Result<()>
     Ok(())
 }
 
-// Reads until `buf` is full or the input ends, and answers how many bytes.
-fn read_full(input: &mut impl Read, buf: &mut [u8]) -> io::Result<usize> {
-    let mut at = 0;
-    while at < buf.len() {
-        let more = input.read(&mut buf[at..])?;
-        if more == 0 {
-            break;
-        }
-        at += more;
-    }
-    Ok(at)
-}
-
 // Reads a case.
 fn next(rt: &impl Print, input: &mut impl Read) -> io::Result<()> {
-    let mut s = [0u8; 148];
-    let n = read_full(input, &mut s)?;
-    if n == 148 {
+    let mut s = [0u8; CASE_BYTES];
+    let n = input::read_full(input, &mut s)?;
+    if n == CASE_BYTES {
         lend(rt, &s)?;
     }
     Ok(())
@@ -212,6 +144,6 @@ fn run(rt: &impl Print, input: &mut impl Read, count: u32) -> io::Result<()> {
 fn main(rt: HostRuntime) -> io::Result<()> {
     let mut input = rt.stdin();
     let mut head = [0u8; 4];
-    read_full(&mut input, &mut head)?;
+    input::read_full(&mut input, &mut head)?;
     run(&rt, &mut input, xdr::word_at(&head, 0))
 }

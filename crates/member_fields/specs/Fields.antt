@@ -1,5 +1,5 @@
 -- The numbers of a member record: what they stand for, and those of a record.
-use Rattle.std.specs.Prelude.{◌≡◌, Bool, cond, List, [], ◌∷◌, ℕ, ◌+◌, ◌*◌, ◌/◌, ◌%◌, ◌≤◌, ltb, eqb}
+use Rattle.std.specs.Prelude.{Bool, cond, List, [], ◌∷◌, ℕ, ◌+◌, ◌*◌, ◌/◌, ◌%◌, ltb, eqb}
 use Rattle.ids.specs.declared.Member.{Member}
 use Rattle.member_record.specs.declared.MemberState.{MemberState}
 use Rattle.member_record.specs.Record.{round_number, slot_number, flag}
@@ -17,10 +17,6 @@ flags_of m = bit m ∷ bit (m / 2) ∷ bit (m / 2 / 2) ∷ bit (m / 2 / 2 / 2) �
 -- a number with one bit more, below the others
 abbrev pub widened : Bool → ℕ → ℕ
 widened b m = cond b (2 * m + 1) (2 * m)
-
-pub record BitAdded (b : Bool) (m k : ℕ) : Type 0 where
-  pub value : k ≡ widened b m
-  pub bound : k ≤ 2 * m + 1
 
 -- the number that has these bits
 unfoldable pub mask_of : List Bool → ℕ

@@ -1,15 +1,15 @@
 // A member record as numbers, for C: any bytes that a host puts there are some numbers.
 #![tactic(auto)]
 
-ghost use Rattle.std.specs.Prelude.{◌≡◌, ◌≤◌};
-ghost use Rattle.member_fields.specs.Fields.{BitAdded, bit, flags_of, mask_of, no_mask, state_of, fields_of, no_fields};
+ghost use Rattle.std.specs.Prelude.{◌≡◌};
+ghost use Rattle.member_fields.specs.Fields.{bit, flags_of, mask_of, no_mask, state_of, fields_of};
 
 use ids::{Member, Round, Slot};
 use member_record::{Durable, Lead, MemberState, Who};
 
 // A member record as numbers, in 01's order, and its slot behind them (02, ticket 6). No byte stands between them; four that say nothing stand behind the last.
 #[repr(C)]
-#[derive(Clone, Copy)]
+#[derive(Clone, Copy, Default)]
 pub struct MemberFields {
     pub me: u32,
     pub n: u32,
@@ -36,90 +36,73 @@ fn bit(mask: u32) -> bool
 fn flags_of(mask: u32) -> [bool; 7]
     ensures { result ≡ flags_of mask }
 {
-    let from1 = mask / 2;
-    let from2 = from1 / 2;
-    let from3 = from2 / 2;
-    let from4 = from3 / 2;
-    let from5 = from4 / 2;
-    let from6 = from5 / 2;
-    [
-        bit(mask),
-        bit(from1),
-        bit(from2),
-        bit(from3),
-        bit(from4),
-        bit(from5),
-        bit(from6),
-    ]
-}
-
-// A mask with one flag more, as its lowest bit.
-fn widened(flag: bool, mask: u32) -> u32
-    requires { mask ≤ 63 }
-    ensures { BitAdded flag mask result }
-{
-    if flag {
-        return 2 * mask + 1;
+    let mut flags = [false; 7];
+    for (s, flag) in flags.iter_mut().enumerate() {
+        *flag = bit(mask >> s);
     }
-    2 * mask
+    flags
 }
 
-#[tactic(auto, unfolding(crate::specs::Fields::mask_of))]
+// The mask whose bit s is the flag of member s.
 fn mask_of(flags: [bool; 7]) -> u32
     ensures { result ≡ mask_of flags }
 {
-    let from6 = widened(flags[6], 0);
-    let from5 = widened(flags[5], from6);
-    let from4 = widened(flags[4], from5);
-    let from3 = widened(flags[3], from4);
-    let from2 = widened(flags[2], from3);
-    let from1 = widened(flags[1], from2);
-    widened(flags[0], from1)
+    let mut mask: u32 = 0;
+    for (s, flag) in flags.iter().enumerate() {
+        if *flag {
+            mask += 1 << s;
+        }
+    }
+    mask
 }
 
 // The record that numbers stand for.
-#[tactic(auto, unfolding(crate::specs::Fields::state_of))]
-pub fn state_of(f: MemberFields) -> MemberState
-    ensures { result ≡ state_of f }
-{
-    let who = Who {
-        slot: Slot(f.slot),
-        me: Member(f.me),
-        n: f.n,
-    };
-    let durable = Durable {
-        joined: Round(f.joined),
-        voted: Round(f.voted),
-        vote: f.vote,
-        led: Round(f.led),
-    };
-    let lead = Lead {
-        phase: f.phase,
-        value: f.value,
-        source: Round(f.source),
-        flags: flags_of(f.flags),
-    };
-    MemberState { who, durable, lead }
+impl From<MemberFields> for MemberState {
+    ghost from_gives = { λ f m. m ≡ state_of f };
+
+    #[tactic(auto, unfolding(crate::specs::Fields::state_of))]
+    fn from(f: MemberFields) -> MemberState {
+        MemberState {
+            who: Who {
+                slot: Slot(f.slot),
+                me: Member(f.me),
+                n: f.n,
+            },
+            durable: Durable {
+                joined: Round(f.joined),
+                voted: Round(f.voted),
+                vote: f.vote,
+                led: Round(f.led),
+            },
+            lead: Lead {
+                phase: f.phase,
+                value: f.value,
+                source: Round(f.source),
+                flags: flags_of(f.flags),
+            },
+        }
+    }
 }
 
 // The numbers of a record.
-#[tactic(auto, unfolding(crate::specs::Fields::fields_of))]
-pub fn fields_of(m: MemberState) -> MemberFields
-    ensures { result ≡ fields_of m }
-{
-    let flags = m.lead.flags;
-    MemberFields {
-        me: m.who.me.0,
-        n: m.who.n,
-        joined: m.durable.joined.0,
-        voted: m.durable.voted.0,
-        vote: m.durable.vote,
-        led: m.durable.led.0,
-        phase: m.lead.phase,
-        value: m.lead.value,
-        source: m.lead.source.0,
-        flags: mask_of(flags),
-        slot: m.who.slot.0,
+impl From<MemberState> for MemberFields {
+    ghost from_gives = { λ m f. f ≡ fields_of m };
+
+    #[tactic(auto, unfolding(crate::specs::Fields::fields_of))]
+    fn from(m: MemberState) -> MemberFields {
+        MemberFields {
+            me: m.who.me.0,
+            n: m.who.n,
+            joined: m.durable.joined.0,
+            voted: m.durable.voted.0,
+            vote: m.durable.vote,
+            led: m.durable.led.0,
+            phase: m.lead.phase,
+            value: m.lead.value,
+            source: m.lead.source.0,
+            flags: mask_of(m.lead.flags),
+            slot: m.who.slot.0,
+        }
     }
 }
 
@@ -128,23 +111,4 @@ pub fn no_mask(mask: u32) -> bool
     ensures { result ≡ no_mask mask }
 {
     127 < mask
-}
-
-// A record of zeros, which is none.
-pub fn no_fields() -> MemberFields
-    ensures { result ≡ no_fields }
-{
-    MemberFields {
-        me: 0,
-        n: 0,
-        joined: 0,
-        voted: 0,
-        vote: 0,
-        led: 0,
-        phase: 0,
-        value: 0,
-        source: 0,
-        flags: 0,
-        slot: 0,
-    }
 }

@@ -10,6 +10,7 @@ use ids::{Member, Round, Slot, leader, no_slot};
 use quorum::quorum_of;
 
 // The phases of a leader: it has led no round yet; it counts JOINs; it has proposed and counts VOTEs; it has decided.
+// Numbers, and no enum: C lends records, and one of phase 4 has to be a record, since `is_sound` refuses it.
 pub const IDLE: u32 = 0;
 
 pub const COLLECTING: u32 = 1;
@@ -20,7 +21,7 @@ pub const DECIDED: u32 = 3;
 
 // Which member of which office a record is, and for which of its slots.
 #[repr(C)]
-#[derive(Clone, Copy)]
+#[derive(Clone, Copy, Debug, PartialEq, Eq)]
 pub struct Who {
     // The slot whose messages it takes (02, ticket 6).
     pub slot: Slot,
@@ -32,7 +33,7 @@ pub struct Who {
 
 // What must last: a member that forgot one of these could vote or lead against what it did.
 #[repr(C)]
-#[derive(Clone, Copy)]
+#[derive(Clone, Copy, Debug, PartialEq, Eq)]
 pub struct Durable {
     // J, the highest round joined or voted.
     pub joined: Round,
@@ -46,7 +47,7 @@ pub struct Durable {
 
 // What belongs to leading the round last led. In this order it takes the least room.
 #[repr(C)]
-#[derive(Clone, Copy)]
+#[derive(Clone, Copy, Debug, PartialEq, Eq)]
 pub struct Lead {
     // IDLE, COLLECTING, PROPOSED or DECIDED.
     pub phase: u32,
@@ -59,7 +60,7 @@ pub struct Lead {
 }
 
 #[repr(C)]
-#[derive(Clone, Copy)]
+#[derive(Clone, Copy, Debug, PartialEq, Eq)]
 pub struct MemberState {
     pub who: Who,
     pub durable: Durable,
@@ -70,16 +71,7 @@ pub struct MemberState {
 pub fn changes_durable(before: Durable, after: Durable) -> bool
     ensures { result ≡ changes_durable before after }
 {
-    if before.joined.0 != after.joined.0 {
-        return true;
-    }
-    if before.voted.0 != after.voted.0 {
-        return true;
-    }
-    if before.vote != after.vote {
-        return true;
-    }
-    before.led.0 != after.led.0
+    before != after
 }
 
 // How many flags a phase needs to end, or ended with: the quorum of the office in each.
@@ -90,21 +82,17 @@ pub fn needed(who: Who, phase: u32) -> u32
     quorum_of(who.n)
 }
 
-// How many of the members below `to` are flagged.
+// How many of the members below `to` are flagged. A loop: `filter` and `count` run twice the instructions.
 #[tactic(auto, unfolding(quorum::specs::Count::count))]
 pub fn count_below(flags: [bool; 7], to: usize) -> u32
     requires { to ≤ 7 }
     ensures { result ≡ count (flag flags) to }
 {
-    let mut k: u32 = 0;
-    let mut i: usize = 0;
-    while i < to {
-        if flags[i] {
-            k += 1;
-        }
-        i += 1;
+    let mut counted: u32 = 0;
+    for flag in &flags[..to] {
+        counted += u32::from(*flag);
     }
-    k
+    counted
 }
 
 // How many members are flagged.
@@ -140,31 +128,19 @@ pub fn fresh_record(slot: Slot, me: Member, n: u32) -> MemberState
 pub fn is_allowed(n: u32) -> bool
     ensures { result ≡ allowed n }
 {
-    if n == 3 {
-        return true;
-    }
-    if n == 5 {
-        return true;
-    }
-    n == 7
+    matches!(n, 3 | 5 | 7)
 }
 
 // N is allowed, the number below it, and the slot one of 0 to 7.
 pub fn who_sound(slot: Slot, me: Member, n: u32) -> bool
     ensures { result ≡ sound_who slot me n }
 {
-    if !is_allowed(n) {
-        return false;
-    }
-    if n <= me.0 {
-        return false;
-    }
-    !no_slot(slot)
+    is_allowed(n) && me.0 < n && !no_slot(slot)
 }
 
 pub fn is_leader(n: u32, s: Member, r: Round) -> bool
     requires { 1 ≤ n }
     ensures { result ≡ leads n s r }
 {
-    leader(r, n).0 == s.0
+    leader(r, n) == s
 }

@@ -1,3 +1,2 @@
 -- Laws of the refusals.
-pub mod Checks
 pub mod Late

@@ -10,13 +10,14 @@ use message::Body;
 pub fn starting(m: MemberState, r: Round, offer: u64) -> MemberState
     ensures { result ≡ starting m r offer }
 {
-    let none = Round(0);
-    let d = m.durable;
-    let durable = Durable { led: r, ..d };
+    let durable = Durable {
+        led: r,
+        ..m.durable
+    };
     let lead = Lead {
         phase: COLLECTING,
         value: offer,
-        source: none,
+        source: Round(0),
         flags: [false; 7],
     };
     MemberState { durable, lead, ..m }
@@ -26,28 +27,31 @@ pub fn starting(m: MemberState, r: Round, offer: u64) -> MemberState
 pub fn joining(m: MemberState, r: Round) -> MemberState
     ensures { result ≡ joining m r }
 {
-    let d = m.durable;
-    let durable = Durable { joined: r, ..d };
-    MemberState { durable, ..m }
+    MemberState {
+        durable: Durable {
+            joined: r,
+            ..m.durable
+        },
+        ..m
+    }
 }
 
 // The JOIN of round r: with the last vote, if there was one.
 pub fn join_message(m: MemberState, r: Round) -> Body
     ensures { result ≡ join_of m.who.me m.durable r }
 {
-    let me = m.who.me;
-    let voted = m.durable.voted;
-    if 0 < voted.0 {
-        return Body::JoinVoted {
+    if Round(0) < m.durable.voted {
+        Body::JoinVoted {
             round: r,
-            sender: me,
-            voted: voted,
+            sender: m.who.me,
+            voted: m.durable.voted,
             value: m.durable.vote,
-        };
-    }
-    Body::Join {
-        round: r,
-        sender: me,
+        }
+    } else {
+        Body::Join {
+            round: r,
+            sender: m.who.me,
+        }
     }
 }
 
@@ -56,9 +60,8 @@ pub fn counting(m: MemberState, s: Member) -> MemberState
     requires { s.0 < 7 }
     ensures { result ≡ counting m s }
 {
-    let at = s.0 as usize;
     let mut lead = m.lead;
-    lead.flags[at] = true;
+    lead.flags[s.0 as usize] = true;
     MemberState { lead, ..m }
 }
 
@@ -66,11 +69,10 @@ pub fn counting(m: MemberState, s: Member) -> MemberState
 fn adopted(m: MemberState, q: Round, w: u64) -> MemberState
     ensures { result ≡ adopted m q w }
 {
-    let l = m.lead;
     let lead = Lead {
         value: w,
         source: q,
-        ..l
+        ..m.lead
     };
     MemberState { lead, ..m }
 }
@@ -80,22 +82,22 @@ fn adopted(m: MemberState, q: Round, w: u64) -> MemberState
 pub fn adopting(m: MemberState, q: Round, w: u64) -> MemberState
     ensures { result ≡ adopting m q w }
 {
-    if m.lead.source.0 < q.0 {
-        return adopted(m, q, w);
+    if m.lead.source < q {
+        adopted(m, q, w)
+    } else {
+        m
     }
-    m
 }
 
 // The quorum of joins: phase 2, the flags cleared for the votes.
 pub fn proposing(m: MemberState) -> MemberState
     ensures { result ≡ proposing m }
 {
-    let l = m.lead;
     let flags = [false; 7];
     let lead = Lead {
         phase: PROPOSED,
         flags,
-        ..l
+        ..m.lead
     };
     MemberState { lead, ..m }
 }
@@ -104,12 +106,11 @@ pub fn proposing(m: MemberState) -> MemberState
 pub fn voting(m: MemberState, r: Round, v: u64) -> MemberState
     ensures { result ≡ voting m r v }
 {
-    let d = m.durable;
     let durable = Durable {
         joined: r,
         voted: r,
         vote: v,
-        ..d
+        ..m.durable
     };
     MemberState { durable, ..m }
 }
@@ -118,10 +119,11 @@ pub fn voting(m: MemberState, r: Round, v: u64) -> MemberState
 pub fn deciding(m: MemberState) -> MemberState
     ensures { result ≡ deciding m }
 {
-    let l = m.lead;
-    let lead = Lead {
-        phase: DECIDED,
-        ..l
-    };
-    MemberState { lead, ..m }
+    MemberState {
+        lead: Lead {
+            phase: DECIDED,
+            ..m.lead
+        },
+        ..m
+    }
 }

@@ -1,98 +1,88 @@
-// The further refusals of the member table of 01, "Members": for each event, the number of the first whose cause holds, else 0. START's 22 is that of 02, Ticket 2.
+// The further refusals of the member table of 01, "Members": for each event, the first whose cause holds. START's 22 is that of 02, Ticket 2.
 ghost use Rattle.std.specs.Prelude.{◌≡◌, ◌≤◌};
 ghost use Rattle.laws.specs.First.{first};
+ghost use Rattle.numbers.specs.Numbers.{number_of};
 ghost use Rattle.member_rules.specs.Causes.{start_call_causes, START_late, START_causes, count_causes, other_vote, PROPOSE_causes};
 
 use ids::{Member, Round, in_range};
 use member_record::{MemberState, is_leader};
+use numbers::Refusal;
 
 // The refusals of start(r, offer).
-pub fn check_start_call(m: MemberState, r: Round) -> u32
+pub fn check_start_call(m: MemberState, r: Round) -> Result<(), Refusal>
     requires { 1 ≤ m.who.n }
-    ensures { result ≡ first (start_call_causes m r) }
+    ensures { number_of result ≡ first (start_call_causes m r) }
 {
     if !in_range(r) {
-        return numbers::ROUND_RANGE;
+        return Err(Refusal::RoundRange);
     }
-    let me = m.who.me;
-    if !is_leader(m.who.n, me, r) {
-        return numbers::NOT_LEADER;
+    if !is_leader(m.who.n, m.who.me, r) {
+        return Err(Refusal::NotLeader);
     }
-    if r.0 <= m.durable.led.0 {
-        return numbers::NOT_ABOVE_LED;
+    if r <= m.durable.led {
+        return Err(Refusal::NotAboveLed);
     }
-    numbers::OK
+    Ok(())
 }
 
 // Whether START r comes too late: a higher round is joined, or the vote in this one is given.
 fn start_late(m: MemberState, r: Round) -> bool
     ensures { result ≡ START_late m r }
 {
-    if m.durable.joined.0 == r.0 {
-        return m.durable.voted.0 == r.0;
-    }
-    m.durable.joined.0 > r.0
+    r < m.durable.joined || (m.durable.joined == r && m.durable.voted == r)
 }
 
 // The refusals of START r.
-pub fn check_start(m: MemberState, r: Round, s: Member) -> u32
+pub fn check_start(m: MemberState, r: Round, s: Member) -> Result<(), Refusal>
     requires { 1 ≤ m.who.n }
-    ensures { result ≡ first (START_causes m r s) }
+    ensures { number_of result ≡ first (START_causes m r s) }
 {
     if !is_leader(m.who.n, s, r) {
-        return numbers::WRONG_SENDER;
+        return Err(Refusal::WrongSender);
     }
     if start_late(m, r) {
-        return numbers::MOVED_PAST;
+        return Err(Refusal::MovedPast);
     }
-    numbers::OK
+    Ok(())
 }
 
 // The refusals of JOIN r, awaited while COLLECTING, and of VOTE r, awaited once PROPOSED.
-pub fn check_count(m: MemberState, phase: u32, r: Round, s: Member) -> u32
+pub fn check_count(m: MemberState, phase: u32, r: Round, s: Member) -> Result<(), Refusal>
     requires { m.who.n ≤ 7 }
-    ensures { result ≡ first (count_causes phase m r s) }
+    ensures { number_of result ≡ first (count_causes phase m r s) }
 {
     if m.who.n <= s.0 {
-        return numbers::WRONG_SENDER;
+        return Err(Refusal::WrongSender);
     }
-    if r.0 != m.durable.led.0 {
-        return numbers::NOT_AWAITED;
+    if r != m.durable.led || m.lead.phase != phase {
+        return Err(Refusal::NotAwaited);
     }
-    if m.lead.phase != phase {
-        return numbers::NOT_AWAITED;
+    if m.lead.flags[s.0 as usize] {
+        return Err(Refusal::CountedAlready);
     }
-    let at = s.0 as usize;
-    let flags = m.lead.flags;
-    if flags[at] {
-        return numbers::COUNTED_ALREADY;
-    }
-    numbers::OK
+    Ok(())
 }
 
 // Whether the vote in round r went to another value.
 fn voted_otherwise(m: MemberState, r: Round, v: u64) -> bool
     ensures { result ≡ other_vote m r v }
 {
-    if m.durable.voted.0 != r.0 {
-        return false;
-    }
-    m.durable.vote != v
+    m.durable.voted == r && m.durable.vote != v
 }
 
 // The refusals of PROPOSE r, v.
-pub fn check_propose(m: MemberState, r: Round, s: Member, v: u64) -> u32
+pub fn check_propose(m: MemberState, r: Round, s: Member, v: u64) -> Result<(), Refusal>
     requires { 1 ≤ m.who.n }
-    ensures { result ≡ first (PROPOSE_causes m r s v) }
+    ensures { number_of result ≡ first (PROPOSE_causes m r s v) }
 {
     if !is_leader(m.who.n, s, r) {
-        return numbers::WRONG_SENDER;
+        return Err(Refusal::WrongSender);
     }
-    if r.0 < m.durable.joined.0 {
-        return numbers::MOVED_PAST;
+    if r < m.durable.joined {
+        return Err(Refusal::MovedPast);
     }
     if voted_otherwise(m, r, v) {
-        return numbers::ANOTHER_VALUE;
+        return Err(Refusal::AnotherValue);
     }
-    numbers::OK
+    Ok(())
 }

@@ -11,7 +11,7 @@ use borrow.Author.Tests.{ne_eqb, eq-eqb, le-ltb, lt-ltb, eqb-true}
 use Rattle.laws.specs.Tests.{tests, by_test, or_left, or_right, or_none}
 use Rattle.xdr.proofs.Laws.{word_at_front}
 use Rattle.numbers.specs.Numbers.{MESSAGE_LENGTH, MESSAGE_KIND, MESSAGE_FIELD, WRONG_SLOT}
-use Rattle.message.specs.declared.Read.TheVariants.{Refused}
+use Rattle.message.specs.Answers.{Got, Refused}
 use Rattle.message.specs.Fields.{in_range}
 use Rattle.message.specs.Reading.{is_join, wrong_length, wrong_presence, inexact, size, decoded_body, decoded, ranged, told_reading, reading}
 use Rattle.message.specs.Layout.{START_KIND, JOIN_KIND, PROPOSE_KIND, VOTE_KIND, no_kind, kind_place, presence_place, kind_end, head_length, join_length}
@@ -171,10 +171,15 @@ module _ (s : List ℕ) where
       (λ j. rw j t) in
       by_test (in_range (decoded_body s)) (λ r. rw (known K, w, K.present, t, r)) (λ r. rw (known K, w, K.present, t, r))
 
-  -- so the message of their slot that says what they say is what they read as, if its fields are in range
-  pub right_said : Known → length s ≡ size s → (b : Body) → b ≡ decoded_body s → ranged (in_slot (message_slot s) b) ≡ told_reading false s
+  -- so they are refused for a field out of range
+  pub field_refused : Known → length s ≡ size s → in_range (decoded_body s) ≡ false → told_reading false s ≡ Refused MESSAGE_FIELD
   unfolding decoded
-  right_said K e b d = ap (λ (x : Body). ranged (in_slot (message_slot s) x)) d ∙ sym (right_size K e)
+  field_refused K e r = right_size K e ∙ rw r refl
+
+  -- and else read as the message of their slot that says what they say
+  pub all_right : Known → length s ≡ size s → in_range (decoded_body s) ≡ true → told_reading false s ≡ Got (in_slot (message_slot s) (decoded_body s))
+  unfolding decoded
+  all_right K e r = right_size K e ∙ rw r refl
 
 -- the part of bytes that is as long as they tell tells the same
 pub own_length : (s : List ℕ) → size s ≤ length s → length (take (size s) s) ≡ size (take (size s) s)

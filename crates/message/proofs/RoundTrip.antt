@@ -20,16 +20,15 @@ use Rattle.ids.specs.declared.Slot.{Slot}
 use Rattle.ids.specs.Ranges.{out_of_range, above_range, no_member, no_slot}
 use Rattle.numbers.specs.Numbers.{OK, WRONG_SLOT}
 use Rattle.xdr.specs.Words.{AllBytes, word_at, hyper_at}
-use Rattle.xdr.specs.Items.{Item, integer, long, encoded, Stand}
+use Rattle.xdr.specs.Items.{Item, integer, long, span, encoded, Stand}
 use Rattle.xdr.proofs.Laws.{hyper_at_small}
 use Rattle.xdr.proofs.Items.{length_encoded, integer_found, long_found, stands}
 use Rattle.message.specs.declared.Body.{Body}
 use Rattle.message.specs.declared.Body.TheVariants.{Start, Join, JoinVoted, Propose, Vote}
 use Rattle.message.specs.declared.Message.{Message}
-use Rattle.message.specs.declared.Read.{Read}
-use Rattle.message.specs.declared.Read.TheVariants.{Got, Refused}
+use Rattle.message.specs.Answers.{Read, Got, Refused}
 use Rattle.message.specs.Fields.{head_in_range, vote_in_range, in_range, message_in_range}
-use Rattle.message.specs.Layout.{START_KIND, JOIN_KIND, PROPOSE_KIND, VOTE_KIND, head, layout_in, bytes, slot_place, kind_place, round_place}
+use Rattle.message.specs.Layout.{START_KIND, JOIN_KIND, PROPOSE_KIND, VOTE_KIND, head, layout_in, layout, bytes, slot_place, kind_place, round_place}
 use Rattle.message.specs.Layout.{sender_place, presence_place, voted_place}
 use Rattle.message.specs.Layout.{voted_value_place, proposed_place, join_voted_length, propose_length, longest_message, byte_count, slot_in, kind_in}
 use Rattle.message.specs.Layout.{message_slot, message_round, message_sender}
@@ -87,6 +86,11 @@ length_bytes m = length_body m.slot m.body
 -- no message is longer than the longest
 pub bytes_short : (m : Message) → length (bytes m) ≤ longest_message
 bytes_short m = rw (length_bytes m) (count_most m.body)
+
+-- nor its numbers
+pub layout_short : (m : Message) → span (layout m) ≤ longest_message
+unfolding bytes
+layout_short m = rw (← length_encoded (layout m)) (bytes_short m)
 
 -- what every message starts with is found, whatever comes after
 module _ (i : Slot) (k : ℕ) (r : Round) (s : Member) (js : List Item) where

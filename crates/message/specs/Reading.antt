@@ -7,8 +7,7 @@ use Rattle.numbers.specs.Numbers.{OK, MESSAGE_LENGTH, MESSAGE_KIND, MESSAGE_FIEL
 use Rattle.message.specs.declared.Body.{Body}
 use Rattle.message.specs.declared.Body.TheVariants.{Start, Join, JoinVoted, Propose, Vote}
 use Rattle.message.specs.declared.Message.{Message}
-use Rattle.message.specs.declared.Read.{Read}
-use Rattle.message.specs.declared.Read.TheVariants.{Got, Refused}
+use Rattle.message.specs.Answers.{Read, Got, Refused}
 use Rattle.message.specs.Fields.{in_range}
 use Rattle.message.specs.Layout.{START_KIND, JOIN_KIND, PROPOSE_KIND, no_kind, kind_end, join_length, byte_count}
 use Rattle.message.specs.Layout.{in_slot, slot_in, message_slot, kind_in, message_round, message_sender, presence_in, message_voted, voted_value_in, proposed_in}

@@ -5,9 +5,7 @@ use Rattle.ids.specs.Ranges.{no_slot}
 use Rattle.numbers.specs.Numbers.{OK}
 use Rattle.xdr.specs.Words.{AllBytes}
 use Rattle.message.specs.declared.Message.{Message}
-use Rattle.message.specs.declared.Read.{Read}
-use Rattle.message.specs.declared.Read.TheVariants.{Got}
-use Rattle.message.specs.declared.Written.{Written}
+use Rattle.message.specs.Answers.{Read, Got, Written}
 use Rattle.message.specs.Layout.{longest_message, ValueFits}
 use Rattle.message.specs.Reading.{ReaderGives}
 use Rattle.message.specs.Writing.{WriterLeaves}

@@ -6,7 +6,7 @@ use Rattle.ids.specs.declared.Slot.{Slot}
 use Rattle.ids.specs.Ranges.{no_slot}
 use Rattle.xdr.specs.Words.{word, word_at}
 use Rattle.message.specs.declared.Message.{Message}
-use Rattle.message.specs.declared.Read.TheVariants.{Got, Refused}
+use Rattle.message.specs.Answers.{Got, Refused}
 use Rattle.message.specs.Layout.{bytes}
 use Rattle.message.specs.Reading.{other_slot, message_row, reading}
 use Rattle.message.specs.Writing.{writer_row}

@@ -4,7 +4,7 @@ use Rattle.laws.specs.First.{Cause, ◌gives◌, first}
 use Rattle.ids.specs.Ranges.{no_slot}
 use Rattle.numbers.specs.Numbers.{OK, REPLY_TOO_SHORT, MESSAGE_FIELD, WRONG_SLOT}
 use Rattle.message.specs.declared.Message.{Message}
-use Rattle.message.specs.declared.Written.{Written}
+use Rattle.message.specs.Answers.{Written}
 use Rattle.message.specs.Fields.{in_range}
 use Rattle.message.specs.Layout.{bytes, longest_message}
 

@@ -1,14 +1,15 @@
-// The messages of 01, "Messages", and 02, ticket 6: slot and body, its ranges, and what the reader and the writer answer.
+// The messages of 01, "Messages", and 02, ticket 6: slot and body, kinds and ranges.
 #![tactic(auto)]
 
 ghost use Rattle.std.specs.Prelude.{◌≡◌};
 ghost use Rattle.message.specs.Fields.{head_in_range, vote_in_range, in_range};
-ghost use Rattle.message.specs.Layout.{no_kind};
+ghost use Rattle.message.specs.Kinds.{kind_number, KindRead};
 
 use ids::{Member, Round, Slot};
+use numbers::Refusal;
 
 // What a message says: one of the four kinds, a JOIN without or with a vote.
-#[derive(Clone, Copy)]
+#[derive(Clone, Copy, Debug, PartialEq, Eq)]
 pub enum Body {
     Start {
         round: Round,
@@ -36,42 +37,44 @@ pub enum Body {
 }
 
 // A message by value: the slot that it is of, and what it says (02, ticket 6).
-#[derive(Clone, Copy)]
+#[derive(Clone, Copy, Debug, PartialEq, Eq)]
 pub struct Message {
     pub slot: Slot,
     pub body: Body,
 }
 
-// What bytes read as: the message, or the number of the place table that refuses them.
-#[derive(Clone, Copy)]
-pub enum Read {
-    Got(Message),
-    Refused(u32),
+// The kinds of messages, with the number of each.
+#[derive(Clone, Copy, Debug, PartialEq, Eq)]
+pub enum Kind {
+    Start = 1,
+    Join = 2,
+    Propose = 3,
+    Vote = 4,
 }
 
-// What the writer answers: its number, and the length of what it put at the front; with a refusal that is 0.
-#[derive(Clone, Copy)]
-pub struct Written {
-    pub number: u32,
-    pub length: usize,
-}
+impl From<Kind> for u32 {
+    ghost from_gives = { λ kind number. number ≡ kind_number kind };
 
-pub const START_KIND: u32 = 1;
-
-pub const JOIN_KIND: u32 = 2;
-
-pub const PROPOSE_KIND: u32 = 3;
-
-pub const VOTE_KIND: u32 = 4;
-
-// Whether a number is none of the four kinds.
-pub fn no_kind(kind: u32) -> bool
-    ensures { result ≡ no_kind kind }
-{
-    if kind == 0 {
-        return true;
+    fn from(kind: Kind) -> u32 {
+        kind as u32
     }
-    VOTE_KIND < kind
+}
+
+// The kind of a number, which is refused where it is none of the four.
+impl TryFrom<u32> for Kind {
+    type Error = Refusal;
+
+    ghost try_from_gives = { KindRead };
+
+    fn try_from(number: u32) -> Result<Kind, Refusal> {
+        match number {
+            1 => Ok(Kind::Start),
+            2 => Ok(Kind::Join),
+            3 => Ok(Kind::Propose),
+            4 => Ok(Kind::Vote),
+            _ => Err(Refusal::MessageKind),
+        }
+    }
 }
 
 // The places of a message's words.
@@ -108,54 +111,42 @@ pub const PROPOSE_LENGTH: usize = PROPOSED_PLACE + 8;
 pub const LONGEST: usize = JOIN_VOTED_LENGTH;
 
 // An office has at most seven members, numbered from 0.
-const LAST_SENDER: u32 = 6;
+const LAST_SENDER: Member = Member(6);
 
 // Whether the round is one of 1 to 1,000,000 and the sender one of 0 to 6.
 fn head_in_range(round: Round, sender: Member) -> bool
     ensures { result ≡ head_in_range round sender }
 {
-    if ids::in_range(round) {
-        if LAST_SENDER < sender.0 {
-            return false;
-        }
-        return true;
-    }
-    false
+    ids::in_range(round) && sender <= LAST_SENDER
 }
 
 // Whether a voted round is at least 1 and below the JOIN's round.
 fn vote_in_range(round: Round, voted: Round) -> bool
     ensures { result ≡ vote_in_range round voted }
 {
-    if voted.0 == 0 {
-        return false;
-    }
-    voted.0 < round.0
+    Round(1) <= voted && voted < round
 }
 
-// Whether the fields of what a message says are in range.
-pub fn fields_in_range(b: Body) -> bool
-    ensures { result ≡ in_range b }
-{
-    match b {
-        Body::Start { round, sender } => head_in_range(round, sender),
-        Body::Join { round, sender } => head_in_range(round, sender),
-        Body::JoinVoted {
-            round,
-            sender,
-            voted,
-            value: _,
-        } => {
-            if head_in_range(round, sender) {
-                return vote_in_range(round, voted);
+impl Body {
+    // Whether the fields of what a message says are in range.
+    pub fn fields_in_range(self) -> bool
+        ensures { result ≡ in_range self }
+    {
+        match self {
+            Body::JoinVoted {
+                round,
+                sender,
+                voted,
+                value: _,
+            } => head_in_range(round, sender) && vote_in_range(round, voted),
+            Body::Start { round, sender }
+            | Body::Join { round, sender }
+            | Body::Propose {
+                round,
+                sender,
+                value: _,
             }
-            false
+            | Body::Vote { round, sender } => head_in_range(round, sender),
         }
-        Body::Propose {
-            round,
-            sender,
-            value: _,
-        } => head_in_range(round, sender),
-        Body::Vote { round, sender } => head_in_range(round, sender),
     }
 }

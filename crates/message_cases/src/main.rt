@@ -3,75 +3,59 @@
 #![tactic(auto)]
 
 use ids::{Member, Round, Slot};
-use message::{Body, LONGEST, Message, Read};
+use message::{Body, LONGEST, Message};
+use numbers::Refusal;
 use std::io;
-
-fn print_byte(rt: &impl Print, b: u8) -> io::Result<()> {
-    print!(rt; "{b:02x}")
-}
 
 fn print_bytes(rt: &impl Print, s: &[u8]) -> io::Result<()> {
     for b in s {
-        print_byte(rt, *b)?;
+        print!(rt; "{b:02x}")?;
     }
     Ok(())
 }
 
-fn print_number(rt: &impl Print, n: u64) -> io::Result<()> {
-    print!(rt; "{n} ")
-}
-
-fn print_head(rt: &impl Print, round: Round, sender: Member) -> io::Result<()> {
-    print_number(rt, round.0 as u64)?;
-    print_number(rt, sender.0 as u64)
+fn print_number(rt: &impl Print, refusal: Refusal) -> io::Result<()> {
+    let number = u32::from(refusal);
+    print!(rt; "{number} ")
 }
 
 fn print_message(rt: &impl Print, m: Message) -> io::Result<()> {
-    print_number(rt, m.slot.0 as u64)?;
-    let body = m.body;
-    match body {
-        Body::Start { round, sender } => {
-            print!(rt; "START ")?;
-            print_head(rt, round, sender)
-        }
-        Body::Join { round, sender } => {
-            print!(rt; "JOIN ")?;
-            print_head(rt, round, sender)
-        }
+    let slot = m.slot.0;
+    print!(rt; "{slot} ")?;
+    match m.body {
+        Body::Start {
+            round: Round(round),
+            sender: Member(sender),
+        } => print!(rt; "START {round} {sender} "),
+        Body::Join {
+            round: Round(round),
+            sender: Member(sender),
+        } => print!(rt; "JOIN {round} {sender} "),
         Body::JoinVoted {
-            round,
-            sender,
-            voted,
+            round: Round(round),
+            sender: Member(sender),
+            voted: Round(voted),
             value,
-        } => {
-            print!(rt; "JOIN ")?;
-            print_head(rt, round, sender)?;
-            print_number(rt, voted.0 as u64)?;
-            print_number(rt, value)
-        }
+        } => print!(rt; "JOIN {round} {sender} {voted} {value} "),
         Body::Propose {
-            round,
-            sender,
+            round: Round(round),
+            sender: Member(sender),
             value,
-        } => {
-            print!(rt; "PROPOSE ")?;
-            print_head(rt, round, sender)?;
-            print_number(rt, value)
-        }
-        Body::Vote { round, sender } => {
-            print!(rt; "VOTE ")?;
-            print_head(rt, round, sender)
-        }
+        } => print!(rt; "PROPOSE {round} {sender} {value} "),
+        Body::Vote {
+            round: Round(round),
+            sender: Member(sender),
+        } => print!(rt; "VOTE {round} {sender} "),
     }
 }
 
 // Bytes and what they read as: the message, or the number that refuses them.
-fn show(rt: &impl Print, s: &[u8], read: Read) -> io::Result<()> {
+fn show(rt: &impl Print, s: &[u8], read: Result<Message, Refusal>) -> io::Result<()> {
     print_bytes(rt, s)?;
     print!(rt; " ")?;
     match read {
-        Read::Got(m) => print_message(rt, m)?,
-        Read::Refused(number) => print_number(rt, number as u64)?,
+        Ok(m) => print_message(rt, m)?,
+        Err(refusal) => print_number(rt, refusal)?,
     }
     println!(rt)
 }
@@ -95,17 +79,14 @@ fn show_front(rt: &impl Print, s: &[u8], n: usize) -> io::Result<()> {
 // What the writer makes of a message of a slot, in a buffer that has room for any.
 fn show_written(rt: &impl Print, slot: Slot, body: Body) -> io::Result<()> {
     let mut buf = [255u8; LONGEST];
-    let m = Message { slot, body };
-    let w = message_writer::write_message(m, &mut buf);
-    if w.number == numbers::OK {
-        show_front(rt, &buf, w.length)
-    } else {
-        show_refused(rt, w.number as u64, &buf)
+    match message_writer::write_message(Message { slot, body }, &mut buf) {
+        Ok(length) => show_front(rt, &buf, length),
+        Err(refusal) => show_refused(rt, refusal, &buf),
     }
 }
 
-fn show_refused(rt: &impl Print, number: u64, s: &[u8]) -> io::Result<()> {
-    print_number(rt, number)?;
+fn show_refused(rt: &impl Print, refusal: Refusal, s: &[u8]) -> io::Result<()> {
+    print_number(rt, refusal)?;
     print_bytes(rt, s)?;
     println!(rt)
 }

@@ -1,102 +1,86 @@
-// The fields of a message as numbers, for C: which of them are none of a message, and the message that they are of.
+// A message of fields that are numbers, as C tells it.
 #![tactic(auto)]
 
 ghost use Rattle.std.specs.Prelude.{◌≡◌};
 ghost use Rattle.laws.specs.First.{first};
+ghost use Rattle.numbers.specs.Numbers.{number_of};
+ghost use Rattle.message.specs.Kinds.{kind_number};
 ghost use Rattle.message_fields.specs.Fields.{no_presence, spare_fields, fields_row, body_of, message_of};
 
 use ids::{Member, Round, Slot};
-use message::{Body, JOIN_KIND, Message, PROPOSE_KIND, START_KIND};
+use message::{Body, Kind, Message};
+use numbers::Refusal;
 
 // Whether a field that the kind doesn't have isn't 0.
 #[tactic(auto, unfolding(crate::specs::Fields::spare_fields))]
-fn spare_fields(kind: u32, present: u32, voted: u32, value: u64) -> bool
-    ensures { result ≡ spare_fields kind present voted value }
+fn spare_fields(kind: Kind, present: u32, voted: Round, value: u64) -> bool
+    ensures { result ≡ spare_fields (kind_number kind) present voted.0 value }
 {
-    if kind == JOIN_KIND {
-        if present == 1 {
-            return false;
-        }
-        if voted != 0 {
-            return true;
-        }
-        return value != 0;
+    match kind {
+        Kind::Join => present != 1 && (voted != Round(0) || value != 0),
+        Kind::Propose => present != 0 || voted != Round(0),
+        Kind::Start | Kind::Vote => present != 0 || voted != Round(0) || value != 0,
     }
-    if present != 0 {
-        return true;
-    }
-    if voted != 0 {
-        return true;
-    }
-    if kind == PROPOSE_KIND {
-        return false;
-    }
-    value != 0
 }
 
 // Whether the presence of a JOIN is neither 0 nor 1.
-fn wrong_presence(kind: u32, present: u32) -> bool
-    ensures { result ≡ no_presence kind present }
+fn wrong_presence(kind: Kind, present: u32) -> bool
+    ensures { result ≡ no_presence (kind_number kind) present }
 {
-    if kind == JOIN_KIND {
-        return 1 < present;
-    }
-    false
-}
-
-// The first number that the fields of no message get, else 0.
-#[tactic(auto, unfolding(crate::specs::Fields::fields_row))]
-pub fn fields_number(slot: Slot, kind: u32, present: u32, voted: u32, value: u64) -> u32
-    ensures { result ≡ first (fields_row slot kind present voted value) }
-{
-    let wrong = ids::no_slot(slot);
-    let unknown = message::no_kind(kind);
-    if wrong {
-        return numbers::WRONG_SLOT;
-    }
-    if unknown {
-        return numbers::MESSAGE_KIND;
-    }
-    if wrong_presence(kind, present) {
-        return numbers::MESSAGE_FIELD;
-    }
-    if spare_fields(kind, present, voted, value) {
-        return numbers::MESSAGE_FIELD;
-    }
-    numbers::OK
+    kind == Kind::Join && 1 < present
 }
 
 // What the message of fields says.
 #[tactic(auto, unfolding(crate::specs::Fields::body_of))]
-fn body_of(kind: u32, round: Round, sender: Member, present: u32, voted: Round, value: u64) -> Body
-    ensures { result ≡ body_of kind round sender present voted value }
+fn body_of(kind: Kind, round: Round, sender: Member, present: u32, voted: Round, value: u64) -> Body
+    ensures { result ≡ body_of (kind_number kind) round sender present voted value }
 {
-    if kind == START_KIND {
-        return Body::Start { round, sender };
-    }
-    if kind == JOIN_KIND {
-        if present == 1 {
-            return Body::JoinVoted {
-                round,
-                sender,
-                voted,
-                value,
-            };
+    match kind {
+        Kind::Start => Body::Start { round, sender },
+        Kind::Join => {
+            if present == 1 {
+                Body::JoinVoted {
+                    round,
+                    sender,
+                    voted,
+                    value,
+                }
+            } else {
+                Body::Join { round, sender }
+            }
         }
-        return Body::Join { round, sender };
-    }
-    if kind == PROPOSE_KIND {
-        return Body::Propose {
+        Kind::Propose => Body::Propose {
             round,
             sender,
             value,
-        };
+        },
+        Kind::Vote => Body::Vote { round, sender },
     }
-    Body::Vote { round, sender }
 }
 
-// The message of fields.
-#[tactic(auto, unfolding(crate::specs::Fields::message_of))]
+// Whether fields are a message's, else the first number that they get. Kind and presence are numbers, as C tells them.
+#[tactic(auto, unfolding(crate::specs::Fields::fields_row))]
+pub fn check_fields(
+    slot: Slot,
+    kind: u32,
+    present: u32,
+    voted: Round,
+    value: u64,
+) -> Result<(), Refusal>
+    ensures { number_of result ≡ first (fields_row slot kind present voted.0 value) }
+{
+    if ids::no_slot(slot) {
+        return Err(Refusal::WrongSlot);
+    }
+    let kind = Kind::try_from(kind)?;
+    if wrong_presence(kind, present) || spare_fields(kind, present, voted, value) {
+        return Err(Refusal::MessageField);
+    }
+    Ok(())
+}
+
+// The message of fields. A number that is no kind's counts as a VOTE's.
+#[tactic(auto, unfolding(crate::specs::Fields::body_of, crate::specs::Fields::message_of))]
 pub fn message_of(
     slot: Slot,
     kind: u32,
@@ -108,6 +92,7 @@ pub fn message_of(
 ) -> Message
     ensures { result ≡ message_of slot kind round sender present voted value }
 {
+    let kind = Kind::try_from(kind).unwrap_or(Kind::Vote);
     Message {
         slot,
         body: body_of(kind, round, sender, present, voted, value),

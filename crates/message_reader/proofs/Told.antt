@@ -1,6 +1,6 @@
 -- What the two readers share: bytes that tell slot and kind read by whether their slot is refused. Assumes nothing.
 use Rattle.std.proofs.Common.{◌≡◌, ℕ, ◌≤◌, List, length, Bool, sym, ap, ◌∙◌}
-use Rattle.message.specs.declared.Read.{Read}
+use Rattle.message.specs.Answers.{Read}
 use Rattle.message.specs.Layout.{kind_end, slot_in}
 use Rattle.message.specs.Reading.{told_reading, ReaderGives}
 use Rattle.message.proofs.Checks.{told}

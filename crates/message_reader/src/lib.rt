@@ -1,20 +1,22 @@
 // The reader of messages (01, "Messages"; 02, ticket 6).
 #![tactic(auto)]
 
-ghost use Rattle.std.specs.Prelude.{◌≡◌, false, ◌+◌, ◌≤◌, length, take};
+ghost use Rattle.std.specs.Prelude.{◌≡◌, false, ◌+◌, ◌≤◌, length, take, MatchResult, eqb};
+ghost use Rattle.numbers.specs.Numbers.{refusal_number};
 ghost use Rattle.ids.specs.Ranges.{no_slot};
-ghost use Rattle.message.specs.declared.Body.TheVariants.{Start, Join, JoinVoted, Propose, Vote};
-ghost use Rattle.message.specs.Layout.{JOIN_KIND, no_kind, kind_end, head_length, join_voted_length, propose_length, longest_message};
-ghost use Rattle.message.specs.Layout.{in_slot, message_slot, kind_in, round_in, message_round, message_sender, message_voted, voted_value_in, proposed_in};
-ghost use Rattle.message.specs.Reading.{size, decoded_body, ranged, other_slot, told_reading, ReaderGives};
+ghost use Rattle.message.specs.Layout.{JOIN_KIND, no_kind, kind_end, head_length, join_length, longest_message};
+ghost use Rattle.message.specs.Layout.{message_slot, kind_in, round_in, message_sender, presence_in};
+ghost use Rattle.message.specs.Kinds.{KindShown};
+ghost use Rattle.message.specs.Answers.{read_of, Refused};
+ghost use Rattle.message.specs.Reading.{size, decoded_body, wrong_presence, other_slot, told_reading, ReaderGives};
 
 use ids::{Member, Round, Slot};
 use message::{
-    Body, HEAD_LENGTH, JOIN_KIND, JOIN_LENGTH, JOIN_VOTED_LENGTH, KIND_END, KIND_PLACE, Message,
-    PRESENCE_PLACE, PROPOSE_KIND, PROPOSE_LENGTH, PROPOSED_PLACE, ROUND_PLACE, Read, SENDER_PLACE,
-    SLOT_PLACE, START_KIND, VOTED_PLACE, VOTED_VALUE_PLACE,
+    Body, HEAD_LENGTH, JOIN_LENGTH, JOIN_VOTED_LENGTH, KIND_END, KIND_PLACE, Kind, Message,
+    PRESENCE_PLACE, PROPOSE_LENGTH, PROPOSED_PLACE, ROUND_PLACE, SENDER_PLACE, SLOT_PLACE,
+    VOTED_PLACE, VOTED_VALUE_PLACE,
 };
-use numbers::{MESSAGE_FIELD, MESSAGE_KIND, MESSAGE_LENGTH, WRONG_SLOT};
+use numbers::Refusal;
 
 // The slot at its place.
 fn slot_of(s: &[u8]) -> Slot
@@ -40,60 +42,20 @@ fn sender_of(s: &[u8]) -> Member
     Member(xdr::word_at(s, SENDER_PLACE))
 }
 
-fn as_start(s: &[u8]) -> Body
-    requires { head_length ≤ length s.now }
-    ensures { result ≡ Start (message_round s.now) (message_sender s.now) }
+// The kind at its place, and VOTE where none of the four stands there.
+fn kind_of(s: &[u8]) -> Kind
+    requires { kind_end ≤ length s.now }
+    ensures { KindShown result (kind_in s.now) }
 {
-    Body::Start {
-        round: round_at(s, ROUND_PLACE),
-        sender: sender_of(s),
-    }
+    Kind::try_from(xdr::word_at(s, KIND_PLACE)).unwrap_or(Kind::Vote)
 }
 
-// Bytes as a JOIN without a vote.
-fn as_join(s: &[u8]) -> Body
-    requires { head_length ≤ length s.now }
-    ensures { result ≡ Join (message_round s.now) (message_sender s.now) }
+// Whether a JOIN says that it carries a vote.
+fn has_vote(s: &[u8]) -> bool
+    requires { join_length ≤ length s.now }
+    ensures { result ≡ eqb (presence_in s.now) 1 }
 {
-    Body::Join {
-        round: round_at(s, ROUND_PLACE),
-        sender: sender_of(s),
-    }
-}
-
-// Bytes as a JOIN with a vote.
-fn as_join_voted(s: &[u8]) -> Body
-    requires { join_voted_length ≤ length s.now }
-    ensures { result ≡ JoinVoted (message_round s.now) (message_sender s.now)
-        (message_voted s.now) (voted_value_in s.now) }
-{
-    Body::JoinVoted {
-        round: round_at(s, ROUND_PLACE),
-        sender: sender_of(s),
-        voted: round_at(s, VOTED_PLACE),
-        value: xdr::hyper_at(s, VOTED_VALUE_PLACE),
-    }
-}
-
-fn as_propose(s: &[u8]) -> Body
-    requires { propose_length ≤ length s.now }
-    ensures { result ≡ Propose (message_round s.now) (message_sender s.now) (proposed_in s.now) }
-{
-    Body::Propose {
-        round: round_at(s, ROUND_PLACE),
-        sender: sender_of(s),
-        value: xdr::hyper_at(s, PROPOSED_PLACE),
-    }
-}
-
-fn as_vote(s: &[u8]) -> Body
-    requires { head_length ≤ length s.now }
-    ensures { result ≡ Vote (message_round s.now) (message_sender s.now) }
-{
-    Body::Vote {
-        round: round_at(s, ROUND_PLACE),
-        sender: sender_of(s),
-    }
+    xdr::word_at(s, PRESENCE_PLACE) == 1
 }
 
 // What the message says that bytes of the length of their kind spell.
@@ -102,39 +64,48 @@ fn decode_body(s: &[u8]) -> Body
     requires { length s.now ≡ size s.now }
     ensures { result ≡ decoded_body s.now }
 {
-    let kind = xdr::word_at(s, KIND_PLACE);
-    if kind == START_KIND {
-        return as_start(s);
-    }
-    if kind == JOIN_KIND {
-        if xdr::word_at(s, PRESENCE_PLACE) == 1 {
-            return as_join_voted(s);
+    let round = round_at(s, ROUND_PLACE);
+    let sender = sender_of(s);
+    match kind_of(s) {
+        Kind::Start => Body::Start { round, sender },
+        Kind::Join => {
+            if has_vote(s) {
+                Body::JoinVoted {
+                    round,
+                    sender,
+                    voted: round_at(s, VOTED_PLACE),
+                    value: xdr::hyper_at(s, VOTED_VALUE_PLACE),
+                }
+            } else {
+                Body::Join { round, sender }
+            }
         }
-        return as_join(s);
+        Kind::Propose => Body::Propose {
+            round,
+            sender,
+            value: xdr::hyper_at(s, PROPOSED_PLACE),
+        },
+        Kind::Vote => Body::Vote { round, sender },
     }
-    if kind == PROPOSE_KIND {
-        return as_propose(s);
-    }
-    as_vote(s)
 }
 
-// The length of the message at the front of bytes that have room for any, by its kind and presence.
+// The length of the message at the front of bytes that tell its kind, and its presence if it is a JOIN.
 #[tactic(auto, unfolding(message::specs::Reading::size, message::specs::Reading::decoded_body))]
 fn message_size(s: &[u8]) -> usize
-    requires { longest_message ≤ length s.now }
+    requires { (kind_end ≤ length s.now) × (kind_in s.now ≡ JOIN_KIND → join_length ≤ length s.now) }
     ensures { result ≡ size s.now }
 {
-    let kind = xdr::word_at(s, KIND_PLACE);
-    if kind == JOIN_KIND {
-        if xdr::word_at(s, PRESENCE_PLACE) == 1 {
-            return JOIN_VOTED_LENGTH;
+    match kind_of(s) {
+        Kind::Start | Kind::Vote => HEAD_LENGTH,
+        Kind::Join => {
+            if has_vote(s) {
+                JOIN_VOTED_LENGTH
+            } else {
+                JOIN_LENGTH
+            }
         }
-        return JOIN_LENGTH;
+        Kind::Propose => PROPOSE_LENGTH,
     }
-    if kind == PROPOSE_KIND {
-        return PROPOSE_LENGTH;
-    }
-    HEAD_LENGTH
 }
 
 // The slot of the message at the front of bytes that have room for any.
@@ -155,91 +126,65 @@ pub fn body_front(s: &[u8]) -> Body
     decode_body(&s[..n])
 }
 
-// Bytes of the right length read as the message of their slot that says so, if its fields are in range.
-fn ranged(s: &[u8], body: Body) -> Read
-    requires { kind_end ≤ length s.now }
-    ensures { result ≡ ranged (in_slot (message_slot s.now) body) }
+// The presence word of a JOIN has to be there before it is looked at, and it is 0 or 1.
+#[tactic(auto, using(message::proofs::Checks::join_short, message::proofs::Checks::join_neither))]
+fn check_presence(s: &[u8]) -> Result<(), Refusal>
+    requires { (kind_end ≤ length s.now) × (no_kind (kind_in s.now) ≡ false) }
+    ensures { MatchResult result
+        (λ _. (wrong_presence s.now ≡ false) × (kind_in s.now ≡ JOIN_KIND → join_length ≤ length s.now))
+        (λ e. Refused (refusal_number e) ≡ told_reading false s.now) }
 {
-    if message::fields_in_range(body) {
-        let slot = slot_of(s);
-        Read::Got(Message { slot, body })
-    } else {
-        Read::Refused(MESSAGE_FIELD)
-    }
-}
-
-// Reads a JOIN: its presence word has to be there before it is looked at.
-#[tactic(auto, using(message::proofs::Checks::join_short, message::proofs::Checks::join_neither, message::proofs::Checks::wrong_size, message::proofs::Checks::right_said, message::proofs::Checks::size_join, message::proofs::Checks::size_join_voted, message::proofs::Checks::decoded_join, message::proofs::Checks::decoded_join_voted))]
-fn read_join(s: &[u8]) -> Read
-    requires { kind_in s.now ≡ JOIN_KIND }
-    ensures { result ≡ told_reading false s.now }
-{
-    if s.len() < JOIN_LENGTH {
-        return Read::Refused(MESSAGE_LENGTH);
-    }
-    let presence = xdr::word_at(s, PRESENCE_PLACE);
-    if presence == 0 {
-        if s.len() != JOIN_LENGTH {
-            return Read::Refused(MESSAGE_LENGTH);
+    if kind_of(s) == Kind::Join {
+        if s.len() < JOIN_LENGTH {
+            return Err(Refusal::MessageLength);
         }
-        return ranged(s, as_join(s));
-    }
-    if presence == 1 {
-        if s.len() != JOIN_VOTED_LENGTH {
-            return Read::Refused(MESSAGE_LENGTH);
+        if 1 < xdr::word_at(s, PRESENCE_PLACE) {
+            return Err(Refusal::MessageField);
         }
-        return ranged(s, as_join_voted(s));
     }
-    Read::Refused(MESSAGE_FIELD)
+    Ok(())
 }
 
 // Reads bytes whose slot isn't refused and whose kind is one of the four.
-#[tactic(auto, using(message::proofs::Checks::four_kinds, message::proofs::Checks::wrong_size, message::proofs::Checks::right_said, message::proofs::Checks::size_propose, message::proofs::Checks::size_other, message::proofs::Checks::decoded_start, message::proofs::Checks::decoded_propose, message::proofs::Checks::decoded_vote))]
-fn read_kind(s: &[u8]) -> Read
+#[tactic(auto, using(message::proofs::Checks::four_kinds, message::proofs::Checks::wrong_size, message::proofs::Checks::field_refused, message::proofs::Checks::all_right))]
+fn read_kind(s: &[u8]) -> Result<Message, Refusal>
     requires { (kind_end ≤ length s.now) × (no_kind (kind_in s.now) ≡ false) }
-    ensures { result ≡ told_reading false s.now }
+    ensures { read_of result ≡ told_reading false s.now }
 {
-    let kind = xdr::word_at(s, KIND_PLACE);
-    if kind == JOIN_KIND {
-        return read_join(s);
+    check_presence(s)?;
+    if s.len() != message_size(s) {
+        return Err(Refusal::MessageLength);
     }
-    if kind == PROPOSE_KIND {
-        if s.len() != PROPOSE_LENGTH {
-            return Read::Refused(MESSAGE_LENGTH);
-        }
-        return ranged(s, as_propose(s));
+    let body = decode_body(s);
+    if !body.fields_in_range() {
+        return Err(Refusal::MessageField);
     }
-    if s.len() != HEAD_LENGTH {
-        return Read::Refused(MESSAGE_LENGTH);
-    }
-    if kind == START_KIND {
-        return ranged(s, as_start(s));
-    }
-    ranged(s, as_vote(s))
+    Ok(Message {
+        slot: slot_of(s),
+        body,
+    })
 }
 
 // Reads bytes that tell slot and kind; `wrong` says whether their slot is refused.
 #[tactic(auto, using(message::proofs::Checks::slot_refused, message::proofs::Checks::kind_refused))]
-fn read_told(wrong: bool, s: &[u8]) -> Read
+fn read_told(wrong: bool, s: &[u8]) -> Result<Message, Refusal>
     requires { kind_end ≤ length s.now }
-    ensures { result ≡ told_reading wrong s.now }
+    ensures { read_of result ≡ told_reading wrong s.now }
 {
-    let unknown = message::no_kind(xdr::word_at(s, KIND_PLACE));
     if wrong {
-        return Read::Refused(WRONG_SLOT);
+        return Err(Refusal::WrongSlot);
     }
-    if unknown {
-        return Read::Refused(MESSAGE_KIND);
-    }
+    // The kind is looked at behind the slot.
+    Kind::try_from(xdr::word_at(s, KIND_PLACE))?;
     read_kind(s)
 }
 
 // Reads any bytes of any length: the message that they are, or the number that comes first.
-pub fn read_message(s: &[u8]) -> Read
-    ensures { ReaderGives no_slot s.now result }
+pub fn read_message(s: &[u8]) -> Result<Message, Refusal>
+    ensures { ReaderGives no_slot s.now (read_of result) }
 {
     if s.len() < KIND_END {
-        return Read::Refused(MESSAGE_LENGTH);
+        return Err(Refusal::MessageLength);
     }
     read_told(ids::no_slot(slot_of(s)), s)
 }
@@ -248,18 +193,16 @@ pub fn read_message(s: &[u8]) -> Read
 fn other_slot(own: Slot, slot: Slot) -> bool
     ensures { result ≡ other_slot own slot.0 }
 {
-    if ids::no_slot(slot) {
-        return true;
-    }
-    slot.0 != own.0
+    ids::no_slot(slot) || slot != own
 }
 
-// Reads bytes for a member of slot `own`, who takes no message of another.
-pub fn read_own_message(own: Slot, s: &[u8]) -> Read
-    ensures { ReaderGives (other_slot own) s.now result }
+// Reads bytes for a member of slot `own`, who takes no message of another. What the two readers share is `read_told`; a closure for the test of the
+// slot would be no plainer.
+pub fn read_own_message(own: Slot, s: &[u8]) -> Result<Message, Refusal>
+    ensures { ReaderGives (other_slot own) s.now (read_of result) }
 {
     if s.len() < KIND_END {
-        return Read::Refused(MESSAGE_LENGTH);
+        return Err(Refusal::MessageLength);
     }
     read_told(other_slot(own, slot_of(s)), s)
 }

@@ -1,2 +1,2 @@
--- What the writer's proofs by hand share.
-pub mod Pieces
+-- What the writer leaves.
+pub mod Left

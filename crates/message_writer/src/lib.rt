@@ -1,142 +1,100 @@
 // The writer of messages (01, "Messages"; 02, ticket 6).
 #![tactic(auto)]
 
-ghost use Rattle.std.specs.Prelude.{◌≡◌, [], ◌∷◌, ◌≤◌, length};
+ghost use Rattle.std.specs.Prelude.{◌≡◌, ◌+◌, ◌≤◌, length};
 ghost use Rattle.laws.specs.First.{first};
-ghost use Rattle.xdr.specs.Items.{integer, long, span};
-ghost use Rattle.xdr_writer.specs.Put.{Fronts};
-ghost use Rattle.message.specs.Layout.{layout, longest_message};
+ghost use Rattle.numbers.specs.Numbers.{number_of};
+ghost use Rattle.xdr_writer.specs.Put.{Fronts, putting_all};
+ghost use Rattle.message.specs.Layout.{head, layout, longest_message, head_length};
+ghost use Rattle.message.specs.Kinds.{kind_number};
+ghost use Rattle.message.specs.Answers.{written_of};
 ghost use Rattle.message.specs.Writing.{buffer_row, WriterLeaves};
 
-use message::{Body, JOIN_KIND, LONGEST, Message, PROPOSE_KIND, START_KIND, VOTE_KIND, Written};
-use numbers::{MESSAGE_FIELD, OK, REPLY_TOO_SHORT, WRONG_SLOT};
-use xdr_writer::{Writer, put_hyper, put_word};
+use ids::{Member, Round, Slot};
+use message::{Body, Kind, LONGEST, Message};
+use numbers::Refusal;
+use xdr_writer::Writer;
 
-// A function for each shape of message puts its numbers through one writer, from the front of the buffer on, and answers the place behind them.
-// START and VOTE: what every message starts with.
-fn write_head(buf: &mut [u8], slot: u32, kind: u32, round: u32, sender: u32) -> usize
-    requires { span (integer slot ∷ integer kind ∷ integer round ∷ integer sender ∷ []) ≤ length buf.old }
-    ensures { Fronts (integer slot ∷ integer kind ∷ integer round ∷ integer sender ∷ []) buf.old result buf.new }
+// Puts what every message starts with, which is all of a START and of a VOTE.
+fn put_head(w: &mut Writer, slot: Slot, kind: Kind, round: Round, sender: Member)
+    requires { w.old.at + head_length ≤ length w.old.buf.now }
+    ensures put { w.new ≡ putting_all (head slot (kind_number kind) round sender) w.old }
+    ensures same_buffer { w.new.buf.ghost_name ≡ w.old.buf.ghost_name }
+    ensures kept { (w.new.at ≡ w.old.at + head_length) × (length w.new.buf.now ≡ length w.old.buf.now) }
 {
-    let w = Writer { buf: buf, at: 0 };
-    let w = put_word(w, slot);
-    let w = put_word(w, kind);
-    let w = put_word(w, round);
-    let w = put_word(w, sender);
-    w.at
+    w.put(slot.0);
+    w.put(u32::from(kind));
+    w.put(round.0);
+    w.put(sender.0);
 }
 
-// A JOIN without a vote.
-fn write_join(buf: &mut [u8], slot: u32, kind: u32, round: u32, sender: u32, presence: u32) -> usize
-    requires { span (integer slot ∷ integer kind ∷ integer round ∷ integer sender ∷ integer presence ∷ []) ≤ length buf.old }
-    ensures { Fronts (integer slot ∷ integer kind ∷ integer round ∷ integer sender ∷ integer presence ∷ []) buf.old result buf.new }
-{
-    let w = Writer { buf: buf, at: 0 };
-    let w = put_word(w, slot);
-    let w = put_word(w, kind);
-    let w = put_word(w, round);
-    let w = put_word(w, sender);
-    let w = put_word(w, presence);
-    w.at
-}
-
-// A JOIN with a vote.
-fn write_join_voted(
-    buf: &mut [u8],
-    slot: u32,
-    kind: u32,
-    round: u32,
-    sender: u32,
-    presence: u32,
-    voted: u32,
-    value: u64,
-) -> usize
-    requires { span (integer slot ∷ integer kind ∷ integer round ∷ integer sender ∷ integer presence ∷ integer voted ∷ long value ∷ []) ≤ length buf.old }
-    ensures { Fronts (integer slot ∷ integer kind ∷ integer round ∷ integer sender ∷ integer presence ∷ integer voted ∷ long value ∷ [])
-        buf.old result buf.new }
-{
-    let w = Writer { buf: buf, at: 0 };
-    let w = put_word(w, slot);
-    let w = put_word(w, kind);
-    let w = put_word(w, round);
-    let w = put_word(w, sender);
-    let w = put_word(w, presence);
-    let w = put_word(w, voted);
-    let w = put_hyper(w, value);
-    w.at
-}
-
-fn write_propose(buf: &mut [u8], slot: u32, kind: u32, round: u32, sender: u32, value: u64) -> usize
-    requires { span (integer slot ∷ integer kind ∷ integer round ∷ integer sender ∷ long value ∷ []) ≤ length buf.old }
-    ensures { Fronts (integer slot ∷ integer kind ∷ integer round ∷ integer sender ∷ long value ∷ []) buf.old result buf.new }
-{
-    let w = Writer { buf: buf, at: 0 };
-    let w = put_word(w, slot);
-    let w = put_word(w, kind);
-    let w = put_word(w, round);
-    let w = put_word(w, sender);
-    let w = put_hyper(w, value);
-    w.at
-}
-
-// Writes a message at the front of a buffer that has room for any, and answers its length.
+// Puts a message where there is room for any.
 #[tactic(auto, unfolding(message::specs::Layout::layout, message::specs::Layout::layout_in))]
-fn put_message(m: Message, buf: &mut [u8]) -> usize
-    requires { longest_message ≤ length buf.old }
-    ensures { Fronts (layout m) buf.old result buf.new }
+fn put_all(w: &mut Writer, m: Message)
+    requires { w.old.at + longest_message ≤ length w.old.buf.now }
+    ensures put { w.new ≡ putting_all (layout m) w.old }
+    ensures same_buffer { w.new.buf.ghost_name ≡ w.old.buf.ghost_name }
 {
-    let slot = m.slot.0;
-    let body = m.body;
-    match body {
-        Body::Start { round, sender } => write_head(buf, slot, START_KIND, round.0, sender.0),
-        Body::Join { round, sender } => write_join(buf, slot, JOIN_KIND, round.0, sender.0, 0),
+    let slot = m.slot;
+    match m.body {
+        Body::Start { round, sender } => put_head(w, slot, Kind::Start, round, sender),
+        Body::Join { round, sender } => {
+            put_head(w, slot, Kind::Join, round, sender);
+            w.put(0u32);
+        }
         Body::JoinVoted {
             round,
             sender,
             voted,
             value,
-        } => write_join_voted(buf, slot, JOIN_KIND, round.0, sender.0, 1, voted.0, value),
+        } => {
+            put_head(w, slot, Kind::Join, round, sender);
+            w.put(1u32);
+            w.put(voted.0);
+            w.put(value);
+        }
         Body::Propose {
             round,
             sender,
             value,
-        } => write_propose(buf, slot, PROPOSE_KIND, round.0, sender.0, value),
-        Body::Vote { round, sender } => write_head(buf, slot, VOTE_KIND, round.0, sender.0),
+        } => {
+            put_head(w, slot, Kind::Propose, round, sender);
+            w.put(value);
+        }
+        Body::Vote { round, sender } => put_head(w, slot, Kind::Vote, round, sender),
     }
 }
 
-// A refusal's answer.
-fn refused(number: u32) -> Written
-    ensures { result ≡ record { number = number; length = 0 } }
+// Writes a message at the front of a buffer that has room for any, and answers its length.
+fn put_message(m: Message, buf: &mut [u8]) -> usize
+    requires { longest_message ≤ length buf.old }
+    ensures { Fronts (layout m) buf.old result buf.new }
 {
-    Written { number, length: 0 }
+    let mut w = Writer { buf, at: 0 };
+    put_all(&mut w, m);
+    w.at
 }
 
-// The first number that a message gets for a buffer of `room` bytes, else 0.
-fn write_number(m: Message, room: usize) -> u32
-    ensures { result ≡ first (buffer_row m room) }
+// Whether a message can't be written into a buffer of `room` bytes.
+fn check_write(m: Message, room: usize) -> Result<(), Refusal>
+    ensures { number_of result ≡ first (buffer_row m room) }
 {
     if room < LONGEST {
-        return REPLY_TOO_SHORT;
+        return Err(Refusal::ReplyTooShort);
     }
     if ids::no_slot(m.slot) {
-        return WRONG_SLOT;
+        return Err(Refusal::WrongSlot);
     }
-    let body = m.body;
-    if !message::fields_in_range(body) {
-        return MESSAGE_FIELD;
+    if !m.body.fields_in_range() {
+        return Err(Refusal::MessageField);
     }
-    OK
+    Ok(())
 }
 
 // Puts a message at the front of the buffer lent for it. A refusal writes nothing.
-pub fn write_message(m: Message, buf: &mut [u8]) -> Written
-    ensures { WriterLeaves m buf.old result buf.new }
+pub fn write_message(m: Message, buf: &mut [u8]) -> Result<usize, Refusal>
+    ensures { WriterLeaves m buf.old (written_of result) buf.new }
 {
-    let number = write_number(m, buf.len());
-    if number != OK {
-        return refused(number);
-    }
-    let length = put_message(m, buf);
-    Written { number: OK, length }
+    check_write(m, buf.len())?;
+    Ok(put_message(m, buf))
 }

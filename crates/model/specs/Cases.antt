@@ -5,8 +5,7 @@ use Rattle.ids.specs.Ranges.{no_slot}
 use Rattle.tree_theory.specs.Machine.{Call, add, commit, Node, fresh, after, answers}
 use Rattle.xdr.specs.Items.{integer, encoded}
 use Rattle.message.specs.declared.Body.TheVariants.{Join}
-use Rattle.message.specs.declared.Read.{Read}
-use Rattle.message.specs.declared.Read.TheVariants.{Got, Refused}
+use Rattle.message.specs.Answers.{Read, Got, Refused}
 use Rattle.message.specs.Reading.{reading}
 
 pub data Case : Type 0 where

@@ -1,5 +1,8 @@
 -- The numbers of 01's place table and of 02, a name and a cause for each, and the rule for a full store or table.
-use Rattle.std.specs.Prelude.{Bool, ℕ, leb}
+use Rattle.std.specs.Prelude.{Bool, ℕ, leb, Result, Ok, Err}
+use Rattle.numbers.specs.declared.Refusal.{Refusal}
+use Rattle.numbers.specs.declared.Refusal.TheVariants.{TableLength, NotATree, RoundRange, RoundPresent, ParentAbsent, ParentNotBelow, ValueDiffers, CrossesCommitted, NoFreeRow, RoundAbsent, IsCommitted, IsGhost, PathTooLong, MessageLength, MessageKind, MessageField}
+use Rattle.numbers.specs.declared.Refusal.TheVariants.{RecordUnsound, ReplyTooShort, NotLeader, NotAboveLed, WrongSender, MovedPast, AnotherValue, NotAwaited, CountedAlready, ListShape, OfficeSize, StoreOrAnswers, NoMemberOrMessage, StoreFull, LengthsDiffer, WrongSlot}
 
 -- the call is done
 abbrev pub OK : ℕ
@@ -132,6 +135,46 @@ LENGTHS_DIFFER = 31
 -- the slot of a message or of an event is above 7, or a message is of another slot (02, ticket 6)
 abbrev pub WRONG_SLOT : ℕ
 WRONG_SLOT = 32
+
+-- the number of a refusal
+abbrev pub refusal_number : Refusal → ℕ
+refusal_number TableLength = TABLE_LENGTH
+refusal_number NotATree = NOT_A_TREE
+refusal_number RoundRange = ROUND_RANGE
+refusal_number RoundPresent = ROUND_PRESENT
+refusal_number ParentAbsent = PARENT_ABSENT
+refusal_number ParentNotBelow = PARENT_NOT_BELOW
+refusal_number ValueDiffers = VALUE_DIFFERS
+refusal_number CrossesCommitted = CROSSES_COMMITTED
+refusal_number NoFreeRow = NO_FREE_ROW
+refusal_number RoundAbsent = ROUND_ABSENT
+refusal_number IsCommitted = IS_COMMITTED
+refusal_number IsGhost = IS_GHOST
+refusal_number PathTooLong = PATH_TOO_LONG
+refusal_number MessageLength = MESSAGE_LENGTH
+refusal_number MessageKind = MESSAGE_KIND
+refusal_number MessageField = MESSAGE_FIELD
+refusal_number RecordUnsound = RECORD_UNSOUND
+refusal_number ReplyTooShort = REPLY_TOO_SHORT
+refusal_number NotLeader = NOT_LEADER
+refusal_number NotAboveLed = NOT_ABOVE_LED
+refusal_number WrongSender = WRONG_SENDER
+refusal_number MovedPast = MOVED_PAST
+refusal_number AnotherValue = ANOTHER_VALUE
+refusal_number NotAwaited = NOT_AWAITED
+refusal_number CountedAlready = COUNTED_ALREADY
+refusal_number ListShape = LIST_SHAPE
+refusal_number OfficeSize = OFFICE_SIZE
+refusal_number StoreOrAnswers = STORE_OR_ANSWERS
+refusal_number NoMemberOrMessage = NO_MEMBER_OR_MESSAGE
+refusal_number StoreFull = STORE_FULL
+refusal_number LengthsDiffer = LENGTHS_DIFFER
+refusal_number WrongSlot = WRONG_SLOT
+
+-- the number of an answer: 0 where the call is done
+abbrev pub number_of : {A : Type 0} → Result A Refusal → ℕ
+number_of (Ok a) = OK
+number_of (Err e) = refusal_number e
 
 -- no row is left where so many of so many are used: the cause of 9 and of 30
 abbrev pub no_row_left : ℕ → ℕ → Bool

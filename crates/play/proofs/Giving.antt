@@ -35,7 +35,7 @@ use Rattle.play_tables.specs.Tables.{length_at, table_at, fresh_tables, tables_n
 use Rattle.play_tables.proofs.Sizes.{number_fits, fit_number}
 use Rattle.play_tables.proofs.Parts.{table_long, table_sized, all_table}
 use Rattle.play_tables.proofs.Fresh.{fresh_fit, fresh_at}
-use Rattle.play_run.specs.declared.PlayAnswer.{PlayAnswer}
+use Rattle.play_run.specs.Answer.{PlayAnswer}
 use Rattle.play_run.specs.Lent.{Lent, as_lent}
 use Rattle.play_run.specs.Ran.{sizes_of, made_tables, Ready, Ran}
 use Rattle.play_run.proofs.Running.{same_store_rows}
@@ -44,10 +44,6 @@ use Rattle.play.specs.Promise.{list_causes, play_number, refused_list, nodes_in,
 -- what was lent, with the store cleared and each table fresh
 abbrev pub cleared_lent : List ℕ → Lent → Lent
 cleared_lent ls L = as_lent (replicate (length L.store) 0) (fresh_tables ls L.words) L.answers
-
--- what the code answers
-pub as_given : {list ls : List ℕ} {L L' : Lent} (a : PlayAnswer) {b : PlayAnswer} → a ≡ b → Given list ls L b L' → Given list ls L a L'
-as_given {list} {ls} {L} {L'} a q G = subst (λ b. Given list ls L b L') (sym q) G
 
 module _ {list ls : List ℕ} {L : Lent} where
   given_refused : (k : ℕ) → play_number list ls L ≡ k → (k ≡ OK → ⊥) → Given list ls L (refused_list k) L

@@ -1,9 +1,10 @@
 -- What play promises, on every answer: the number, the five counts, the answers, the store, with equal JOINs in it, and the tables of the eight slots, and the
 -- third demand.
-use Rattle.std.specs.Prelude.{◌≡◌, true, cond, not, ◌||◌, List, ◌∷◌, ℕ, ◌+◌, ◌<◌, length, ltb}
+use Rattle.std.specs.Prelude.{◌≡◌, true, cond, not, ◌||◌, Result, Ok, Err, List, ◌∷◌, ℕ, ◌+◌, ◌<◌, length, ltb}
 use Rattle.laws.specs.First.{Cause, ◌gives◌, first}
 use Rattle.ids.specs.Ranges.{SLOTS}
-use Rattle.numbers.specs.Numbers.{OK, LIST_SHAPE, OFFICE_SIZE, STORE_OR_ANSWERS}
+use Rattle.numbers.specs.declared.Refusal.{Refusal}
+use Rattle.numbers.specs.Numbers.{OK, LIST_SHAPE, OFFICE_SIZE, STORE_OR_ANSWERS, refusal_number}
 use Rattle.tree_theory.specs.Machine.{Node, GHOST, fresh, has_status, find}
 use Rattle.tree_theory.specs.Table.{nodes}
 use Rattle.tree_theory.specs.Ghosts.{ghost_nodes, made_ghost, born_ghost, over_adds, once}
@@ -14,7 +15,8 @@ use Rattle.model.specs.Counts.{committed_nodes, born_ghosts, over_slots}
 use Rattle.play_events.specs.List.{members_of, count_of, list_fits, events_of}
 use Rattle.play_store.specs.Rows.{store_sized}
 use Rattle.play_tables.specs.Tables.{table_at, eight_causes}
-use Rattle.play_run.specs.declared.PlayAnswer.{PlayAnswer}
+use Rattle.play_run.specs.declared.Played.{Played}
+use Rattle.play_run.specs.Answer.{PlayAnswer, taken_answer}
 use Rattle.play_run.specs.Lent.{Lent}
 use Rattle.play_run.specs.Ran.{sizes_of, Ran}
 
@@ -33,6 +35,11 @@ play_number list ls L = first (list_causes list ls L)
 -- with a refusal each count is 0
 abbrev pub refused_list : ℕ → PlayAnswer
 refused_list number = record { number = number; accepted = 0; messages = 0; proposals = 0; decisions = 0; ghosts = 0 }
+
+-- what a list is answered with
+abbrev pub answer_of : Result Played Refusal → PlayAnswer
+answer_of (Ok p) = taken_answer p
+answer_of (Err e) = refused_list (refusal_number e)
 
 -- the nodes in the table of slot s
 abbrev pub nodes_in : List ℕ → Lent → ℕ → List Node

@@ -1,25 +1,11 @@
 // Play (01, "Play"; 02, ticket 6): a list of events over a whole office, in lent memory.
 #![tactic(auto)]
 
-ghost use Rattle.std.specs.Prelude.{◌≡◌};
 ghost use Rattle.play_run.specs.Lent.{as_lent};
-ghost use Rattle.play.specs.Promise.{refused_list, Given};
+ghost use Rattle.play.specs.Promise.{answer_of, Given};
 
-use play_run::PlayAnswer;
-
-// A refused list counts nothing.
-fn refused_list(number: u32) -> PlayAnswer
-    ensures { result ≡ refused_list number }
-{
-    PlayAnswer {
-        number,
-        accepted: 0,
-        messages: 0,
-        proposals: 0,
-        decisions: 0,
-        ghosts: 0,
-    }
-}
+use numbers::Refusal;
+use play_run::Played;
 
 // Plays a list of events over an office: list, store, tables and answers are lent. `nodes` holds the tables of the eight slots one after another, and
 // `lengths` how many words each has.
@@ -29,28 +15,25 @@ pub fn play(
     nodes: &mut [u64],
     lengths: &[usize; 8],
     answered: &mut [u8],
-) -> PlayAnswer
-    ensures { Given list.now lengths.now (as_lent messages.old nodes.old answered.old) result
+) -> Result<Played, Refusal>
+    ensures { Given list.now lengths.now (as_lent messages.old nodes.old answered.old) (answer_of result)
         (as_lent messages.new nodes.new answered.new) }
 {
     if !play_events::list_fits(list) {
-        return refused_list(numbers::LIST_SHAPE);
+        return Err(Refusal::ListShape);
     }
     let head = play_events::read_head(list);
     if !member_record::is_allowed(head.members) {
-        return refused_list(numbers::OFFICE_SIZE);
+        return Err(Refusal::OfficeSize);
     }
     if !play_store::has_store_length(messages) {
-        return refused_list(numbers::STORE_OR_ANSWERS);
+        return Err(Refusal::StoreOrAnswers);
     }
     if answered.len() < head.count as usize {
-        return refused_list(numbers::STORE_OR_ANSWERS);
+        return Err(Refusal::StoreOrAnswers);
     }
-    let number = play_tables::tables_number(lengths, nodes);
-    if number != numbers::OK {
-        return refused_list(number);
-    }
+    play_tables::check_lengths(lengths, nodes)?;
     play_tables::fresh_tables(nodes, lengths);
     play_store::clear(messages);
-    play_run::run(list, messages, nodes, lengths, answered)
+    Ok(play_run::run(list, messages, nodes, lengths, answered))
 }

@@ -1,7 +1,8 @@
 -- What a message sent, a proposal and a decision do to the tally, the store and the slot's table, and when they are refused with 30 and 9.
-use Rattle.std.specs.Prelude.{◌≡◌, Bool, true, cond, not, List, [], ◌∷◌, ℕ, ◌+◌, ◌-◌, ◌<◌, eqb}
+use Rattle.std.specs.Prelude.{◌≡◌, Bool, true, cond, not, Result, Ok, Err, List, [], ◌∷◌, ℕ, ◌+◌, ◌-◌, ◌<◌, eqb}
 use Rattle.laws.specs.First.{Cause, first, ◌gives◌}
-use Rattle.numbers.specs.Numbers.{OK, NO_FREE_ROW, STORE_FULL, no_row_left}
+use Rattle.numbers.specs.declared.Refusal.{Refusal}
+use Rattle.numbers.specs.Numbers.{OK, NO_FREE_ROW, STORE_FULL, refusal_number, no_row_left}
 use Rattle.tree_theory.specs.Machine.{Call, FREE}
 use Rattle.tree_theory.specs.Table.{row, rows}
 use Rattle.tree_theory.specs.Ghosts.{stepped_ghosts}
@@ -9,8 +10,12 @@ use Rattle.message.specs.declared.Message.{Message}
 use Rattle.tree.specs.Promises.{stepped_table}
 use Rattle.play_store.specs.Rows.{store_rows, put_row}
 use Rattle.play_effects.specs.declared.Tally.{Tally}
-use Rattle.play_effects.specs.declared.EventEffect.{EventEffect}
 use Rattle.play_effects.specs.Memory.{Memory}
+
+-- an event's number, and the tally after it
+pub record EventEffect : Type 0 where
+  pub tally : Tally
+  pub number : ℕ
 
 -- the counts of an office that play works, over all slots: no store has as many rows, nor have all tables together
 pub record CountsFit (t : Tally) : Type 0 where
@@ -30,6 +35,11 @@ refused_event t number = record { tally = t; number = number }
 -- an accepted one gives it
 abbrev pub accepted_event : Tally → EventEffect
 accepted_event t = record { tally = t; number = OK }
+
+-- what an answer says, where the tally was t
+abbrev pub effect_of : Tally → Result Tally Refusal → EventEffect
+effect_of t (Ok u) = accepted_event u
+effect_of t (Err e) = refused_event t (refusal_number e)
 
 -- the messages sent fill the store
 abbrev pub no_room_to_send : Tally → List ℕ → Bool

@@ -3,15 +3,17 @@
 #![tactic(auto)]
 
 ghost use Rattle.std.specs.Prelude.{◌≡◌, true, ◌<◌, ◌≤◌};
+ghost use Rattle.numbers.specs.Numbers.{number_of};
 ghost use Rattle.tree_theory.specs.Machine.{add, commit};
-ghost use Rattle.tree_theory.specs.Table.{sized, Tree};
+ghost use Rattle.tree_theory.specs.Table.{sized, TreeTable};
 ghost use Rattle.message.specs.Fields.{message_in_range};
 ghost use Rattle.play_effects.specs.Memory.{in_memory};
-ghost use Rattle.play_effects.specs.Effects.{CountsFit, counted, refused_event, no_room_to_send, no_room_to_propose, proposal_number};
+ghost use Rattle.play_effects.specs.Effects.{CountsFit, counted, accepted_event, effect_of, no_room_to_send, no_room_to_propose, proposal_number};
 ghost use Rattle.play_effects.specs.Effects.{SendEffect, ProposalEffect, DecisionEffect};
 
 use ids::Round;
 use message::Message;
+use numbers::Refusal;
 
 // N, and of all slots how many messages were sent, proposals and decisions made, and how many rounds the proposals made GHOST.
 #[derive(Clone, Copy)]
@@ -21,13 +23,6 @@ pub struct Tally {
     pub proposals: usize,
     pub decisions: usize,
     pub ghosts: u32,
-}
-
-// An event's number, and the tally after it. What becomes of the member's record goes by the number: whoever holds the records sees to it.
-#[derive(Clone, Copy)]
-pub struct EventEffect {
-    pub tally: Tally,
-    pub number: u32,
 }
 
 // So much more sent, proposed, decided and made GHOST.
@@ -42,13 +37,6 @@ fn counted(tally: Tally, sent: usize, proposals: usize, decisions: usize, ghosts
         decisions: tally.decisions + decisions,
         ghosts: tally.ghosts + ghosts,
     }
-}
-
-// A refused event leaves the tally.
-pub fn refused_event(tally: Tally, number: u32) -> EventEffect
-    ensures { result ≡ refused_event tally number }
-{
-    EventEffect { tally, number }
 }
 
 // Whether the messages sent fill the store.
@@ -67,34 +55,33 @@ fn no_room_to_propose(nodes: &[u64]) -> bool
     tree_table::status_at(nodes, last) != tree_table::FREE
 }
 
-// The number of a proposal, by the row "last" of the place table.
-fn proposal_number(tally: Tally, messages: &[u8], nodes: &[u64]) -> u32
+// Why a proposal is refused, by the row "last" of the place table.
+fn check_proposal(tally: Tally, messages: &[u8], nodes: &[u64]) -> Result<(), Refusal>
     requires { sized nodes.now ≡ true }
-    ensures { result ≡ proposal_number tally (in_memory messages.now nodes.now) }
+    ensures { number_of result ≡ proposal_number tally (in_memory messages.now nodes.now) }
 {
     let no_store_row = no_room_to_send(tally, messages);
     let no_table_row = no_room_to_propose(nodes);
     if no_store_row {
-        return numbers::STORE_FULL;
+        return Err(Refusal::StoreFull);
     }
     if no_table_row {
-        return numbers::NO_FREE_ROW;
+        return Err(Refusal::NoFreeRow);
     }
-    numbers::OK
+    Ok(())
 }
 
-// A step that sends g.
-pub fn send(messages: &mut [u8], tally: Tally, g: Message) -> EventEffect
+// Each of the three is lent what it writes, and no more.
+// A step that sends g: the tally after it. What becomes of the member's record goes by the answer: whoever holds the records sees to it.
+pub fn send(messages: &mut [u8], tally: Tally, g: Message) -> Result<Tally, Refusal>
     requires { CountsFit tally × (message_in_range g ≡ true) }
-    ensures { SendEffect tally g messages.old result messages.new }
+    ensures { SendEffect tally g messages.old (effect_of tally result) messages.new }
 {
     if no_room_to_send(tally, messages) {
-        return refused_event(tally, numbers::STORE_FULL);
-    }
-    play_store::store_message(messages, tally.sent, g);
-    EventEffect {
-        tally: counted(tally, 1, 0, 0, 0),
-        number: numbers::OK,
+        Err(Refusal::StoreFull)
+    } else {
+        play_store::store_message(messages, tally.sent, g);
+        Ok(counted(tally, 1, 0, 0, 0))
     }
 }
 
@@ -107,31 +94,22 @@ pub fn propose(
     round: Round,
     value: u64,
     parent: Round,
-) -> EventEffect
-    requires { CountsFit tally × (message_in_range sent ≡ true) × (sized nodes.old ≡ true) × Tree true nodes.old }
-    ensures { ProposalEffect tally sent (add round.0 value parent.0) (in_memory messages.old nodes.old) result
-        (in_memory messages.new nodes.new) }
+) -> Result<Tally, Refusal>
+    requires { CountsFit tally × (message_in_range sent ≡ true) × TreeTable true nodes.old }
+    ensures { ProposalEffect tally sent (add round.0 value parent.0) (in_memory messages.old nodes.old)
+        (effect_of tally result) (in_memory messages.new nodes.new) }
 {
-    let number = proposal_number(tally, messages, nodes);
-    if number != numbers::OK {
-        return refused_event(tally, number);
-    }
+    check_proposal(tally, messages, nodes)?;
     play_store::store_message(messages, tally.sent, sent);
-    let added = tree::add_in_tree(nodes, round, value, parent);
-    EventEffect {
-        tally: counted(tally, 1, 1, 0, added.ghosts),
-        number: numbers::OK,
-    }
+    let ghosts = tree::add_in_tree(nodes, round, value, parent).unwrap_or(0);
+    Ok(counted(tally, 1, 1, 0, ghosts))
 }
 
-// A step that names commit(round).
-pub fn decide(nodes: &mut [u64], tally: Tally, round: Round) -> EventEffect
-    requires { CountsFit tally × (sized nodes.old ≡ true) × Tree true nodes.old }
-    ensures { DecisionEffect tally (commit round.0) nodes.old result nodes.new }
+// A step that names commit(round): the tally after it. It is never refused.
+pub fn decide(nodes: &mut [u64], tally: Tally, round: Round) -> Tally
+    requires { CountsFit tally × TreeTable true nodes.old }
+    ensures { DecisionEffect tally (commit round.0) nodes.old (accepted_event result) nodes.new }
 {
-    tree::commit_in_tree(nodes, round);
-    EventEffect {
-        tally: counted(tally, 0, 0, 1, 0),
-        number: numbers::OK,
-    }
+    let _ = tree::commit_in_tree(nodes, round);
+    counted(tally, 0, 0, 1, 0)
 }

@@ -2,7 +2,8 @@
 #![tactic(auto)]
 
 ghost use Rattle.std.specs.Prelude.{◌≡◌, ◌≤◌, length};
-ghost use Rattle.play_events.specs.List.{HEAD_BYTES, event_size, head_of, exact, body, list_fits};
+ghost use Rattle.play_events.specs.List.{HEAD_BYTES, DELIVER_BYTES, event_kind, event_size, head_of, exact, body, list_fits};
+ghost use Rattle.play_events.specs.Told.{kind_told, size_told};
 ghost use Rattle.play_events.specs.Value.{ReadsEvent};
 
 use ids::{Member, Round, Slot};
@@ -14,9 +15,12 @@ const EVENT_KIND_PLACE: usize = 0;
 
 const EVENT_SLOT_PLACE: usize = 4;
 
-const EVENT_START: u32 = 1;
-
-const EVENT_DELIVER: u32 = 2;
+// The kinds of events, by their numbers.
+#[derive(Clone, Copy, Debug, PartialEq, Eq)]
+enum EventKind {
+    Start = 1,
+    Deliver = 2,
+}
 
 // The bytes of a start: kind, slot, member, round, offer.
 const START_BYTES: usize = 24;
@@ -71,24 +75,34 @@ pub fn read_head(list: &[u8]) -> ListHead
     }
 }
 
-// How many bytes the event at the front takes; 0 where there is none.
+// The kind of the event at the front, if it is one of the two.
+fn kind_at(rest: &[u8]) -> Option<EventKind>
+    requires { DELIVER_BYTES ≤ length rest.now }
+    ensures { result ≡ kind_told (event_kind rest.now) }
+{
+    match xdr::word_at(rest, EVENT_KIND_PLACE) {
+        1 => Some(EventKind::Start),
+        2 => Some(EventKind::Deliver),
+        _ => None,
+    }
+}
+
+// How many bytes the event at the front takes, if there is one.
 #[tactic(auto, unfolding(crate::specs::List::event_size))]
-fn event_size(rest: &[u8]) -> usize
-    ensures { result ≡ event_size rest.now }
+fn event_size(rest: &[u8]) -> Option<usize>
+    ensures { result ≡ size_told (event_size rest.now) }
 {
     if rest.len() < DELIVER_BYTES {
-        return 0;
+        return None;
     }
-    let kind = xdr::word_at(rest, EVENT_KIND_PLACE);
-    if kind == EVENT_DELIVER {
-        return DELIVER_BYTES;
+    let size = match kind_at(rest)? {
+        EventKind::Start => START_BYTES,
+        EventKind::Deliver => DELIVER_BYTES,
+    };
+    if rest.len() < size {
+        return None;
     }
-    if kind == EVENT_START {
-        if START_BYTES <= rest.len() {
-            return START_BYTES;
-        }
-    }
-    0
+    Some(size)
 }
 
 // The event at the front.
@@ -98,7 +112,7 @@ pub fn read_event(rest: &[u8]) -> EventRead
     ensures { ReadsEvent rest.now result }
 {
     let slot = xdr::word_at(rest, EVENT_SLOT_PLACE);
-    if xdr::word_at(rest, EVENT_KIND_PLACE) == EVENT_START {
+    if kind_at(rest) == Some(EventKind::Start) {
         return EventRead {
             slot: Slot(slot),
             event: PlayEvent::Start {
@@ -124,15 +138,12 @@ fn events_fill(list: &[u8], count: u32) -> bool
     requires { HEAD_BYTES ≤ length list.now }
     ensures { result ≡ exact count (body list.now) }
 {
-    let mut at: usize = HEAD_BYTES;
-    let mut k: u32 = 0;
-    while k < count {
-        let n = event_size(&list[at..]);
-        if n == 0 {
+    let mut at = HEAD_BYTES;
+    for k in 0..count {
+        let Some(size) = event_size(&list[at..]) else {
             return false;
-        }
-        at += n;
-        k += 1;
+        };
+        at += size;
     }
     at == list.len()
 }

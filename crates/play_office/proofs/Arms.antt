@@ -12,9 +12,11 @@ use Rattle.laws.specs.Tests.{by_test, clash}
 use Rattle.ids.specs.declared.Round.{Round}
 use Rattle.ids.specs.declared.Slot.{Slot}
 use Rattle.ids.specs.Ranges.{SLOTS, no_slot}
-use Rattle.numbers.specs.Numbers.{OK, NO_FREE_ROW, STORE_FULL}
+use Rattle.numbers.specs.declared.Refusal.{Refusal}
+use Rattle.numbers.specs.Numbers.{OK, NO_FREE_ROW, STORE_FULL, refusal_number}
+use Rattle.numbers.proofs.Refusals.{refusal_not_ok, refusal_byte}
 use Rattle.tree_theory.specs.Machine.{Call, Node, add, commit, step}
-use Rattle.tree_theory.specs.Table.{nodes, rows, sized, table, Tree}
+use Rattle.tree_theory.specs.Table.{nodes, rows, table, TreeTable}
 use Rattle.tree_theory.specs.Ghosts.{ghosts_made, at_add, stepped_ghosts}
 use Rattle.message.specs.declared.Body.{Body}
 use Rattle.message.specs.declared.Message.{Message}
@@ -24,10 +26,9 @@ use Rattle.member_record.specs.declared.MemberState.{MemberState}
 use Rattle.member_record.specs.Record.{slot_number}
 use Rattle.member.specs.declared.StepAnswer.{StepAnswer}
 use Rattle.member.specs.declared.StepAnswer.TheVariants.{Refused, Sent, Done, Proposed, Decided}
-use Rattle.member.specs.Answers.{answer_outcome, numbered_answer}
+use Rattle.member.specs.Answers.{answer_outcome}
 use Rattle.member.specs.Kept.{Kept}
 use Rattle.member.specs.Table.{Outcome, sends, nothing, proposal}
-use Rattle.member.proofs.Checks.{refused_some}
 use Rattle.member.proofs.Keeping.{step_kept}
 use Rattle.model.specs.Model.{Sizes, Event, Office, made_in, at_member, event_of, member_at, sends_one, event_outcome, proposals, taken}
 use Rattle.model.specs.Counts.{made_tree, made_ghosts, decisions}
@@ -37,7 +38,7 @@ use Rattle.model.proofs.Tree.{tree_nothing, tree_proposal, tree_decision, ghosts
 use Rattle.play_store.specs.Rows.{store_rows, stored, put_row}
 use Rattle.play_store.proofs.Stored.{put_stored}
 use Rattle.tree.specs.Promises.{stepped_table}
-use Rattle.play_effects.specs.declared.EventEffect.{EventEffect}
+use Rattle.play_effects.specs.Effects.{EventEffect}
 use Rattle.play_effects.specs.declared.Tally.{Tally}
 use Rattle.play_effects.specs.Memory.{Memory, in_memory}
 use Rattle.play_effects.specs.Effects.{counted, refused_event, accepted_event, no_room_to_send, no_room_to_propose, SendEffect, ProposalEffect, DecisionEffect}
@@ -55,17 +56,15 @@ pub by_answer : {t : Tally} {slot : Slot} {a b : StepAnswer} {M : Memory} (F : A
     AnswerIs F.before.z F.before.o F.e F.m b
 by_answer F q = subst (AnswerIs F.before.z F.before.o F.e F.m) q F.is
 
--- a step of the model as an answer, whose refusal has a number
+-- a step of the model as an answer
 pub answer_is : {z : Sizes} {o : Office} {e : Event} (m : MemberState) (a : StepAnswer) → ModelStep z o e (answer_outcome m a) →
-    numbered_answer a ≡ true → Kept (answer_outcome m a) → AnswerIs z o e m a
+    AnswerIs z o e m a
 unfolding AnswerIs
-answer_is m (Refused k) T n K =
-    let some = refused_some refl n in
-    record { number_is = refused_step T some; some = some; small = K.number_byte }
-answer_is m (Sent g) T n K = T
-answer_is m Done T n K = T
-answer_is m (Proposed g r x b) T n K = T
-answer_is m (Decided r x) T n K = T
+answer_is m (Refused r) T = record { number_is = refused_step T (refusal_not_ok r); some = refusal_not_ok r; small = refusal_byte r }
+answer_is m (Sent g) T = T
+answer_is m Done T = T
+answer_is m (Proposed g r x b) T = T
+answer_is m (Decided r x) T = T
 
 -- what a step sends is within its ranges
 pub step_keeps : {t : Tally} {store : List ℕ} (B : StepBefore t store) {e : Event} {u : Outcome} → ModelStep B.z B.o e u → Kept u
@@ -99,11 +98,10 @@ as_result {B = B} {e} {m} {M'} q A = subst (λ (v : EventEffect). StepAfter B e 
 
 -- the table that is lent for any event is one of the eight, and a tree
 module _ {t : Tally} (M : Memory) (B : StepBefore t M.store) (s : ℕ) (lent : B.tables (table_slot s) ≡ M.table) where
-  pub lent_sized : sized M.table ≡ true
-  lent_sized = subst (λ ws. sized ws ≡ true) lent (B.sizes.table_length (table_slot s) (table_below s))
-
-  pub lent_tree : Tree true M.table
-  lent_tree = subst (Tree true) lent (is_a_tree B (table_slot s) (table_below s))
+  pub lent_tree : TreeTable true M.table
+  lent_tree =
+      subst (TreeTable true) lent
+      (record { long = B.sizes.table_length (table_slot s) (table_below s); tree = is_a_tree B (table_slot s) (table_below s) })
 
 module _ {t : Tally} (M : Memory) (B : StepBefore t M.store) (e : Event) (lent : B.tables (table_slot e.slot) ≡ M.table) where
   -- the store as it was holds what was sent, if nothing is
@@ -218,9 +216,9 @@ module _ {t : Tally} (M : Memory) (B : StepBefore t M.store) (e : Event) (lent :
       ap (table (length ws')) (sym (tree_decision B.z B.o e (eight T.slot) r.0 x (named_by T)))))
 
   -- a refusal leaves all
-  pub refuses : (m : MemberState) {k : ℕ} → AnswerIs B.z B.o e m (Refused k) → StepAfter B e m (refused_event t k) M
+  pub refuses : (m : MemberState) (r : Refusal) → AnswerIs B.z B.o e m (Refused r) → StepAfter B e m (refused_event t (refusal_number r)) M
   unfolding AnswerIs
-  refuses m R = refused_after M B e lent m R
+  refuses m r R = refused_after M B e lent m R
 
   -- no row of the store is free
   fills : (m : MemberState) {u : Outcome} → ModelStep B.z B.o e u → u.number ≡ OK → sends_one u.sent ≡ true → store_rows M.store ≤ t.sent →

@@ -11,7 +11,10 @@ use Rattle.laws.specs.Tests.{tests, by_test, and_right}
 use Rattle.laws.specs.First.{first, passed}
 use Rattle.ids.specs.declared.Slot.{Slot}
 use Rattle.ids.specs.Ranges.{SLOTS, no_slot}
-use Rattle.numbers.specs.Numbers.{OK, NO_MEMBER_OR_MESSAGE, WRONG_SLOT}
+use Rattle.numbers.specs.declared.Refusal.{Refusal}
+use Rattle.numbers.specs.declared.Refusal.TheVariants.{NoMemberOrMessage, WrongSlot}
+use Rattle.numbers.specs.Numbers.{OK, NO_MEMBER_OR_MESSAGE, WRONG_SLOT, refusal_number}
+use Rattle.numbers.proofs.Refusals.{refusal_not_ok, refusal_byte}
 use Rattle.message.specs.declared.Body.{Body}
 use Rattle.message.specs.declared.Message.{Message}
 use Rattle.message.specs.Fields.{in_range}
@@ -51,23 +54,21 @@ module _ {t : Tally} {m : MemberState} {s : ℕ} {d : SlotEvent} {store : List �
   e = event_in s d
 
   -- a refusal before the member's step, as the code gives it
-  refused_before : (k : ℕ) → event_answer E.before.z E.before.o e ≡ k → (k ≡ OK → ⊥) → k < 256 → {r : MemberStep} → r ≡ missed_step m k → AnswerTo E r
+  refused_before : (k : Refusal) → event_answer E.before.z E.before.o e ≡ refusal_number k → {r : MemberStep} → r ≡ missed_step m k → AnswerTo E r
   unfolding AnswerIs
-  refused_before k q n b p = rw p (record { number_is = q; some = n; small = b })
+  refused_before k q p = rw p (record { number_is = q; some = refusal_not_ok k; small = refusal_byte k })
 
   -- 32 or 29, by the first row
-  pub front_refused : (first (event_row t s (at_member d)) ≡ OK → ⊥) → {n : ℕ} → n ≡ first (event_row t s (at_member d)) → {r : MemberStep} →
-      r ≡ missed_step m n → AnswerTo E r
+  pub front_refused : (k : Refusal) → refusal_number k ≡ first (event_row t s (at_member d)) → {r : MemberStep} → r ≡ missed_step m k → AnswerTo E r
   unfolding event_answer event_causes
-  front_refused h {n} q p =
+  front_refused k q =
       by_test (no_slot s)
-      (λ a. let k : n ≡ WRONG_SLOT = q ∙ rw a refl in
-      refused_before WRONG_SLOT (rw a refl) (λ x. omega arith) (omega arith) (p ∙ ap (missed_step m) k))
+      (λ a. let n : refusal_number k ≡ WRONG_SLOT = q ∙ rw a refl in refused_before k (rw a (sym n)))
       (λ a. by_test (leb t.n (at_member d))
-      (λ b. let k : n ≡ NO_MEMBER_OR_MESSAGE = q ∙ rw (a, b) refl in
+      (λ b. let n : refusal_number k ≡ NO_MEMBER_OR_MESSAGE = q ∙ rw (a, b) refl in
       let gone : leb E.before.z.n (at_member d) ≡ true = rw (← E.before.represents.size) b in
-      refused_before NO_MEMBER_OR_MESSAGE (rw (a, gone) refl) (λ x. omega arith) (omega arith) (p ∙ ap (missed_step m) k))
-      (λ b. absurd (h (rw (a, b) refl))))
+      refused_before k (rw (a, gone) (sym n)))
+      (λ b. absurd (refusal_not_ok k (q ∙ rw (a, b) refl))))
 
   module _ (F : FrontPassed t s (at_member d)) where
     within : at_member d < E.before.z.n
@@ -99,7 +100,7 @@ module _ {t : Tally} {m : MemberState} {s : ℕ} {d : SlotEvent} {store : List �
               P.equals ∙ ap (λ k. sound_step k v) record_held ∙ ap (sound_step (member_at z o s (at_member d))) q ∙
               sym (step_is_sound z o e (seen_ranged E.before.sound s) model_sound u f);
         } in
-        answer_is r.state r.answer T P.numbered P.kept
+        answer_is r.state r.answer T
 
 pub step_start : {t : Tally} {m : MemberState} {s k r x : ℕ} {store : List ℕ} {a : MemberStep} (E : EventBefore t m (event_in s (start k r x)) store) →
     FrontPassed t s k → StepOf m (starts (round_number r) x) a → AnswerTo E a
@@ -113,12 +114,11 @@ module _ {t : Tally} {m : MemberState} {s row k : ℕ} {store : List ℕ} (E : E
   a_slot = le-ltb 7 s (omega (arith, F.slot))
 
   -- 29: no such message
-  pub no_message : t.sent ≤ row → {r : MemberStep} → r ≡ missed_step m NO_MEMBER_OR_MESSAGE → AnswerTo E r
+  pub no_message : t.sent ≤ row → {r : MemberStep} → r ≡ missed_step m NoMemberOrMessage → AnswerTo E r
   unfolding event_answer event_causes
   no_message h =
-      refused_before E NO_MEMBER_OR_MESSAGE
+      refused_before E NoMemberOrMessage
       (rw (a_slot, member_there, le-leb (length E.before.o.sent) row (omega (arith, E.before.represents.shared.sent_count))) refl)
-      (λ x. omega arith) (omega arith)
 
   module _ (h : row < t.sent) where
     pub row_within : HasRow store row
@@ -137,12 +137,12 @@ module _ {t : Tally} {m : MemberState} {s row k : ℕ} {store : List ℕ} (E : E
         fetch_stored store E.before.o.sent row _ E.before.represents.shared.messages was_sent K.ranged K.readable
 
     -- 32: it is of another slot
-    pub other_slot_row : {i : Slot} → i ≡ (fetched store row).slot → (i.0 ≡ s → ⊥) → {r : MemberStep} → r ≡ missed_step m WRONG_SLOT → AnswerTo E r
+    pub other_slot_row : {i : Slot} → i ≡ (fetched store row).slot → (i.0 ≡ s → ⊥) → {r : MemberStep} → r ≡ missed_step m WrongSlot → AnswerTo E r
     unfolding event_answer event_causes
     other_slot_row {i} q n =
         let other : eqb (message_at E.before.o row).slot.0 s ≡ false =
         ne_eqb _ s (λ p. n (ap (λ (x : Slot). x.0) (q ∙ ap (λ (x : Message). x.slot) row_reads) ∙ p)) in
-        refused_before E WRONG_SLOT (rw (a_slot, member_there, there, other) refl) (λ x. omega arith) (omega arith)
+        refused_before E WrongSlot (rw (a_slot, member_there, there, other) refl)
 
     -- else it is of the member's own
     not_foreign : {i : Slot} → i ≡ (fetched store row).slot → i.0 ≡ s → foreign E.before.o s (deliver row k) ≡ false

@@ -3,7 +3,8 @@ use Rattle.std.specs.Prelude.{◌≡◌, true, false, cond, ◌&&◌, not, List,
 use Rattle.laws.specs.First.{Cause, ◌gives◌}
 use Rattle.ids.specs.declared.Slot.{Slot}
 use Rattle.ids.specs.Ranges.{SLOTS, no_slot}
-use Rattle.numbers.specs.Numbers.{OK, NO_MEMBER_OR_MESSAGE, WRONG_SLOT}
+use Rattle.numbers.specs.declared.Refusal.{Refusal}
+use Rattle.numbers.specs.Numbers.{OK, NO_MEMBER_OR_MESSAGE, WRONG_SLOT, refusal_number}
 use Rattle.tree_theory.specs.Table.{rows, sized, table}
 use Rattle.message.specs.declared.Message.{Message}
 use Rattle.member_record.specs.declared.MemberState.{MemberState}
@@ -17,7 +18,7 @@ use Rattle.model.specs.Model.{Sizes, Event, Office, member_number, made_in, memb
 use Rattle.model.specs.Counts.{made_tree, made_ghosts, decisions, over_slots}
 use Rattle.model.specs.Sound.{SoundOffice}
 use Rattle.play_store.specs.Rows.{store_rows, store_sized, stored}
-use Rattle.play_effects.specs.declared.EventEffect.{EventEffect}
+use Rattle.play_effects.specs.Effects.{EventEffect}
 use Rattle.play_effects.specs.declared.Tally.{Tally}
 use Rattle.play_effects.specs.Memory.{Memory}
 use Rattle.play_office.specs.declared.HeldLead.{HeldLead}
@@ -160,15 +161,15 @@ pub record RefusedWith (z : Sizes) (o : Office) (e : Event) (k : ℕ) : Type 0 w
 
 -- what an answer to the event e says of the model: its refusal, or a step of its member to the record m
 unfoldable pub AnswerIs : Sizes → Office → Event → MemberState → StepAnswer → Type 0
-AnswerIs z o e m (Refused k) = RefusedWith z o e k
+AnswerIs z o e m (Refused r) = RefusedWith z o e (refusal_number r)
 AnswerIs z o e m (Sent b) = ModelStep z o e (answer_outcome m (Sent b))
 AnswerIs z o e m Done = ModelStep z o e (answer_outcome m Done)
 AnswerIs z o e m (Proposed b r x p) = ModelStep z o e (answer_outcome m (Proposed b r x p))
 AnswerIs z o e m (Decided r x) = ModelStep z o e (answer_outcome m (Decided r x))
 
 -- refused before the member's step: the record stays
-abbrev pub missed_step : MemberState → ℕ → MemberStep
-missed_step m k = record { state = m; answer = Refused k; lasting = false }
+abbrev pub missed_step : MemberState → Refusal → MemberStep
+missed_step m r = record { state = m; answer = Refused r; lasting = false }
 
 -- in front of the member's step, of any event: 32 its slot is above 7; 29 its member is N or above
 abbrev pub event_row : Tally → ℕ → ℕ → List Cause

@@ -2,6 +2,7 @@
 // office has sent, and writes nothing.
 ghost use Rattle.std.specs.Prelude.{◌≡◌};
 ghost use Rattle.laws.specs.First.{first};
+ghost use Rattle.numbers.specs.Numbers.{number_of};
 ghost use Rattle.model.specs.Model.{start, deliver, at_member};
 ghost use Rattle.play_events.specs.Value.{slot_event, model_event};
 ghost use Rattle.play_office.specs.Represents.{StartDue, StartTaken, EventBefore, StepTaken, missed_step, event_row};
@@ -11,17 +12,18 @@ use crate::{HeldLead, HeldRounds};
 use ids::{Member, Round, Slot, no_slot};
 use member::{MemberStep, StepAnswer};
 use member_record::{Durable, Lead, MemberState, Who};
+use numbers::Refusal;
 use play_effects::Tally;
 use play_events::PlayEvent;
 
-// The place of the record of a member of a slot.
+// The place of the record of a member of a slot; the first where there is none, as `place_of` has it, so that every event takes one path.
 fn place_of(slot: Slot, member: Member) -> usize
     ensures { result ≡ place_of slot.0 member.0 }
 {
     if no_slot(slot) {
         return 0;
     }
-    if member.0 < 7 {
+    if member < Member(7) {
         return 7 * (slot.0 as usize) + member.0 as usize;
     }
     0
@@ -32,12 +34,7 @@ fn member_of(e: PlayEvent) -> Member
     ensures { result.0 ≡ at_member (slot_event e) }
 {
     match e {
-        PlayEvent::Start {
-            member,
-            round: _,
-            offer: _,
-        } => member,
-        PlayEvent::Deliver { message: _, member } => member,
+        PlayEvent::Start { member, .. } | PlayEvent::Deliver { member, .. } => member,
     }
 }
 
@@ -71,21 +68,16 @@ pub fn record_of(
 {
     let me = member_of(e);
     let who = Who { slot, me, n };
-    let joined = rounds.joined;
-    let voted = rounds.voted;
-    let led = rounds.led;
     let durable = Durable {
-        joined,
-        voted,
+        joined: rounds.joined,
+        voted: rounds.voted,
         vote: rounds.vote,
-        led,
+        led: rounds.led,
     };
     let flags = leading.flags;
-    let source = rounds.source;
-    let phase = leading.phase as u32;
     let lead = Lead {
-        phase,
-        source,
+        phase: leading.phase as u32,
+        source: rounds.source,
         value: leading.value,
         flags,
     };
@@ -93,29 +85,29 @@ pub fn record_of(
 }
 
 // Refused before the member's step: the record stays.
-fn missed(m: MemberState, number: u32) -> MemberStep
-    ensures { result ≡ missed_step m number }
+fn missed(m: MemberState, refusal: Refusal) -> MemberStep
+    ensures { result ≡ missed_step m refusal }
 {
     MemberStep {
         state: m,
-        answer: StepAnswer::Refused(number),
+        answer: StepAnswer::Refused(refusal),
         lasting: false,
     }
 }
 
-// 32 for a slot above 7, then 29 for a member that is N or above, else 0.
-fn event_number(tally: Tally, slot: Slot, member: Member) -> u32
-    ensures { result ≡ first (event_row tally slot.0 member.0) }
+// 32 for a slot above 7, then 29 for a member that is N or above.
+fn check_event(tally: Tally, slot: Slot, member: Member) -> Result<(), Refusal>
+    ensures { number_of result ≡ first (event_row tally slot.0 member.0) }
 {
     let wrong_slot = no_slot(slot);
     let no_member = tally.n <= member.0;
     if wrong_slot {
-        return numbers::WRONG_SLOT;
+        return Err(Refusal::WrongSlot);
     }
     if no_member {
-        return numbers::NO_MEMBER_OR_MESSAGE;
+        return Err(Refusal::NoMemberOrMessage);
     }
-    numbers::OK
+    Ok(())
 }
 
 // A start: 32 and 29, or the member's step.
@@ -130,9 +122,8 @@ fn step_start(
     requires { StartDue tally m (record { slot = slot.0; event = start member.0 round.0 offer }) }
     ensures { StartTaken tally m (record { slot = slot.0; event = start member.0 round.0 offer }) result }
 {
-    let number = event_number(tally, slot, member);
-    if number != numbers::OK {
-        return missed(m, number);
+    if let Err(refusal) = check_event(tally, slot, member) {
+        return missed(m, refusal);
     }
     member::start_sound(m, round, offer)
 }
@@ -149,17 +140,16 @@ fn step_deliver(
     requires { EventBefore tally m (record { slot = slot.0; event = deliver message member.0 }) messages.now }
     ensures { StepTaken tally m (record { slot = slot.0; event = deliver message member.0 }) messages.now result }
 {
-    let number = event_number(tally, slot, member);
-    if number != numbers::OK {
-        return missed(m, number);
+    if let Err(refusal) = check_event(tally, slot, member) {
+        return missed(m, refusal);
     }
     let row = message as usize;
     if tally.sent <= row {
-        return missed(m, numbers::NO_MEMBER_OR_MESSAGE);
+        return missed(m, Refusal::NoMemberOrMessage);
     }
     let sent_in = play_store::fetch_slot(messages, row);
-    if sent_in.0 != slot.0 {
-        return missed(m, numbers::WRONG_SLOT);
+    if sent_in != slot {
+        return missed(m, Refusal::WrongSlot);
     }
     let body = play_store::fetch_body(messages, row);
     member::deliver_sound(m, body)

@@ -5,6 +5,7 @@ pub mod event;
 
 ghost use Rattle.std.specs.Prelude.{◌≡◌};
 ghost use Rattle.message.specs.Layout.{in_slot};
+ghost use Rattle.play_effects.specs.Effects.{effect_of};
 ghost use Rattle.play_effects.specs.Memory.{in_memory};
 ghost use Rattle.play_office.specs.Represents.{AnswerBefore, AnswerSettled, rounds_of, lead_of, no_record, fresh_tally};
 
@@ -12,10 +13,11 @@ use ids::{Member, Round, SLOTS, Slot};
 use member::StepAnswer;
 use member_record::{MemberState, fresh_record};
 use message::{Body, Message};
-use play_effects::{EventEffect, Tally, decide, propose, refused_event, send};
+use numbers::Refusal;
+use play_effects::{Tally, decide, propose, send};
 
 // What play holds of a member's record is all but who it is, which each of its events says. It is held in two parts, neither with a gap between its
-// fields: those at first, zeros, are written at once, and no gap is copied. These are J, V and W, L and B.
+// fields: those at first, zeros, are written at once, and no gap is copied: one array of whole records is slower. These are J, V and W, L and B.
 #[derive(Clone, Copy)]
 pub struct HeldRounds {
     pub joined: Round,
@@ -40,18 +42,12 @@ pub const RECORDS: usize = 7 * SLOTS;
 pub fn rounds_of(m: MemberState) -> HeldRounds
     ensures { result ≡ rounds_of m }
 {
-    let durable = m.durable;
-    let lead = m.lead;
-    let joined = durable.joined;
-    let voted = durable.voted;
-    let led = durable.led;
-    let source = lead.source;
     HeldRounds {
-        joined,
-        voted,
-        vote: durable.vote,
-        led,
-        source,
+        joined: m.durable.joined,
+        voted: m.durable.voted,
+        vote: m.durable.vote,
+        led: m.durable.led,
+        source: m.lead.source,
     }
 }
 
@@ -59,13 +55,11 @@ pub fn rounds_of(m: MemberState) -> HeldRounds
 pub fn lead_of(m: MemberState) -> HeldLead
     ensures { result ≡ lead_of m }
 {
-    let lead = m.lead;
-    let flags = lead.flags;
-    let phase = (lead.phase % 256) as u8;
+    let flags = m.lead.flags;
     HeldLead {
-        value: lead.value,
+        value: m.lead.value,
         flags,
-        phase,
+        phase: (m.lead.phase % 256) as u8,
     }
 }
 
@@ -102,24 +96,21 @@ fn in_slot(slot: Slot, body: Body) -> Message
     Message { slot, body }
 }
 
-// What the answer of a member's step comes to: its number, or what it sends in its slot and names.
+// What the answer of a member's step comes to: its refusal, or the tally after what it sends in its slot and names.
 pub fn settle(
     tally: Tally,
     slot: Slot,
     a: StepAnswer,
     messages: &mut [u8],
     nodes: &mut [u64],
-) -> EventEffect
+) -> Result<Tally, Refusal>
     requires { AnswerBefore tally slot a (in_memory messages.old nodes.old) }
-    ensures { AnswerSettled tally slot a (in_memory messages.old nodes.old) result
+    ensures { AnswerSettled tally slot a (in_memory messages.old nodes.old) (effect_of tally result)
         (in_memory messages.new nodes.new) }
 {
     match a {
-        StepAnswer::Refused(k) => refused_event(tally, k),
-        StepAnswer::Done => EventEffect {
-            tally,
-            number: numbers::OK,
-        },
+        StepAnswer::Refused(refusal) => Err(refusal),
+        StepAnswer::Done => Ok(tally),
         StepAnswer::Sent(b) => send(messages, tally, in_slot(slot, b)),
         StepAnswer::Proposed {
             sent,
@@ -130,6 +121,6 @@ pub fn settle(
             let g = in_slot(slot, sent);
             propose(messages, nodes, tally, g, round, value, parent)
         }
-        StepAnswer::Decided { round, value: _ } => decide(nodes, tally, round),
+        StepAnswer::Decided { round, .. } => Ok(decide(nodes, tally, round)),
     }
 }

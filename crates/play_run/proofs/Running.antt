@@ -47,7 +47,7 @@ use Rattle.play_store.specs.Rows.{store_rows, store_sized, stored, row_with, row
 use Rattle.play_store.proofs.Stored.{row_stored, fetch_stored}
 use Rattle.play_tables.specs.Tables.{length_at, start_of, table_at, with_table, TablesFit}
 use Rattle.play_tables.proofs.Parts.{fit_kept, lies_within, lent_table, given_back, table_long, table_sized, with_same, with_other, all_same, words_all}
-use Rattle.play_effects.specs.declared.EventEffect.{EventEffect}
+use Rattle.play_effects.specs.Effects.{EventEffect}
 use Rattle.play_effects.specs.declared.Tally.{Tally}
 use Rattle.play_effects.specs.Memory.{in_memory}
 use Rattle.play_effects.specs.Effects.{CountsFit}
@@ -302,9 +302,6 @@ module _ {list ls : List ℕ} {L₀ : Lent} {count : ℕ} {L : Lent} {rs : List 
       unfolding settle_before
       settled = P.settled settle_before.answer
 
-      pub answer_small : w.number < 256
-      answer_small = settled.small
-
       -- the slot's table is the one that was written, and any other is what it was
       tables_left : (u : ℕ) → u < SLOTS → tables_with (table_at ls L.words) (table_slot e.slot) P.left u ≡ table_at ls ws' u
       tables_left u l =
@@ -360,18 +357,26 @@ module _ {list ls : List ℕ} {L₀ : Lent} {count : ℕ} {L : Lent} {rs : List 
             few = omega (arith, G.few, one_most n);
           }
 
-      -- the same of what the turn read, and of the records and the count that its number left
+      -- what the turn's answer left: its number, the tally, and the records and the count that go by the number
+      pub record Turned (answer : ℕ) (t' : Tally) (rs' : List HeldRounds) (ps' : List HeldLead) (n : ℕ) : Type 0 where
+        pub answer_is : answer ≡ w.number
+        pub tally_is : t' ≡ w.tally
+        pub held :
+            ((w.number ≡ OK) × (rs' ≡ set rs i (rounds_of r.state)) × (ps' ≡ set ps i (lead_of r.state)) × (n ≡ accepted + 1)) ⊎
+            ((w.number ≡ OK → ⊥) × (rs' ≡ rs) × (ps' ≡ ps) × (n ≡ accepted))
+
+      -- the same of what the turn read
       pub running_next : k < count → {s : List ℕ} → s ≡ drop at list → {size : ℕ} → ReadsEvent s (record { slot = slot; event = v; size = size }) →
-          length store' ≡ length L.store → length ws' ≡ length L.words → {rs' : List HeldRounds} {ps' : List HeldLead} {n : ℕ} →
-          ((w.number ≡ OK) × (rs' ≡ set rs i (rounds_of r.state)) × (ps' ≡ set ps i (lead_of r.state)) × (n ≡ accepted + 1)) ⊎
-          ((w.number ≡ OK → ⊥) × (rs' ≡ rs) × (ps' ≡ ps) × (n ≡ accepted)) →
-          Running list ls L₀ count (as_lent store' ws' (set L.answers k w.number)) rs' ps' w.tally n (at + size) (k + 1)
-      running_next h es {size} R l₁ l₂ =
+          length store' ≡ length L.store → length ws' ≡ length L.words → {answer : ℕ} {t' : Tally} {rs' : List HeldRounds} {ps' : List HeldLead} {n : ℕ} →
+          Turned answer t' rs' ps' n →
+          Running list ls L₀ count (as_lent store' ws' (set L.answers k answer)) rs' ps' t' n (at + size) (k + 1)
+      running_next h es {size} R l₁ l₂ T =
           let size_is : size ≡ event_size (drop at list) = R.size_is ∙ ap event_size es in
           let next = event_settled h (R.event_is ∙ ap event_at es) l₁ l₂ in
           ⊎_elim
-          (λ c. rw (size_is, c.1, c.2, c.3) (rw (eq-eqb w.number OK c.0) at next))
-          (λ c. rw (size_is, c.1, c.2, c.3) (rw (ne_eqb w.number OK c.0, add-zero accepted) at next))
+          (λ c. rw (size_is, T.answer_is, T.tally_is, c.1, c.2, c.3) (rw (eq-eqb w.number OK c.0) at next))
+          (λ c. rw (size_is, T.answer_is, T.tally_is, c.1, c.2, c.3) (rw (ne_eqb w.number OK c.0, add-zero accepted) at next))
+          T.held
 
   pub counts_small : CountsFit t
   counts_small = counts_fit before

@@ -14,11 +14,11 @@ use Rattle.model.specs.Counts.{made_tree, made_ghosts, zeros, decisions, over_sl
 use Rattle.play_events.specs.List.{members_of, count_of, list_fits, events_of}
 use Rattle.play_store.specs.Rows.{store_rows, store_sized, stored, row_at, fetched}
 use Rattle.play_tables.specs.Tables.{length_at, table_at, all_tables, TablesFit}
-use Rattle.play_effects.specs.declared.EventEffect.{EventEffect}
+use Rattle.play_effects.specs.Effects.{EventEffect}
 use Rattle.play_effects.specs.declared.Tally.{Tally}
 use Rattle.play_effects.specs.Memory.{in_memory}
 use Rattle.play_office.specs.Represents.{AnswerBefore, AnswerSettled}
-use Rattle.play_run.specs.declared.PlayAnswer.{PlayAnswer}
+use Rattle.play_run.specs.Answer.{PlayAnswer}
 use Rattle.play_run.specs.Lent.{Lent}
 
 -- what the model is fed: four words are a row

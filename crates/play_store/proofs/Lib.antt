@@ -1,3 +1,3 @@
 -- Theorems about the message store.
-mod Parts
+pub mod Parts
 pub mod Stored

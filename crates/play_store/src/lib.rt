@@ -1,9 +1,9 @@
 // The message store of play (01, "Play"; 02, ticket 6): lent bytes in rows that have room for any message; message k stands at the front of row k, zeros after.
 #![tactic(auto)]
 
-ghost use Rattle.std.specs.Prelude.{◌≡◌, true, length, replicate};
+ghost use Rattle.std.specs.Prelude.{◌≡◌, ◌≤◌, true, length, replicate};
 ghost use Rattle.message.specs.Fields.{message_in_range};
-ghost use Rattle.play_store.specs.Rows.{store_sized, HasRow, put_row, fetched};
+ghost use Rattle.play_store.specs.Rows.{store_sized, HasRow, row_length, row_at, put_row, fetched};
 
 use ids::Slot;
 use message::{Body, LONGEST, Message};
@@ -20,24 +20,14 @@ pub fn has_store_length(s: &[u8]) -> bool
     ensures { result ≡ store_sized s.now }
 {
     let n = s.len();
-    if n % ROW_LENGTH != 0 {
-        return false;
-    }
-    if n < ROW_LENGTH {
-        return false;
-    }
-    n <= MOST_BYTES
+    n % ROW_LENGTH == 0 && ROW_LENGTH <= n && n <= MOST_BYTES
 }
 
 // Writes zero to every byte.
 pub fn clear(s: &mut [u8])
     ensures { s.new ≡ replicate (length s.old) 0 }
 {
-    let mut i = 0;
-    while i < s.len() {
-        s[i] = 0;
-        i += 1;
-    }
+    s.fill(0);
 }
 
 // Puts a message at the front of row k.
@@ -47,25 +37,34 @@ pub fn store_message(s: &mut [u8], k: usize, g: Message)
 {
     let start = ROW_LENGTH * k;
     let end = start + ROW_LENGTH;
-    message_writer::write_message(g, &mut s[start..end]);
+    let _ = message_writer::write_message(g, &mut s[start..end]);
+}
+
+// Row k.
+#[tactic(auto, using(crate::proofs::Parts::length_part))]
+fn row(s: &[u8], k: usize) -> &[u8]
+    requires { HasRow s.now k }
+    ensures row { result.now ≡ row_at s.now k }
+    ensures whole { row_length ≤ length result.now }
+{
+    let start = ROW_LENGTH * k;
+    &s[start..start + ROW_LENGTH]
 }
 
 // The slot of the message at the front of row k.
+#[tactic(auto, using(crate::proofs::Parts::fetched_slot))]
 pub fn fetch_slot(s: &[u8], k: usize) -> Slot
     requires { HasRow s.now k }
     ensures { result ≡ (fetched s.now k).slot }
 {
-    let front = ROW_LENGTH * k;
-    let behind = front + ROW_LENGTH;
-    message_reader::slot_front(&s[front..behind])
+    message_reader::slot_front(row(s, k))
 }
 
 // And what that message says.
+#[tactic(auto, using(crate::proofs::Parts::fetched_body))]
 pub fn fetch_body(s: &[u8], k: usize) -> Body
     requires { HasRow s.now k }
     ensures { result ≡ (fetched s.now k).body }
 {
-    let from = ROW_LENGTH * k;
-    let to = from + ROW_LENGTH;
-    message_reader::body_front(&s[from..to])
+    message_reader::body_front(row(s, k))
 }

@@ -1,5 +1,5 @@
 -- The tables of the eight slots, one after another in slot order in one slice of words, with a length for each (02, ticket 6).
-use Rattle.std.specs.Prelude.{◌≡◌, true, cond, not, List, [], ◌∷◌, ◌++◌, ℕ, zero, suc, ◌+◌, ◌<◌, length, get_or, take, drop, ltb, eqb}
+use Rattle.std.specs.Prelude.{◌≡◌, true, cond, not, Option, Some, None, List, [], ◌∷◌, ◌++◌, ℕ, zero, suc, ◌+◌, ◌<◌, length, get_or, take, drop, ltb, eqb}
 use Rattle.laws.specs.First.{Cause, ◌gives◌, first}
 use Rattle.ids.specs.Ranges.{SLOTS}
 use Rattle.numbers.specs.Numbers.{TABLE_LENGTH}
@@ -39,6 +39,10 @@ unsized_from ls (suc k) s = cond (sized_length (length_at ls s)) (unsized_from l
 -- the first slot, in slot order, whose length is no table's; 8 where each is
 abbrev pub first_unsized : List ℕ → ℕ
 first_unsized ls = unsized_from ls SLOTS 0
+
+-- a slot that a search gave; none where it gave the number of slots
+abbrev pub slot_told : ℕ → Option ℕ
+slot_told s = cond (ltb s SLOTS) (Some s) None
 
 -- every length is a table's
 abbrev pub AllSized : List ℕ → Type 0

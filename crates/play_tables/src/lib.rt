@@ -3,25 +3,26 @@
 
 ghost use Rattle.std.specs.Prelude.{◌≡◌, ◌<◌, replicate};
 ghost use Rattle.ids.specs.Ranges.{SLOTS};
+ghost use Rattle.numbers.specs.Numbers.{number_of};
 ghost use Rattle.tree_theory.specs.Table.{fresh_table};
-ghost use Rattle.play_tables.specs.Tables.{length_at, table_at, with_table, fresh_tables, first_unsized, tables_number};
+ghost use Rattle.play_tables.specs.Tables.{length_at, table_at, with_table, fresh_tables, first_unsized, slot_told, tables_number};
 ghost use Rattle.play_tables.specs.Tables.{AllSized, StartsAt, TablesFit};
 
-use tree_steps::fresh::{clear, write_root};
+use ids::SLOTS;
+use numbers::Refusal;
+use tree_steps::fresh::write_root;
 
-// The first slot, in slot order, whose length is no table's; 8 where each is.
+// The first slot, in slot order, whose length is no table's, if there is one.
 #[tactic(auto, using(crate::proofs::Sizes::unsized_stop, crate::proofs::Sizes::unsized_go), unfolding(crate::specs::Tables::unsized_from))]
-pub fn first_unsized(lengths: &[usize; 8]) -> usize
-    ensures { result ≡ first_unsized lengths.now }
+pub fn first_unsized(lengths: &[usize; 8]) -> Option<usize>
+    ensures { result ≡ slot_told (first_unsized lengths.now) }
 {
-    let mut s: usize = 0;
-    while s < ids::SLOTS {
+    for s in 0..SLOTS {
         if !tree_check::is_table_length(lengths[s]) {
-            return s;
+            return Some(s);
         }
-        s += 1;
     }
-    s
+    None
 }
 
 // Where each table starts.
@@ -31,29 +32,27 @@ pub fn starts_of(lengths: &[usize; 8]) -> [usize; 8]
     ensures { StartsAt lengths.now result }
 {
     let mut starts = [0; 8];
-    let mut a: usize = 0;
-    let mut i: usize = 0;
-    while i < ids::SLOTS {
+    let mut a = 0;
+    for i in 0..SLOTS {
         starts[i] = a;
         a += lengths[i];
-        i += 1;
     }
     starts
 }
 
 // 1 where a length, taken in slot order, is no table's, or where all eight don't fill the slice.
 #[tactic(auto, using(crate::proofs::Sizes::all_sized, crate::proofs::Sizes::start_most, crate::proofs::Starts::last_end), unfolding(crate::specs::Tables::tables_number))]
-pub fn tables_number(lengths: &[usize; 8], nodes: &[u64]) -> u32
-    ensures { result ≡ tables_number lengths.now nodes.now }
+pub fn check_lengths(lengths: &[usize; 8], nodes: &[u64]) -> Result<(), Refusal>
+    ensures { number_of result ≡ tables_number lengths.now nodes.now }
 {
-    if first_unsized(lengths) < ids::SLOTS {
-        return numbers::TABLE_LENGTH;
+    if first_unsized(lengths).is_some() {
+        return Err(Refusal::TableLength);
     }
     let starts = starts_of(lengths);
     if starts[7] + lengths[7] != nodes.len() {
-        return numbers::TABLE_LENGTH;
+        return Err(Refusal::TableLength);
     }
-    numbers::OK
+    Ok(())
 }
 
 // Makes the table of one slot fresh, of words that are zeros there.
@@ -72,11 +71,9 @@ pub fn fresh_tables(nodes: &mut [u64], lengths: &[usize; 8])
     requires { TablesFit lengths.now nodes.old }
     ensures { nodes.new ≡ fresh_tables lengths.now nodes.old }
 {
-    clear(nodes);
+    nodes.fill(0);
     let starts = starts_of(lengths);
-    let mut slot: usize = 0;
-    while slot < ids::SLOTS {
+    for slot in 0..SLOTS {
         fresh_slot(nodes, lengths, &starts, slot);
-        slot += 1;
     }
 }

@@ -16,15 +16,7 @@ fn read_input(input: &mut impl Read, list: &mut [u8]) -> io::Result<usize>
     ensures read { IfOk result (λ count. count ≤ length list.new) }
     ensures kept { length list.new ≡ length list.old }
 {
-    let mut at = 0;
-    while at < list.len() {
-        let more = input.read(&mut list[at..])?;
-        if more == 0 {
-            return Ok(at);
-        }
-        at += more;
-    }
-    Ok(at)
+    input::read_full(input, list)
 }
 
 // One byte more than the longest list has, so that a longer input is refused.

@@ -64,18 +64,6 @@ in_line_64 first n h = in_line_long first n 20 (decimal_of_64_bits n h)
 pub in_line_8 : (first : Bool) (n : ℕ) → n < 256 → length (in_line first n) ≤ ROOM_FOR_ANSWER
 in_line_8 first n h = in_line_long first n 3 (decimal_of_8_bits n h)
 
--- lines of one number and of four, put one behind another
-pub line_of_one : (a : ℕ) → line (a ∷ []) ≡ in_line true a ++ LINE_FEED ∷ []
-unfolding line
-line_of_one a = rw (append-nil (decimal a)) refl
-
-five : (a b c d e : List ℕ) → (a ++ (b ++ (c ++ (d ++ [])))) ++ e ≡ a ++ b ++ c ++ d ++ e
-five a b c d e = simp (append-nil, append_assoc)
-
-pub line_of_four : (a b c d : ℕ) → line (a ∷ b ∷ c ∷ d ∷ []) ≡ in_line true a ++ in_line false b ++ in_line false c ++ in_line false d ++ LINE_FEED ∷ []
-unfolding line
-line_of_four a b c d = five (in_line true a) (in_line false b) (in_line false c) (in_line false d) (LINE_FEED ∷ [])
-
 -- text behind text, each within its bound
 pub within_none : (out : List ℕ) (at : ℕ) → PutWithin out at [] at out 0
 within_none out at = record { put = text_none out at; within = omega arith }
@@ -91,39 +79,20 @@ within_room j k P h = text_room k P.put (omega (arith, P.within))
 pub within_wider : {out u new : List ℕ} {at next : ℕ} (j k : ℕ) → PutWithin out at u next new j → j ≤ k → PutWithin out at u next new k
 within_wider j k P h = record { put = P.put; within = omega (arith, P.within) }
 
--- one number of 64 bits more
-pub room_for_next : {out u mid : List ℕ} {at to : ℕ} (j : ℕ) (first : Bool) (n : ℕ) → PutWithin out at u to mid j → at + j + ROOM_FOR_NUMBER ≤ length out →
-    n < BELOW_64_BITS → to + length (in_line first n) ≤ length mid
-room_for_next j first n P h fits = omega (arith, within_room j ROOM_FOR_NUMBER P h, in_line_64 first n fits)
+-- one number of a line more, where there is room for k characters
+pub number_more : {out mid new : List ℕ} {at to next : ℕ} (l : List ℕ) (i x j k m : ℕ) → PutWithin out at (spaced (take i l)) to mid j → i < length l → x ≡ get_or l i 0 →
+    length (in_line (eqb i 0) x) ≤ k → PutText mid to (in_line (eqb i 0) x) next new → at + j + k ≤ length out → j + k ≤ m →
+    PutWithin out at (spaced (take (i + 1) l)) next new m
+number_more l i x j k m P h e short Q room wide =
+    rw (spaced_more l i h) (within_wider (j + k) m (within_more j k P (rw e at Q) (rw e at short) room) wide)
 
--- the first number of a line of 64 bits put, and one more
-pub first_put : {out mid : List ℕ} {at to : ℕ} (n : ℕ) → at + ROOM_FOR_NUMBER ≤ length out → n < BELOW_64_BITS → PutText out at (in_line true n) to mid →
-    PutWithin out at (in_line true n) to mid ROOM_FOR_NUMBER
-first_put {out = out} {at = at} n h fits Q = within_more 0 ROOM_FOR_NUMBER (within_none out at) Q (in_line_64 true n fits) (omega arith)
-
-pub next_put : {out u mid new : List ℕ} {at to next : ℕ} (j n : ℕ) → PutWithin out at u to mid j → at + j + ROOM_FOR_NUMBER ≤ length out → n < BELOW_64_BITS →
-    PutText mid to (in_line false n) next new → PutWithin out at (u ++ in_line false n) next new (j + ROOM_FOR_NUMBER)
-next_put j n P h fits Q = within_more j ROOM_FOR_NUMBER P Q (in_line_64 false n fits) h
-
--- one answer more
-module _ {out mid new : List ℕ} {at to next : ℕ} (answered : List ℕ) (i : ℕ) (room : at + ROOM_FOR_ANSWER * length answered < length out)
-    (P : PutWithin out at (spaced (take i answered)) to mid (ROOM_FOR_ANSWER * i)) where
-  pub answer_more : (x : ℕ) → i < length answered → x ≡ get_or answered i 0 → x < 256 → PutText mid to (in_line (eqb i 0) x) next new →
-      PutWithin out at (spaced (take (i + 1) answered)) next new (ROOM_FOR_ANSWER * (i + 1))
-  answer_more x h e small Q =
-      let one = rw e at Q in
-      let short = in_line_8 (eqb i 0) (get_or answered i 0) (omega arith) in
-      let both = within_more (ROOM_FOR_ANSWER * i) ROOM_FOR_ANSWER P one short (omega arith) in
-      record { put = rw (spaced_more answered i h) both.put; within = rw (spaced_more answered i h) (omega (arith, both.within)) }
-
-  -- and the line feed
-  pub answers_done : i ≡ length answered → PutText mid to (LINE_FEED ∷ []) next new →
-      PutWithin out at (line answered) next new (ROOM_FOR_ANSWER * length answered + 1)
-  unfolding line
-  answers_done e Q =
-      let all : take i answered ≡ answered = take_all i answered (omega arith) in
-      let both = within_more (ROOM_FOR_ANSWER * i) 1 P Q (omega arith) (omega arith) in
-      record { put = rw all at both.put; within = omega (arith, rw all at both.within) }
+-- and the line feed
+pub line_done : {out mid new : List ℕ} {at to next : ℕ} (l : List ℕ) (i j m : ℕ) → PutWithin out at (spaced (take i l)) to mid j → i ≡ length l →
+    PutText mid to (LINE_FEED ∷ []) next new → j ≤ m → at + m < length out → PutWithin out at (line l) next new (m + 1)
+unfolding line
+line_done l i j m P e Q wide room =
+    let all : take i l ≡ l = take_all i l (omega arith) in
+    within_more m 1 (within_wider j m (rw all at P) wide) Q (omega arith) (omega arith)
 
 -- one node more
 pub node_more : {out mid new : List ℕ} {at to next : ℕ} (ws : List ℕ) (i : ℕ) → PutWithin out at (node_lines (rows_of ws i)) to mid (ROOM_FOR_NODE * i) →

@@ -27,7 +27,7 @@ use Rattle.play_events.proofs.Events.{length_events}
 use Rattle.play_store.specs.Rows.{store_sized}
 use Rattle.play_tables.specs.Tables.{tables_number, TablesFit}
 use Rattle.play_tables.proofs.Sizes.{fit_number}
-use Rattle.play_run.specs.declared.PlayAnswer.{PlayAnswer}
+use Rattle.play_run.specs.Answer.{PlayAnswer}
 use Rattle.play_run.specs.Lent.{Lent, as_lent}
 use Rattle.play_run.specs.Ran.{sizes_of}
 use Rattle.play_run.proofs.Running.{list_parts}
@@ -49,11 +49,12 @@ output_some list =
     (λ t. rw (t, length-append (line answers) (slots_lines (made_tree z (ended z es)) SLOTS)) (omega (arith, line_some answers)))
     (λ t. rw t (line_some (rehearsal_number list ∷ [])))
 
-pub as_printed : {list old new : List ℕ} {n : ℕ} → PutText old 0 (rehearsal_output list) n new → Printed list old n new
-as_printed {list} {old} {new} {n} P =
+-- what the page holds at the end is what its buffer is left with
+pub as_printed : {list old held new : List ℕ} {n : ℕ} → PutText old 0 (rehearsal_output list) n held → new ≡ held → Printed list old n new
+as_printed {list} {old} {held} {new} {n} P left =
     let text = rehearsal_output list in
     let long : n ≡ length text = omega (arith, P.next_is) in
-    let front : new ≡ text ++ drop n old = P.bytes_are ∙ rw P.next_is refl in
+    let front : new ≡ text ++ drop n old = left ∙ P.bytes_are ∙ rw P.next_is refl in
     record { length_is = long; bytes_are = front; within = omega (arith, ap length front, length-append text (drop n old)) }
 
 module _ (list : List ℕ) {store words answers out : List ℕ} (R : RehearsalLent store words answers out) where

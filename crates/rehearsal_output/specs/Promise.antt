@@ -64,8 +64,8 @@ pub record SlotsFit (nodes : List ℕ) (at : ℕ) (out : List ℕ) : Type 0 wher
   pub room : at + ROOM_FOR_SLOTS ≤ length out
 
 -- answers and nodes for which there is room
-pub record TakenFits (count : ℕ) (answered nodes out : List ℕ) : Type 0 where
+pub record TakenFits (count : ℕ) (answered nodes : List ℕ) (at : ℕ) (out : List ℕ) : Type 0 where
   pub few : count ≤ MOST_EVENTS
   pub said : count ≤ length answered
   pub words : length nodes ≡ REHEARSAL_WORDS
-  pub room : ROOM_FOR_OUTPUT ≤ length out
+  pub room : at + ROOM_FOR_OUTPUT ≤ length out

@@ -3,6 +3,7 @@
 
 ghost use Rattle.std.specs.Prelude.{◌≡◌, [], ◌∷◌, ◌++◌, ◌+◌, ◌*◌, ◌≤◌, ◌<◌, length, take};
 ghost use Rattle.ids.specs.Ranges.{SLOTS};
+ghost use Rattle.numbers.specs.Numbers.{refusal_number};
 ghost use Rattle.decimal.specs.Text.{PutText};
 ghost use Rattle.tree_theory.specs.Table.{row, used};
 ghost use Rattle.tree_theory.specs.Table.{nodes as nodes-of};
@@ -10,7 +11,9 @@ ghost use Rattle.rehearsal_output.specs.Output.{LINE_FEED, in_line, line, node_l
 ghost use Rattle.rehearsal_output.specs.Promise.{ROOM_FOR_ANSWER, ROOM_FOR_NUMBER, ROOM_FOR_NODE, ROOM_FOR_SLOT, ROOM_FOR_SLOTS, PutWithin};
 ghost use Rattle.rehearsal_output.specs.Promise.{Printed, RehearsalLent, SlotFits, SlotsFit, TakenFits};
 
+use decimal::Page;
 use ids::SLOTS;
+use numbers::Refusal;
 use play_events::MOST_EVENTS;
 use play_store::ROW_LENGTH;
 
@@ -43,128 +46,118 @@ const ROOM_FOR_SLOT: usize = ROOM_FOR_NODE * TABLE_ROWS;
 // Room for any output: the answers, a line feed, the nodes of all slots.
 pub const ROOM_FOR_OUTPUT: usize = ROOM_FOR_ANSWER * MOST_EVENTS + 1 + ROOM_FOR_SLOT * SLOTS;
 
-// A byte, as a wider number.
-fn wide(b: u8) -> u64
-    ensures { (result ≡ b) × (result < 256) }
-{
-    b as u64
-}
-
 // A number of a line: the first, or behind a blank.
-fn put_in_line(out: &mut [u8], at: usize, n: u64, first: bool) -> usize
-    requires { at + length (in_line first n) ≤ length out.old }
-    ensures { PutText out.old at (in_line first n) result out.new }
+fn put_in_line(page: &mut Page, n: u64, first: bool)
+    requires { page.old.at + length (in_line first n) ≤ length page.old.out.now }
+    ensures text { PutText page.old.out.now page.old.at (in_line first n) page.new.at page.new.out.now }
+    ensures same_buffer { page.new.out.ghost_name ≡ page.old.out.ghost_name }
 {
-    if first {
-        return decimal::put_decimal(out, at, n);
+    if !first {
+        page.put_byte(decimal::BLANK);
     }
-    let from = decimal::put_byte(out, at, decimal::BLANK);
-    decimal::put_decimal(out, from, n)
+    page.put_decimal(n);
 }
 
-fn end_line(out: &mut [u8], at: usize) -> usize
-    requires { at < length out.old }
-    ensures { PutText out.old at (LINE_FEED ∷ []) result out.new }
+fn end_line(page: &mut Page)
+    requires { page.old.at < length page.old.out.now }
+    ensures text { PutText page.old.out.now page.old.at (LINE_FEED ∷ []) page.new.at page.new.out.now }
+    ensures same_buffer { page.new.out.ghost_name ≡ page.old.out.ghost_name }
 {
-    decimal::put_byte(out, at, LINE_FEED)
+    page.put_byte(LINE_FEED);
 }
 
 // The answers on a line; an empty line where there are none.
-fn put_answers(answered: &[u8], out: &mut [u8], at: usize) -> usize
-    requires { at + ROOM_FOR_ANSWER * length answered.now < length out.old }
-    ensures { PutWithin out.old at (line answered.now) result out.new
+fn put_answers(page: &mut Page, answered: &[u8])
+    requires { page.old.at + ROOM_FOR_ANSWER * length answered.now < length page.old.out.now }
+    ensures text { PutWithin page.old.out.now page.old.at (line answered.now) page.new.at page.new.out.now
         (ROOM_FOR_ANSWER * length answered.now + 1) }
+    ensures same_buffer { page.new.out.ghost_name ≡ page.old.out.ghost_name }
 {
-    let mut next = at;
-    let mut i = 0;
-    while i < answered.len() {
-        next = put_in_line(out, next, wide(answered[i]), i == 0);
-        i += 1;
+    for i in 0..answered.len() {
+        put_in_line(page, u64::from(answered[i]), i == 0);
     }
-    end_line(out, next)
+    end_line(page);
 }
 
-// Four numbers on a line.
-fn put_four(out: &mut [u8], at: usize, a: u64, b: u64, c: u64, d: u64) -> usize
-    requires { at + ROOM_FOR_NODE ≤ length out.old }
-    ensures { PutWithin out.old at (line (a ∷ b ∷ c ∷ d ∷ [])) result out.new ROOM_FOR_NODE }
+// Numbers on a line. Apart from the answers: one function for both needs a trait with a meaning and two impls, which is longer than this loop.
+fn put_line(page: &mut Page, numbers: &[u64])
+    requires { page.old.at + ROOM_FOR_NUMBER * length numbers.now < length page.old.out.now }
+    ensures text { PutWithin page.old.out.now page.old.at (line numbers.now) page.new.at page.new.out.now
+        (ROOM_FOR_NUMBER * length numbers.now + 1) }
+    ensures same_buffer { page.new.out.ghost_name ≡ page.old.out.ghost_name }
 {
-    let a_end = put_in_line(out, at, a, true);
-    let b_end = put_in_line(out, a_end, b, false);
-    let c_end = put_in_line(out, b_end, c, false);
-    let d_end = put_in_line(out, c_end, d, false);
-    end_line(out, d_end)
+    for i in 0..numbers.len() {
+        put_in_line(page, numbers[i], i == 0);
+    }
+    end_line(page);
 }
 
 // A node on a line.
-fn put_node(nodes: &[u64], i: usize, out: &mut [u8], at: usize) -> usize
-    requires { (4 * i + 4 ≤ length nodes.now) × (at + ROOM_FOR_NODE ≤ length out.old) }
-    ensures { PutWithin out.old at (node_line (row nodes.now i)) result out.new ROOM_FOR_NODE }
+fn put_node(page: &mut Page, nodes: &[u64], i: usize)
+    requires { (4 * i + 4 ≤ length nodes.now) × (page.old.at + ROOM_FOR_NODE ≤ length page.old.out.now) }
+    ensures text { PutWithin page.old.out.now page.old.at (node_line (row nodes.now i)) page.new.at page.new.out.now ROOM_FOR_NODE }
+    ensures same_buffer { page.new.out.ghost_name ≡ page.old.out.ghost_name }
 {
     let round = tree_table::round_at(nodes, i);
     let parent = tree_table::parent_at(nodes, i);
     let value = tree_table::value_at(nodes, i);
     let status = tree_table::status_at(nodes, i);
-    put_four(out, at, round, parent, value, status)
+    put_line(page, &[round, parent, value, status]);
 }
 
 // A line for each node.
-fn put_nodes(nodes: &[u64], out: &mut [u8], at: usize) -> usize
-    requires { at + ROOM_FOR_NODE * used nodes.now ≤ length out.old }
-    ensures { PutWithin out.old at (node_lines (nodes-of nodes.now)) result out.new
+fn put_nodes(page: &mut Page, nodes: &[u64])
+    requires { page.old.at + ROOM_FOR_NODE * used nodes.now ≤ length page.old.out.now }
+    ensures text { PutWithin page.old.out.now page.old.at (node_lines (nodes-of nodes.now)) page.new.at page.new.out.now
         (ROOM_FOR_NODE * used nodes.now) }
+    ensures same_buffer { page.new.out.ghost_name ≡ page.old.out.ghost_name }
 {
-    let n = tree_table::used_rows(nodes);
-    let mut next = at;
-    let mut i = 0;
-    while i < n {
-        next = put_node(nodes, i, out, next);
-        i += 1;
+    for i in 0..tree_table::used_rows(nodes) {
+        put_node(page, nodes, i);
     }
-    next
 }
 
 // The nodes of slot s, from the tables of all slots.
-fn put_slot(nodes: &[u64], s: usize, out: &mut [u8], at: usize) -> usize
-    requires { SlotFits nodes.now s at out.old }
-    ensures { PutWithin out.old at (node_lines (slot_nodes nodes.now s)) result out.new ROOM_FOR_SLOT }
+fn put_slot(page: &mut Page, nodes: &[u64], s: usize)
+    requires { SlotFits nodes.now s page.old.at page.old.out.now }
+    ensures text { PutWithin page.old.out.now page.old.at (node_lines (slot_nodes nodes.now s)) page.new.at page.new.out.now ROOM_FOR_SLOT }
+    ensures same_buffer { page.new.out.ghost_name ≡ page.old.out.ghost_name }
 {
     let from = TABLE_WORDS * s;
     let to = from + TABLE_WORDS;
-    put_nodes(&nodes[from..to], out, at)
+    put_nodes(page, &nodes[from..to]);
 }
 
 // The nodes of all slots, slot after slot.
-fn put_slots(nodes: &[u64], out: &mut [u8], at: usize) -> usize
-    requires { SlotsFit nodes.now at out.old }
-    ensures { PutWithin out.old at (slots_lines (slot_nodes nodes.now) SLOTS) result out.new ROOM_FOR_SLOTS }
+fn put_slots(page: &mut Page, nodes: &[u64])
+    requires { SlotsFit nodes.now page.old.at page.old.out.now }
+    ensures text { PutWithin page.old.out.now page.old.at (slots_lines (slot_nodes nodes.now) SLOTS) page.new.at page.new.out.now ROOM_FOR_SLOTS }
+    ensures same_buffer { page.new.out.ghost_name ≡ page.old.out.ghost_name }
 {
-    let mut next = at;
-    let mut s: usize = 0;
-    while s < SLOTS {
-        next = put_slot(nodes, s, out, next);
-        s += 1;
+    for s in 0..SLOTS {
+        put_slot(page, nodes, s);
     }
-    next
 }
 
 // A line with only a number.
-fn put_refusal(out: &mut [u8], number: u32) -> usize
-    requires { ROOM_FOR_NUMBER < length out.old }
-    ensures { PutText out.old 0 (line (number ∷ [])) result out.new }
+fn put_refusal(page: &mut Page, refusal: Refusal)
+    requires { page.old.at + ROOM_FOR_NUMBER < length page.old.out.now }
+    ensures text { PutText page.old.out.now page.old.at (line (refusal_number refusal ∷ [])) page.new.at page.new.out.now }
+    ensures same_buffer { page.new.out.ghost_name ≡ page.old.out.ghost_name }
 {
-    let end = put_in_line(out, 0, number as u64, true);
-    end_line(out, end)
+    let number = u64::from(u32::from(refusal));
+    put_line(page, &[number]);
 }
 
 // The answers, then the nodes of all slots.
-fn put_taken(count: usize, answered: &[u8], nodes: &[u64], out: &mut [u8]) -> usize
-    requires { TakenFits count answered.now nodes.now out.old }
-    ensures { PutText out.old 0
-        (line (take count answered.now) ++ slots_lines (slot_nodes nodes.now) SLOTS) result out.new }
+fn put_taken(page: &mut Page, count: usize, answered: &[u8], nodes: &[u64])
+    requires { TakenFits count answered.now nodes.now page.old.at page.old.out.now }
+    ensures text { PutText page.old.out.now page.old.at
+        (line (take count answered.now) ++ slots_lines (slot_nodes nodes.now) SLOTS) page.new.at page.new.out.now }
+    ensures same_buffer { page.new.out.ghost_name ≡ page.old.out.ghost_name }
 {
-    let next = put_answers(&answered[0..count], out, 0);
-    put_slots(nodes, out, next)
+    put_answers(page, &answered[0..count]);
+    put_slots(page, nodes);
 }
 
 // Plays the list in what is lent, and puts what is printed of it.
@@ -179,12 +172,14 @@ fn put_played(
     ensures { Printed list.now out.old result out.new }
 {
     let lengths = [TABLE_WORDS; SLOTS];
-    let a = play::play(list, messages, nodes, &lengths, answered);
-    if a.number != numbers::OK {
-        return put_refusal(out, a.number);
+    let mut page = Page { out, at: 0 };
+    if let Err(refusal) = play::play(list, messages, nodes, &lengths, answered) {
+        put_refusal(&mut page, refusal);
+        return page.at;
     }
     let count = play_events::read_head(list).count as usize;
-    put_taken(count, answered, nodes, out)
+    put_taken(&mut page, count, answered, nodes);
+    page.at
 }
 
 // Plays the list with 64 table rows for each slot and 1,000 store rows: puts what is printed at the front of `out`, and answers its length.

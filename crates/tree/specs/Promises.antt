@@ -1,10 +1,15 @@
 -- What the calls of a tree of either kind promise: an equation for the number, for each count and for each lent slice.
-use Rattle.std.specs.Prelude.{◌≡◌, Bool, List, ℕ, length}
+use Rattle.std.specs.Prelude.{◌≡◌, Bool, Result, List, ℕ, length}
+use Rattle.std.specs.Result.{result_unwrap_or}
+use Rattle.numbers.specs.declared.Refusal.{Refusal}
 use Rattle.tree_theory.specs.Machine.{Call, answer, step}
 use Rattle.tree_theory.specs.Table.{rows, nodes, table, Tree, call_number, call_table, path_number, path_count, path_slice}
 use Rattle.tree_theory.specs.Ghosts.{stepped_ghosts, table_ghosts}
 use Rattle.tree_theory.specs.Preview.{preview_number, preview_ghosts, preview_table}
-use Rattle.tree.specs.declared.CallAnswer.{CallAnswer}
+
+-- how many an answer counts: rounds made GHOST, or rounds of a path; a refusal none
+abbrev pub counted_of : Result ℕ Refusal → ℕ
+counted_of answer = result_unwrap_or answer 0
 
 -- add or commit of any table: the number, and the table left
 pub record CalledOnTable (valued : Bool) (ws : List ℕ) (c : Call) (number : ℕ) (ws' : List ℕ) : Type 0 where
@@ -37,10 +42,6 @@ pub record Previewed (valued : Bool) (ws us : List ℕ) (c : Call) (number ghost
   pub ghosts_are : ghosts ≡ preview_ghosts valued ws us c
   pub first_is : ws' ≡ ws
   pub second_is : us' ≡ preview_table valued ws us c
-
--- with a refusal no round is counted
-abbrev pub refused_answer : ℕ → CallAnswer
-refused_answer number = record { number = number; ghosts = 0 }
 
 -- path of any table: the number, how many rounds, and the slice lent for them
 pub record PathGiven (valued : Bool) (ws : List ℕ) (r : ℕ) (out : List ℕ) (number count : ℕ) (out' : List ℕ) : Type 0 where

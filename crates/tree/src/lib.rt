@@ -1,264 +1,150 @@
-// The quorum tree in lent memory (01, "The tree"): fresh, add, preview, commit and path over a slice of 64-bit words, four a row. `valued` says which
-// kind of tree it is: true for a value tree, 01's, whose values are compared; false for a command tree (02, ticket 1), whose aren't.
+// The quorum tree in lent memory (01, "The tree"): fresh, add, preview, commit and path over a slice of 64-bit words, four a row. VALUED says which
+// kind of tree it is: true for a value tree, 01's, whose values are compared; false for a command tree (02, ticket 1), whose aren't. Below these calls it
+// is a parameter, `valued`, so that the code of a step is there once.
 #![tactic(auto)]
 
-ghost use Rattle.std.specs.Prelude.{◌≡◌, true, false};
-ghost use Rattle.numbers.specs.Numbers.{OK};
+ghost use Rattle.std.specs.Prelude.{◌≡◌, true};
+ghost use Rattle.numbers.specs.Numbers.{number_of};
 ghost use Rattle.tree_theory.specs.Machine.{add, commit};
-ghost use Rattle.tree_theory.specs.Table.{sized, Tree, fresh_number, fresh_table};
-ghost use Rattle.tree_steps.specs.Planned.{call_of};
-ghost use Rattle.tree.specs.Promises.{CalledOnTable, CalledOnTree, CountedOnTable, CountedOnTree, Previewed, PathGiven, refused_answer};
-ghost use Rattle.tree.specs.Carried.{CanWrite, CanShow, planned_answer, planned_table, rows_copied};
+ghost use Rattle.tree_theory.specs.Table.{TreeTable, fresh_number, fresh_table};
+ghost use Rattle.tree_steps.specs.Planned.{call_of, call_written};
+ghost use Rattle.tree.specs.Promises.{CalledOnTable, CalledOnTree, CountedOnTable, CountedOnTree, Previewed, PathGiven, counted_of};
+ghost use Rattle.tree.specs.Carried.{CanWrite, CanShow};
 
 use ids::Round;
+use numbers::Refusal;
 use tree_steps::call::{Plan, TreeCall};
 
-// The number of an add, a preview or a commit, and how many rounds it made GHOST, or a preview's add would (02, ticket 3): those that were ADDED
-// before it. 0 with a refusal; a commit makes none.
-#[derive(Clone, Copy)]
-pub struct CallAnswer {
-    pub number: u32,
-    pub ghosts: u32,
-}
-
-// How many rounds were written; 0 with a refusal.
-#[derive(Clone, Copy)]
-pub struct PathAnswer {
-    pub number: u32,
-    pub count: usize,
-}
-
 // Makes the table fresh, for either kind of tree: the root 0, 0, 0, 3 and zeros all else. It checks the length only.
-pub fn fresh(t: &mut [u64]) -> u32
-    ensures number { result ≡ fresh_number t.old }
+pub fn fresh(t: &mut [u64]) -> Result<(), Refusal>
+    ensures number { number_of result ≡ fresh_number t.old }
     ensures left { t.new ≡ fresh_table t.old }
 {
     if !tree_check::has_table_length(t) {
-        return numbers::TABLE_LENGTH;
+        return Err(Refusal::TableLength);
     }
     tree_steps::fresh::write_fresh(t);
-    numbers::OK
+    Ok(())
 }
 
-// A refusal's number alone.
-fn refused_answer(number: u32) -> CallAnswer
-    ensures { result ≡ refused_answer number }
+// Carries out an accepted call's plan, and answers how many rounds that made GHOST.
+fn carry_out(t: &mut [u64], call: TreeCall, plan: Plan) -> u32
+    requires { CanWrite t.old (call_of call) plan }
+    ensures ghosts { result ≡ plan.strikes }
+    ensures left { t.new ≡ call_written t.old (call_of call) plan.row plan.status }
 {
-    CallAnswer { number, ghosts: 0 }
+    tree_steps::call::write_call(t, call, plan);
+    plan.strikes as u32
 }
 
-// Carries out a plan. One for a refused call writes nothing and counts none.
-fn carry_out(t: &mut [u64], call: TreeCall, plan: Plan) -> CallAnswer
-    requires { plan.number ≡ OK → CanWrite t.old (call_of call) plan.row plan.strikes }
-    ensures answer { result ≡ planned_answer plan.number plan.strikes }
-    ensures left { t.new ≡ planned_table t.old (call_of call) plan.number plan.row plan.status }
+// add or commit on a tree: how many rounds it made GHOST (02, ticket 3), those that were ADDED before it. A commit makes none.
+fn call_on_tree(valued: bool, t: &mut [u64], call: TreeCall) -> Result<u32, Refusal>
+    requires { TreeTable valued t.old }
+    ensures { CountedOnTree valued t.old (call_of call) (number_of result) (counted_of result) t.new }
 {
-    if plan.number != numbers::OK {
-        return refused_answer(plan.number);
-    }
-    tree_steps::call::write_call(t, call, plan.row, plan.status, plan.strikes);
-    let ghosts = plan.strikes as u32;
-    CallAnswer {
-        number: numbers::OK,
-        ghosts,
-    }
-}
-
-// add or commit on a tree.
-fn call_on_tree(valued: bool, t: &mut [u64], call: TreeCall) -> CallAnswer
-    requires { (sized t.old ≡ true) × Tree valued t.old }
-    ensures { CountedOnTree valued t.old (call_of call) result.number result.ghosts t.new }
-{
-    let plan = tree_steps::call::plan_call(valued, t, call);
-    carry_out(t, call, plan)
+    let plan = tree_steps::call::plan_call(valued, t, call)?;
+    Ok(carry_out(t, call, plan))
 }
 
 // add or commit on any table.
-fn call_on_table(valued: bool, t: &mut [u64], call: TreeCall) -> CallAnswer
-    ensures { CountedOnTable valued t.old (call_of call) result.number result.ghosts t.new }
+fn call_on_table(valued: bool, t: &mut [u64], call: TreeCall) -> Result<u32, Refusal>
+    ensures { CountedOnTable valued t.old (call_of call) (number_of result) (counted_of result) t.new }
 {
-    let number = tree_check::table_number(valued, t);
-    if number != numbers::OK {
-        return refused_answer(number);
-    }
+    tree_check::check_table(valued, t)?;
     call_on_tree(valued, t, call)
 }
 
-// add on any table.
-pub fn add_on_table(valued: bool, t: &mut [u64], r: Round, v: u64, p: Round) -> CallAnswer
-    ensures { CountedOnTable valued t.old (add r.0 v p.0) result.number result.ghosts t.new }
+// add: how many rounds it made GHOST. That of a command tree is 01's without check 7.
+pub fn add<const VALUED: bool>(t: &mut [u64], r: Round, v: u64, p: Round) -> Result<u32, Refusal>
+    ensures { CountedOnTable VALUED t.old (add r.0 v p.0) (number_of result) (counted_of result) t.new }
 {
-    call_on_table(
-        valued,
-        t,
-        TreeCall::Add {
-            round: r,
-            value: v,
-            parent: p,
-        },
-    )
-}
-
-pub fn add(t: &mut [u64], r: Round, v: u64, p: Round) -> CallAnswer
-    ensures { CountedOnTable true t.old (add r.0 v p.0) result.number result.ghosts t.new }
-{
-    add_on_table(true, t, r, v, p)
-}
-
-// add of a command tree: 01's without check 7.
-pub fn command_add(t: &mut [u64], r: Round, v: u64, p: Round) -> CallAnswer
-    ensures { CountedOnTable false t.old (add r.0 v p.0) result.number result.ghosts t.new }
-{
-    add_on_table(false, t, r, v, p)
+    let call = TreeCall::Add {
+        round: r,
+        value: v,
+        parent: p,
+    };
+    call_on_table(VALUED, t, call)
 }
 
 // add on a table that is a tree already: the same step without the check of the table.
-pub fn add_in_tree(t: &mut [u64], r: Round, v: u64, p: Round) -> CallAnswer
-    requires { (sized t.old ≡ true) × Tree true t.old }
-    ensures { CountedOnTree true t.old (add r.0 v p.0) result.number result.ghosts t.new }
+pub fn add_in_tree(t: &mut [u64], r: Round, v: u64, p: Round) -> Result<u32, Refusal>
+    requires { TreeTable true t.old }
+    ensures { CountedOnTree true t.old (add r.0 v p.0) (number_of result) (counted_of result) t.new }
 {
-    call_on_tree(
-        true,
-        t,
-        TreeCall::Add {
-            round: r,
-            value: v,
-            parent: p,
-        },
-    )
+    let call = TreeCall::Add {
+        round: r,
+        value: v,
+        parent: p,
+    };
+    call_on_tree(true, t, call)
 }
 
-// How many rows of a table a preview copies: all for an accepted call, none for a refused one.
-fn rows_to_copy(number: u32, t: &[u64]) -> usize
-    ensures { result ≡ rows_copied number t.now }
-{
-    if number != numbers::OK {
-        return 0;
-    }
-    t.len() / 4
-}
-
-// What a call would make of a tree, made in a second table of its length.
-fn preview_on_tree(valued: bool, t: &[u64], second: &mut [u64], call: TreeCall) -> CallAnswer
-    requires { CanShow valued t.now second.old }
-    ensures { Previewed valued t.now second.old (call_of call) result.number result.ghosts
-        t.now second.new }
-{
-    let plan = tree_steps::call::plan_call(valued, t, call);
-    let rows = rows_to_copy(plan.number, t);
-    tree_table::copy_rows(t, second, rows);
-    carry_out(second, call, plan)
-}
-
-// What add would make of any table, made in a second one (02, ticket 5).
-pub fn preview_on_table(
+// What a call would make of a tree, made in a second table of its length: all rows are copied first, and none where the call is refused.
+fn preview_on_tree(
     valued: bool,
+    first: &[u64],
+    second: &mut [u64],
+    call: TreeCall,
+) -> Result<u32, Refusal>
+    requires { CanShow valued first.now second.old }
+    ensures { Previewed valued first.now second.old (call_of call) (number_of result) (counted_of result) first.now second.new }
+{
+    let shown = tree_steps::call::plan_call(valued, first, call)?;
+    tree_table::copy_rows(first, second, first.len() / 4);
+    Ok(carry_out(second, call, shown))
+}
+
+// What add would make of any table, made in a second one (02, ticket 5), and how many rounds it would make GHOST.
+pub fn preview<const VALUED: bool>(
     t: &[u64],
     second: &mut [u64],
     r: Round,
     v: u64,
     p: Round,
-) -> CallAnswer
-    ensures { Previewed valued t.now second.old (add r.0 v p.0) result.number result.ghosts
-        t.now second.new }
+) -> Result<u32, Refusal>
+    ensures { Previewed VALUED t.now second.old (add r.0 v p.0) (number_of result) (counted_of result) t.now second.new }
 {
-    let number = tree_check::tables_number(valued, t, second);
-    if number != numbers::OK {
-        return refused_answer(number);
-    }
-    preview_on_tree(
-        valued,
-        t,
-        second,
-        TreeCall::Add {
-            round: r,
-            value: v,
-            parent: p,
-        },
-    )
+    tree_check::check_tables(VALUED, t, second)?;
+    let call = TreeCall::Add {
+        round: r,
+        value: v,
+        parent: p,
+    };
+    preview_on_tree(VALUED, t, second, call)
 }
 
-pub fn preview(t: &[u64], second: &mut [u64], r: Round, v: u64, p: Round) -> CallAnswer
-    ensures { Previewed true t.now second.old (add r.0 v p.0) result.number
-        result.ghosts t.now second.new }
+pub fn commit<const VALUED: bool>(t: &mut [u64], r: Round) -> Result<(), Refusal>
+    ensures { CalledOnTable VALUED t.old (commit r.0) (number_of result) t.new }
 {
-    preview_on_table(true, t, second, r, v, p)
-}
-
-pub fn command_preview(t: &[u64], second: &mut [u64], r: Round, v: u64, p: Round) -> CallAnswer
-    ensures { Previewed false t.now second.old (add r.0 v p.0) result.number result.ghosts
-        t.now second.new }
-{
-    preview_on_table(false, t, second, r, v, p)
-}
-
-pub fn commit(t: &mut [u64], r: Round) -> u32
-    ensures { CalledOnTable true t.old (commit r.0) result t.new }
-{
-    let a = call_on_table(true, t, TreeCall::Commit { round: r });
-    a.number
-}
-
-pub fn command_commit(t: &mut [u64], r: Round) -> u32
-    ensures { CalledOnTable false t.old (commit r.0) result t.new }
-{
-    let a = call_on_table(false, t, TreeCall::Commit { round: r });
-    a.number
+    call_on_table(VALUED, t, TreeCall::Commit { round: r })?;
+    Ok(())
 }
 
 // commit on a table that is a tree already: the same step without the check of the table.
-pub fn commit_in_tree(t: &mut [u64], r: Round) -> u32
-    requires { (sized t.old ≡ true) × Tree true t.old }
-    ensures { CalledOnTree true t.old (commit r.0) result t.new }
+pub fn commit_in_tree(t: &mut [u64], r: Round) -> Result<(), Refusal>
+    requires { TreeTable true t.old }
+    ensures { CalledOnTree true t.old (commit r.0) (number_of result) t.new }
 {
-    let a = call_on_tree(true, t, TreeCall::Commit { round: r });
-    a.number
+    call_on_tree(true, t, TreeCall::Commit { round: r })?;
+    Ok(())
 }
 
-// path on any table.
-pub fn path_on_table(valued: bool, t: &[u64], r: Round, out: &mut [u64]) -> PathAnswer
-    ensures { PathGiven valued t.now r.0 out.old result.number result.count out.new }
+// path(r): the rounds from the root to r, written from the first word, and how many they are.
+pub fn path<const VALUED: bool>(t: &[u64], r: Round, out: &mut [u64]) -> Result<usize, Refusal>
+    ensures { PathGiven VALUED t.now r.0 out.old (number_of result) (counted_of result) out.new }
 {
-    let number = tree_check::table_number(valued, t);
-    if number != numbers::OK {
-        return PathAnswer { number, count: 0 };
-    }
+    tree_check::check_table(VALUED, t)?;
     let round = r.0 as u64;
     if ids::above_range(round) {
-        return PathAnswer {
-            number: numbers::ROUND_RANGE,
-            count: 0,
-        };
+        return Err(Refusal::RoundRange);
     }
     let n = tree_table::used_rows(t);
-    if n <= tree_table::find_row(t, n, round) {
-        return PathAnswer {
-            number: numbers::ROUND_ABSENT,
-            count: 0,
-        };
+    let present = tree_table::find_row(t, n, round).is_some();
+    if !present {
+        return Err(Refusal::RoundAbsent);
     }
-    let count = tree_steps::path::path_into(t, n, round, out, 0);
-    if count == 0 {
-        return PathAnswer {
-            number: numbers::PATH_TOO_LONG,
-            count: 0,
-        };
-    }
-    PathAnswer {
-        number: numbers::OK,
-        count,
-    }
-}
-
-// path(r): the rounds from the root to r, written from the first word.
-pub fn path(t: &[u64], r: Round, out: &mut [u64]) -> PathAnswer
-    ensures { PathGiven true t.now r.0 out.old result.number result.count out.new }
-{
-    path_on_table(true, t, r, out)
-}
-
-pub fn command_path(t: &[u64], r: Round, out: &mut [u64]) -> PathAnswer
-    ensures { PathGiven false t.now r.0 out.old result.number result.count out.new }
-{
-    path_on_table(false, t, r, out)
+    let Some(count) = tree_steps::path::path_into(t, n, round, out, 0) else {
+        return Err(Refusal::PathTooLong);
+    };
+    Ok(count)
 }

@@ -9,9 +9,9 @@
 ghost use Rattle.std.specs.Prelude.{◌≡◌, ◌+◌, ◌*◌, ◌≤◌, IfOk, length};
 
 use ids::Round;
+use numbers::{Refusal, number_of};
 use std::io;
 use std::io::Read;
-use tree::{CallAnswer, PathAnswer};
 
 fn number(rt: &impl Print, n: u64) -> io::Result<()> {
     print!(rt; " {n}")
@@ -45,97 +45,44 @@ fn nodes(rt: &impl Print, t: &[u64]) -> io::Result<()> {
 }
 
 fn fresh(rt: &impl Print, t: &mut [u64]) -> io::Result<()> {
-    number(rt, tree::fresh(t) as u64)
+    number(rt, number_of(tree::fresh(t)) as u64)
 }
 
-// Writes the number of an add's answer, and how many rounds it made GHOST.
-fn add_answer(rt: &impl Print, a: CallAnswer) -> io::Result<()> {
-    number(rt, a.number as u64)?;
-    number(rt, a.ghosts as u64)
+// Writes the number of an answer, and how many rounds it counts: those made GHOST, or those of a path.
+fn answer(rt: &impl Print, a: Result<u64, Refusal>) -> io::Result<()> {
+    number(rt, number_of(a) as u64)?;
+    number(rt, a.unwrap_or(0))
 }
 
-fn add(rt: &impl Print, t: &mut [u64], r: u32, v: u32, p: u32) -> io::Result<()> {
-    add_answer(rt, tree::add(t, Round(r), v as u64, Round(p)))
+fn add<const VALUED: bool>(
+    rt: &impl Print,
+    t: &mut [u64],
+    r: u32,
+    v: u32,
+    p: u32,
+) -> io::Result<()> {
+    let a = tree::add::<VALUED>(t, Round(r), v as u64, Round(p));
+    answer(rt, a.map(u64::from))
 }
 
-fn commit(rt: &impl Print, t: &mut [u64], r: u32) -> io::Result<()> {
-    number(rt, tree::commit(t, Round(r)) as u64)
+fn commit<const VALUED: bool>(rt: &impl Print, t: &mut [u64], r: u32) -> io::Result<()> {
+    number(rt, number_of(tree::commit::<VALUED>(t, Round(r))) as u64)
 }
 
-fn command_add(rt: &impl Print, t: &mut [u64], r: u32, v: u32, p: u32) -> io::Result<()> {
-    add_answer(rt, tree::command_add(t, Round(r), v as u64, Round(p)))
-}
-
-fn command_commit(rt: &impl Print, t: &mut [u64], r: u32) -> io::Result<()> {
-    number(rt, tree::command_commit(t, Round(r)) as u64)
-}
-
-// Writes the number of a path's answer, how many rounds it has, and the slice lent for it.
-fn path_answer(rt: &impl Print, a: PathAnswer, out: &[u64]) -> io::Result<()> {
-    number(rt, a.number as u64)?;
-    number(rt, a.count as u64)?;
-    numbers(rt, out)
-}
-
-fn path(rt: &impl Print, t: &[u64], r: u32, out: &mut [u64]) -> io::Result<()> {
-    let a = tree::path(t, Round(r), out);
-    path_answer(rt, a, out)
-}
-
-fn command_path(rt: &impl Print, t: &[u64], r: u32, out: &mut [u64]) -> io::Result<()> {
-    let a = tree::command_path(t, Round(r), out);
-    path_answer(rt, a, out)
-}
-
-// Makes a path of that name into so many words; none of another name.
-fn path_in(rt: &impl Print, name: u8, t: &[u64], r: u32, words: usize) -> io::Result<()> {
+// Makes a path into so many words, and writes them behind its answer.
+fn path<const VALUED: bool>(rt: &impl Print, t: &[u64], r: u32, words: usize) -> io::Result<()> {
     let mut out = [0u64; 256];
     if 256 < words {
         return Ok(());
     }
-    if name == b'p' {
-        return path(rt, t, r, &mut out[0..words]);
-    }
-    if name == b'P' {
-        return command_path(rt, t, r, &mut out[0..words]);
-    }
-    Ok(())
+    let a = tree::path::<VALUED>(t, Round(r), &mut out[0..words]);
+    answer(rt, a.map(|count| count as u64))?;
+    numbers(rt, &out[0..words])
 }
 
-// Writes a preview's answer, and the second table.
-fn preview_answer(rt: &impl Print, a: CallAnswer, second: &[u64]) -> io::Result<()> {
-    add_answer(rt, a)?;
-    numbers(rt, second)
-}
-
-fn preview(
+// Makes a preview in so many words, and writes them behind its answer.
+fn preview<const VALUED: bool>(
     rt: &impl Print,
-    t: &[u64],
-    second: &mut [u64],
-    r: u32,
-    v: u32,
-    p: u32,
-) -> io::Result<()> {
-    let a = tree::preview(t, second, Round(r), v as u64, Round(p));
-    preview_answer(rt, a, second)
-}
-
-fn command_preview(
-    rt: &impl Print,
-    t: &[u64],
-    second: &mut [u64],
-    r: u32,
-    v: u32,
-    p: u32,
-) -> io::Result<()> {
-    let a = tree::command_preview(t, second, Round(r), v as u64, Round(p));
-    preview_answer(rt, a, second)
-}
-
-// Makes a preview of that name in so many words; none of another name.
-fn preview_in(
-    rt: &impl Print,
-    name: u8,
     t: &[u64],
     words: usize,
     r: u32,
@@ -146,13 +93,9 @@ fn preview_in(
     if 1024 < words {
         return Ok(());
     }
-    if name == b'v' {
-        return preview(rt, t, &mut second[0..words], r, v, p);
-    }
-    if name == b'V' {
-        return command_preview(rt, t, &mut second[0..words], r, v, p);
-    }
-    Ok(())
+    let a = tree::preview::<VALUED>(t, &mut second[0..words], Round(r), v as u64, Round(p));
+    answer(rt, a.map(u64::from))?;
+    numbers(rt, &second[0..words])
 }
 
 fn put(t: &mut [u64], word: usize, x: u32) {
@@ -171,27 +114,22 @@ fn make(
     b: u32,
     c: u32,
 ) -> io::Result<()> {
-    if name == b'f' {
-        return fresh(rt, t);
+    match name {
+        b'f' => fresh(rt, t),
+        b'a' => add::<true>(rt, t, a, b, c),
+        b'A' => add::<false>(rt, t, a, b, c),
+        b'c' => commit::<true>(rt, t, c),
+        b'C' => commit::<false>(rt, t, c),
+        b'p' => path::<true>(rt, t, b, c as usize),
+        b'P' => path::<false>(rt, t, b, c as usize),
+        b'v' => preview::<true>(rt, t, second, a, b, c),
+        b'V' => preview::<false>(rt, t, second, a, b, c),
+        b'w' => {
+            put(t, b as usize, c);
+            Ok(())
+        }
+        _ => Ok(()),
     }
-    if name == b'a' {
-        return add(rt, t, a, b, c);
-    }
-    if name == b'c' {
-        return commit(rt, t, c);
-    }
-    if name == b'w' {
-        put(t, b as usize, c);
-        return Ok(());
-    }
-    if name == b'A' {
-        return command_add(rt, t, a, b, c);
-    }
-    if name == b'C' {
-        return command_commit(rt, t, c);
-    }
-    path_in(rt, name, t, b, c as usize)?;
-    preview_in(rt, name, t, second, a, b, c)
 }
 
 // What was read: the lengths of the table and of the second, the name of a call, and its last three arguments.
@@ -209,28 +147,23 @@ impl Input {
     // A digit goes to the last argument, a comma begins another, and a bracket the first; any other byte is a name.
     fn read(self, x: u8) -> Input {
         let mut s = self;
-        if x == b',' {
-            s.a = self.b;
-            s.b = self.c;
-            s.c = 0;
-            return s;
-        }
-        if x == b'(' {
-            s.a = 0;
-            s.b = 0;
-            s.c = 0;
-            return s;
-        }
-        if x < b'0' {
-            s.name = x;
-            return s;
-        }
-        if b'9' < x {
-            s.name = x;
-            return s;
-        }
-        if self.c <= 100000000 {
-            s.c = 10 * self.c + (x - b'0') as u32;
+        match x {
+            b',' => {
+                s.a = self.b;
+                s.b = self.c;
+                s.c = 0;
+            }
+            b'(' => {
+                s.a = 0;
+                s.b = 0;
+                s.c = 0;
+            }
+            b'0'..=b'9' => {
+                if self.c <= 100000000 {
+                    s.c = 10 * self.c + (x - b'0') as u32;
+                }
+            }
+            _ => s.name = x,
         }
         s
     }
@@ -298,25 +231,9 @@ fn run(rt: &impl Print, t: &mut [u64], text: &[u8]) -> io::Result<()> {
     Ok(())
 }
 
-// Reads until `buf` is full or the input ends, and answers how many bytes. Where reading fails, `buf` is as long as it was, and holds what was read.
-fn read_full(input: &mut impl Read, buf: &mut [u8]) -> io::Result<usize>
-    ensures read { IfOk result (λ count. count ≤ length buf.new) }
-    ensures kept { length buf.new ≡ length buf.old }
-{
-    let mut at = 0;
-    while at < buf.len() {
-        let more = input.read(&mut buf[at..])?;
-        if more == 0 {
-            return Ok(at);
-        }
-        at += more;
-    }
-    Ok(at)
-}
-
 fn main(rt: HostRuntime) -> io::Result<()> {
     let mut t = [0u64; 1024];
     let mut text = [0u8; 8192];
-    let n = read_full(&mut rt.stdin(), &mut text)?;
+    let n = input::read_full(&mut rt.stdin(), &mut text)?;
     run(&rt, &mut t, &text[..n])
 }

@@ -2,7 +2,7 @@
 use mathlib.Core.Path.{◌≡◌, refl, sym, ◌∙◌}
 use mathlib.Core.Bool.{Bool, true, false, not, and-false}
 use mathlib.Core.List.{List}
-use Prim.Native.Nat.{ℕ, zero, suc, ◌+◌, ◌<◌, ◌≤◌}
+use Prim.Native.Nat.{ℕ, zero, suc, ◌+◌, ◌<◌}
 use native.Mathlib.Omega.{arith}
 use native.Mathlib.Numerals.{add-one}
 use lib.Dec.{ltb}
@@ -22,13 +22,12 @@ unfit valued ws n i (suc m) h e =
 -- The check has come to row i of n, and all rows passed fit.
 pub record Fitted (valued : Bool) (ws : List ℕ) (n i : ℕ) : Type 0 where
   pub begun : 0 < i
-  pub within : i ≤ n
   pub all : fits_to valued ws n i ≡ true
 
 -- b is what the code's test of a row answered
 pub fits_root : {valued : Bool} {ws : List ℕ} {n : ℕ} {b : Bool} → 0 < n → b ≡ is_root (row ws 0) → not b ≡ false → Fitted valued ws n 1
 unfolding fits_to
-fits_root {b = b} h a t = record { begun = omega arith; within = omega arith; all = rw (← a, not-false b t) refl }
+fits_root {b = b} h a t = record { begun = omega arith; all = rw (← a, not-false b t) refl }
 
 pub unfit_root : (valued : Bool) (ws : List ℕ) (n : ℕ) {b : Bool} → 0 < n → b ≡ is_root (row ws 0) → not b ≡ true → fits_to valued ws n n ≡ false
 unfolding row_fits
@@ -40,13 +39,9 @@ module _ {valued : Bool} {ws : List ℕ} {n i : ℕ} (F : Fitted valued ws n i) 
   fits_more h a t =
       record {
         begun = omega arith;
-        within = omega arith;
         all = rw (add-one, F.all, ne_eqb i 0 (λ e. omega (arith, F.begun)), ← a, not-false b t) refl;
       }
 
   pub unfit_row : i < n → b ≡ fits valued (rows_of ws i) (rows_of ws n) (row ws i) → not b ≡ true → fits_to valued ws n n ≡ false
   unfolding row_fits
   unfit_row h a t = unfit valued ws n i n h (rw (ne_eqb i 0 (λ q. omega (arith, F.begun))) (sym a ∙ not-true b t))
-
-pub fitted_all : {valued : Bool} {ws : List ℕ} {n i : ℕ} → Fitted valued ws n i → n ≤ i → fits_to valued ws n n ≡ true
-fitted_all {n = n} {i = i} F h = let e : i ≡ n = omega (arith, F.within) in rw e at F.all

@@ -1,52 +1,40 @@
--- Words that are zero, counted up: one word more, and a word that isn't. Assumes nothing.
-use mathlib.Core.Path.{◌≡◌, refl}
-use mathlib.Core.Bool.{true, false, or-true, and-false}
+-- The words that the check of the free rows reads: all from a place on. Assumes nothing.
+use mathlib.Core.Path.{◌≡◌, refl, sym, ap, ◌∙◌}
+use mathlib.Core.Bool.{Bool, true, ◌&&◌}
 use mathlib.Core.List.{List}
-use Prim.Native.Nat.{ℕ, zero, suc, ◌+◌, ◌≤◌, ◌<◌}
+use Prim.Native.Nat.{ℕ, zero, suc, ◌+◌, ◌-◌, ◌≤◌, ◌<◌}
 use native.Mathlib.Omega.{arith}
-use native.Mathlib.Numerals.{add-one}
-use lib.ListN.{length, get_or}
-use lib.Dec.{ltb}
-use borrow.Author.Tests.{eq-eqb, ne_eqb, lt-ltb, le-ltb, ltb-true}
-use Rattle.laws.specs.Tests.{by_test, tests}
+use lib.ListN.{length, get_or, take, drop, length-drop}
+use lib.Seq.{get_or-drop}
+use lib.Dec.{eqb}
+use borrow.Author.Tests.{lt-ltb, le-ltb}
+use Rattle.std.specs.List.{list_all}
+use Rattle.std.proofs.lemmas.List.Folds.{list_all_more}
 use Rattle.tree_theory.specs.Check.{zeros_to}
+
+-- a word is zero
+abbrev pub is_zero : ℕ → Bool
+is_zero w = eqb w 0
 
 zeros_before : (ws : List ℕ) (a n : ℕ) → n ≤ a → zeros_to ws a n ≡ true
 unfolding zeros_to
 zeros_before ws a zero h = refl
 zeros_before ws a (suc n) h = rw (zeros_before ws a n (omega arith), lt-ltb n a (omega arith)) refl
 
-zeros_hit : (ws : List ℕ) (a i n : ℕ) → i < n → a ≤ i → (get_or ws i 0 ≡ 0 → ⊥) → zeros_to ws a n ≡ false
+zeros_by : (ws : List ℕ) (a d : ℕ) → a + d ≤ length ws → zeros_to ws a (a + d) ≡ list_all is_zero (take d (drop a ws))
 unfolding zeros_to
-zeros_hit ws a i zero h k e = absurd (omega arith)
-zeros_hit ws a i (suc n) h k e =
-    by_test (ltb i n)
-    (λ y. rw (zeros_hit ws a i n (ltb-true i n y) k e) refl)
-    (λ y.
-    let q : n ≡ i = omega tests in
-    rw (q, le-ltb i a k, ne_eqb (get_or ws i 0) 0 e) (and-false (zeros_to ws a i)))
+zeros_by ws a zero h = let e : a + 0 ≡ a = omega arith in rw e (zeros_before ws a a (omega arith))
+zeros_by ws a (suc d) h =
+    let e : a + suc d ≡ suc (a + d) = omega arith in
+    let f : d + 1 ≡ suc d = omega arith in
+    let within : d < length (drop a ws) = omega (arith, length-drop a ws) in
+    rw (e, le-ltb (a + d) a (omega arith))
+    (ap (λ b. b && is_zero (get_or ws (a + d) 0)) (zeros_by ws a d (omega arith)) ∙
+    ap (λ w. list_all is_zero (take d (drop a ws)) && is_zero w) (sym (get_or-drop a ws d 0)) ∙
+    sym (rw f at (list_all_more is_zero (drop a ws) d 0 within)))
 
--- The check has come to word i, and all words from a on that it passed are zero.
-pub record ZeroTo (ws : List ℕ) (a i : ℕ) : Type 0 where
-  pub begun : a ≤ i
-  pub within : i ≤ length ws
-  pub all : zeros_to ws a i ≡ true
-
-pub zeros_start : {ws : List ℕ} {a : ℕ} → a ≤ length ws → ZeroTo ws a a
-zeros_start {ws = ws} {a = a} h = record { begun = omega arith; within = h; all = zeros_before ws a a (omega arith) }
-
-module _ {ws : List ℕ} {a i : ℕ} (Z : ZeroTo ws a i) where
-  pub zeros_more : i < length ws → get_or ws i 0 ≡ 0 → ZeroTo ws a (i + 1)
-  unfolding zeros_to
-  zeros_more h e =
-      record {
-        begun = omega (arith, Z.begun);
-        within = omega arith;
-        all = rw (add-one, Z.all, eq-eqb (get_or ws i 0) 0 e) (or-true (ltb i a));
-      }
-
-  pub zeros_stop : i < length ws → (get_or ws i 0 ≡ 0 → ⊥) → zeros_to ws a (length ws) ≡ false
-  zeros_stop h e = zeros_hit ws a i (length ws) h Z.begun e
-
-  pub zero_to_all : length ws ≤ i → zeros_to ws a (length ws) ≡ true
-  zero_to_all h = let e : i ≡ length ws = omega (arith, Z.within) in rw e at Z.all
+-- all from word a on, as a part of the slice has them
+pub zeros_all : (ws : List ℕ) (a : ℕ) → a ≤ length ws → list_all is_zero (take (length ws - a) (drop a ws)) ≡ zeros_to ws a (length ws)
+zeros_all ws a h =
+    let e : a + (length ws - a) ≡ length ws = omega arith in
+    sym (rw e at (zeros_by ws a (length ws - a) (omega arith)))

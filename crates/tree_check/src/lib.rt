@@ -5,11 +5,15 @@
 
 mod rows;
 
-ghost use Rattle.std.specs.Prelude.{◌≡◌, true, ◌*◌, ◌≤◌, ◌<◌, length};
+ghost use Rattle.std.specs.Prelude.{◌≡◌, true, ◌*◌, ◌≤◌, ◌<◌, eqb, length};
+ghost use Rattle.std.specs.List.{list_all};
 ghost use Rattle.laws.specs.First.{first};
+ghost use Rattle.numbers.specs.Numbers.{number_of};
 ghost use Rattle.tree_theory.specs.Table.{row, sized_length, sized, is_tree, table_causes};
 ghost use Rattle.tree_theory.specs.Preview.{tables_causes};
 ghost use Rattle.tree_theory.specs.Check.{is_root, fits_to, zeros_to};
+
+use numbers::Refusal;
 
 // A multiple of 4 from 4 to 1,024.
 pub fn is_table_length(n: usize) -> bool
@@ -56,14 +60,19 @@ fn rows_fit(valued: bool, t: &[u64], n: usize) -> bool
     if !root_fits(t) {
         return false;
     }
-    let mut i = 1;
-    while i < n {
+    for i in 1..n {
         if !crate::rows::row_fits(valued, t, n, i) {
             return false;
         }
-        i += 1;
     }
     true
+}
+
+// Whether words are all zero.
+fn all_zero(words: &[u64]) -> bool
+    ensures { result ≡ list_all (λ w. eqb w 0) words.now }
+{
+    words.iter().all(|word| *word == 0)
 }
 
 // Whether every word from a place on is zero.
@@ -71,14 +80,7 @@ fn zeros_from(t: &[u64], from: usize) -> bool
     requires { from ≤ length t.now }
     ensures { result ≡ zeros_to t.now from (length t.now) }
 {
-    let mut word = from;
-    while word < t.len() {
-        if t[word] != 0 {
-            return false;
-        }
-        word += 1;
-    }
-    true
+    all_zero(&t[from..])
 }
 
 // Whether some list of calls from fresh leaves the table.
@@ -97,28 +99,29 @@ fn is_tree(valued: bool, t: &[u64]) -> bool
 }
 
 // The row "table" of the place table: 1, 2, or OK of a tree.
-pub fn table_number(valued: bool, t: &[u64]) -> u32
-    ensures { result ≡ first (table_causes valued t.now) }
+pub fn check_table(valued: bool, t: &[u64]) -> Result<(), Refusal>
+    ensures { number_of result ≡ first (table_causes valued t.now) }
 {
     if !has_table_length(t) {
-        return numbers::TABLE_LENGTH;
+        return Err(Refusal::TableLength);
     }
     if !is_tree(valued, t) {
-        return numbers::NOT_A_TREE;
+        return Err(Refusal::NotATree);
     }
-    numbers::OK
+    Ok(())
 }
 
 // The row "table" of a table to be previewed in a second one (02, ticket 5): 1, 31, 2, or OK. Of the second only the length is asked.
-pub fn tables_number(valued: bool, t: &[u64], second: &[u64]) -> u32
-    ensures { result ≡ first (tables_causes valued t.now second.now) }
+pub fn check_tables(valued: bool, t: &[u64], second: &[u64]) -> Result<(), Refusal>
+    ensures { number_of result ≡ first (tables_causes valued t.now second.now) }
 {
-    let number = table_number(valued, t);
-    if number == numbers::TABLE_LENGTH {
-        return number;
+    let long = has_table_length(t);
+    let alike = second.len() == t.len();
+    if !long {
+        return Err(Refusal::TableLength);
     }
-    if second.len() != t.len() {
-        return numbers::LENGTHS_DIFFER;
+    if !alike {
+        return Err(Refusal::LengthsDiffer);
     }
-    number
+    check_table(valued, t)
 }

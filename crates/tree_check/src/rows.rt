@@ -12,7 +12,7 @@ fn round_fits(t: &[u64], i: usize) -> bool
     if !ids::number_in_range(r) {
         return false;
     }
-    i <= tree_table::find_row(t, i, r)
+    tree_table::find_row(t, i, r).is_none()
 }
 
 // Whether row i is GHOST where an edge crosses its round, else ADDED or COMMITTED.
@@ -39,10 +39,9 @@ pub fn row_fits(valued: bool, t: &[u64], n: usize, i: usize) -> bool
         return false;
     }
     let p = tree_table::parent_at(t, i);
-    let k = tree_table::find_row(t, i, p);
-    if i <= k {
+    let Some(k) = tree_table::find_row(t, i, p) else {
         return false;
-    }
+    };
     if tree_table::round_at(t, i) <= p {
         return false;
     }

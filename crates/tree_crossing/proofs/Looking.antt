@@ -11,22 +11,22 @@ use Rattle.laws.specs.Lists.{any, how_many, how_many_most}
 use Rattle.tree_theory.specs.Machine.{Node, FREE, ADDED, COMMITTED, has_round, present, find, above, blocks, crosses, crossed_with}
 use Rattle.tree_theory.specs.Table.{row, rows, rows_of, used_from, used, nodes}
 use Rattle.tree_theory.proofs.Words.{length_rows, used_rows}
-use Rattle.tree_table.specs.Rows.{row_index}
-use Rattle.tree_table.proofs.Rows.{any_more, how_many_more, used_stop, used_go, used_end, found_there, found_none, found_at}
+use Rattle.std.specs.Prelude.{Option, Some, None}
+use Rattle.tree_table.specs.Rows.{row_place}
+use Rattle.tree_table.proofs.Rows.{any_more, how_many_more, used_stop, used_go, used_end, place_none, place_there, place_within, place_row}
 use Rattle.tree_crossing.specs.declared.look.Look.{Look}
 use Rattle.tree_crossing.specs.Looked.{look_of}
 
 -- the walk has come past the first used rows, as many as it says
 pub record Walked (ws : List ℕ) (r p : ℕ) (l : Look) : Type 0 where
   pub is : l ≡ look_of r p (rows_of ws l.used)
-  pub within : l.used ≤ rows ws
   pub rest : used ws ≡ used_from ws (rows ws - l.used) l.used
 
-pub walk_start : (ws : List ℕ) (r p : ℕ) → Walked ws r p (record { used = 0; present = false; parent = 0; above = false; blocked = false; strikes = 0 })
-unfolding rows_of row_index
+pub walk_start : (ws : List ℕ) (r p : ℕ) → Walked ws r p (record { used = 0; present = false; parent = None; above = false; blocked = false; strikes = 0 })
+unfolding rows_of
 walk_start ws r p =
     let e : rows ws - 0 ≡ rows ws = omega arith in
-    record { is = refl; within = omega arith; rest = rw e refl }
+    record { is = refl; rest = rw e refl }
 
 module _ {ws : List ℕ} {r p : ℕ} {l : Look} (W : Walked ws r p l) where
   pub walk_counts : {m : Look} → m ≡ look_of r p (rows_of ws (l.used + 1)) → m.used ≡ l.used + 1
@@ -37,7 +37,6 @@ module _ {ws : List ℕ} {r p : ℕ} {l : Look} (W : Walked ws r p l) where
       let n : m.used ≡ l.used + 1 = walk_counts e in
       record {
         is = subst (λ k. m ≡ look_of r p (rows_of ws k)) (sym n) e;
-        within = omega (arith, n);
         rest = subst (λ k. used ws ≡ used_from ws (rows ws - k) k) (sym n) (W.rest ∙ used_go ws (rows ws) l.used h s);
       }
 
@@ -94,7 +93,7 @@ module _ {ws : List ℕ} {r p : ℕ} {l : Look} (L : LookedTo ws r p l) where
   uncrossed : crosses r p (row ws l.used).round ≡ false → (s : ℕ) → crossed_with s r p (row ws l.used) ≡ false
   uncrossed off s = rw off (and-false (eqb (row ws l.used).status s))
 
-  module _ {round parent : ℕ} (at : round ≡ (row ws l.used).round) (found : parent ≡ row_index p (rows_of ws (l.used + 1))) where
+  module _ {round : ℕ} {parent : Option ℕ} (at : round ≡ (row ws l.used).round) (found : parent ≡ row_place p (rows_of ws (l.used + 1))) where
     count : l.used + 1 ≡ length (rows_of ws (l.used + 1))
     count = sym (length_rows ws (l.used + 1))
 
@@ -170,7 +169,7 @@ module _ {ws : List ℕ} {r p : ℕ} {l : Look} (L : LookedAt ws r p l) where
   pub present_is : l.present ≡ present r (nodes ws)
   present_is = ap (λ (k : Look). k.present) L.is
 
-  parent_is : l.parent ≡ row_index p (nodes ws)
+  parent_is : l.parent ≡ row_place p (nodes ws)
   parent_is = ap (λ (k : Look). k.parent) L.is
 
   pub above_is : l.above ≡ any (above r) (nodes ws)
@@ -183,14 +182,15 @@ module _ {ws : List ℕ} {r p : ℕ} {l : Look} (L : LookedAt ws r p l) where
   pub strikes_is : {n : ℕ} → n ≡ used ws → l.strikes ≡ how_many (crossed_with ADDED r p) (rows_of ws n)
   strikes_is e = ap (λ (k : Look). k.strikes) L.is ∙ ap (λ n. how_many (crossed_with ADDED r p) (rows_of ws n)) (sym e)
 
-  pub parent_present : l.parent < l.used → present p (nodes ws) ≡ true
-  parent_present h = found_there ws (used ws) p parent_is (omega (arith, used_is))
+  pub parent_missing : l.parent ≡ None → present p (nodes ws) ≡ false
+  parent_missing e = place_none p (nodes ws) (sym e ∙ parent_is)
 
-  pub parent_missing : l.used ≤ l.parent → present p (nodes ws) ≡ false
-  parent_missing h = found_none ws (used ws) p parent_is (omega (arith, used_is))
+  module _ {k : ℕ} (e : l.parent ≡ Some k) where
+    pub parent_present : present p (nodes ws) ≡ true
+    parent_present = place_there ws (used ws) p (sym e ∙ parent_is)
 
-  pub parent_node : l.parent < l.used → find p (nodes ws) ≡ row ws l.parent
-  parent_node h = found_at ws (used ws) p parent_is (omega (arith, used_is))
+    pub parent_node : find p (nodes ws) ≡ row ws k
+    parent_node = place_row ws (used ws) p (sym e ∙ parent_is)
 
-  pub parent_row_fits : l.parent < l.used → 4 * l.parent + 4 ≤ length ws
-  parent_row_fits h = omega (arith, used_is, used_rows ws)
+    pub parent_row_fits : 4 * k + 4 ≤ length ws
+    parent_row_fits = omega (arith, place_within ws (used ws) p (sym e ∙ parent_is), used_rows ws)

@@ -1,4 +1,5 @@
-// Edges that cross (01, "The tree"): an edge (r, p) is a node r > 0 with parent p, and crosses c if p < c < r.
+// Edges that cross (01, "The tree"): an edge (r, p) is a node r > 0 with parent p, and crosses c if p < c < r. It is two numbers here, as its meaning
+// has it: a struct would be made and taken apart at each call.
 #![tactic(auto)]
 
 pub mod look;
@@ -35,12 +36,10 @@ pub fn any_edge_crosses(t: &[u64], n: usize, c: u64) -> bool
     requires { 4 * n ≤ length t.now }
     ensures { result ≡ crossed c (rows_of t.now n) }
 {
-    let mut i = 0;
-    while i < n {
+    for i in 0..n {
         if crosses(tree_table::round_at(t, i), tree_table::parent_at(t, i), c) {
             return true;
         }
-        i += 1;
     }
     false
 }
@@ -60,10 +59,8 @@ fn strike(t: &mut [u64], n: usize, r: u64, p: u64)
     requires { 4 * n ≤ length t.old }
     ensures { t.new ≡ words (map (strike_crossed r p) (rows_of t.old n)) ++ drop (4 * n) t.old }
 {
-    let mut i = 0;
-    while i < n {
+    for i in 0..n {
         strike_row(t, i, r, p);
-        i += 1;
     }
 }
 

@@ -3,13 +3,13 @@ ghost use Rattle.std.specs.Prelude.{◌≡◌, ◌+◌, ◌*◌, ◌≤◌, leng
 ghost use Rattle.tree_theory.specs.Table.{rows_of, nodes};
 ghost use Rattle.tree_crossing.specs.Looked.{look_of};
 
-// What the rows say of an edge (r, p): how many they are, whether one has round r, the first that has round p (as many as they are where none
-// has), whether one has a round above r, whether the edge crosses a COMMITTED one, and how many ADDED ones it crosses.
+// What the rows say of an edge (r, p): how many they are, whether one has round r, the first that has round p, whether one has a round above r,
+// whether the edge crosses a COMMITTED one, and how many ADDED ones it crosses.
 #[derive(Clone, Copy)]
 pub struct Look {
     pub used: usize,
     pub present: bool,
-    pub parent: usize,
+    pub parent: Option<usize>,
     pub above: bool,
     pub blocked: bool,
     pub strikes: usize,
@@ -64,13 +64,13 @@ pub fn look_over(t: &[u64], r: u64, p: u64) -> Look
     let mut l = Look {
         used: 0,
         present: false,
-        parent: 0,
+        parent: None,
         above: false,
         blocked: false,
         strikes: 0,
     };
-    while l.used < rows {
-        if tree_table::status_at(t, l.used) == tree_table::FREE {
+    for i in 0..rows {
+        if tree_table::status_at(t, i) == tree_table::FREE {
             return l;
         }
         l = look_on(l, t, r, p);

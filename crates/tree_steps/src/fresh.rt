@@ -3,17 +3,6 @@ ghost use Rattle.std.specs.Prelude.{◌≡◌, ◌≤◌, length, replicate};
 ghost use Rattle.tree_theory.specs.Machine.{fresh};
 ghost use Rattle.tree_theory.specs.Table.{table};
 
-// Writes zero to every word, of one table or of several.
-pub fn clear(t: &mut [u64])
-    ensures { t.new ≡ replicate (length t.old) 0 }
-{
-    let mut word = 0;
-    while word < t.len() {
-        t[word] = 0;
-        word += 1;
-    }
-}
-
 // The root, in a table of zeros.
 pub fn write_root(t: &mut [u64])
     requires { (4 ≤ length t.old) × (t.old ≡ replicate (length t.old) 0) }
@@ -26,6 +15,6 @@ pub fn write_fresh(t: &mut [u64])
     requires { 4 ≤ length t.old }
     ensures { t.new ≡ table (length t.old) fresh }
 {
-    clear(t);
+    t.fill(0);
     write_root(t);
 }

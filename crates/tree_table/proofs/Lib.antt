@@ -1,3 +1,2 @@
--- Laws on the rows of a table, for the passes over them, and on a copy of words.
+-- Laws on the rows of a table, for the passes over them.
 pub mod Rows
-pub mod Copying

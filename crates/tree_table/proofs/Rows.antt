@@ -1,6 +1,6 @@
 -- Laws on the first rows of a table: what one row more adds, and what a pass that changes statuses leaves. Assumes nothing.
 use mathlib.Core.Path.{◌≡◌, refl, sym, ap, ◌∙◌}
-use mathlib.Core.Bool.{Bool, true, false, not, ◌||◌}
+use mathlib.Core.Bool.{Bool, true, false, ◌||◌}
 use mathlib.Core.List.{List, [], ◌∷◌, ◌++◌, map, append_assoc, append-nil}
 use Prim.Native.Nat.{ℕ, zero, suc, ◌+◌, ◌-◌, ◌*◌, ◌≤◌, ◌<◌}
 use native.Mathlib.Omega.{arith}
@@ -8,14 +8,16 @@ use native.Mathlib.Numerals.{add-one}
 use native.Mathlib.Nat.{add-zero}
 use lib.ListN.{length, get_or, set, drop, length-map}
 use lib.Seq.{drop-cons, get_or-append-add, append_snoc, get_or-drop}
-use lib.Dec.{leb, ltb}
-use borrow.Author.Tests.{eq-eqb, ne_eqb, le-leb, lt-leb, lt-ltb, le-ltb, ltb-true, ltb-false}
+use lib.Dec.{ltb}
+use borrow.Author.Tests.{eq-eqb, ne_eqb, lt-ltb, ltb-true}
 use Rattle.laws.specs.Tests.{by_test, clash, same_test}
 use Rattle.laws.specs.Lists.{any, any_append, any_snoc, how_many, how_many_append, map_append}
 use Rattle.tree_theory.specs.Machine.{Node, root, FREE, has_round, present, find, with_status}
 use Rattle.tree_theory.specs.Table.{row, rows_of, used_from, words}
 use Rattle.tree_theory.proofs.Words.{length_words, words_append, length_rows, get_d_rows}
-use Rattle.tree_table.specs.Rows.{row_index}
+use Rattle.std.specs.Prelude.{Option, Some, None}
+use Rattle.std.specs.Option.{is_some}
+use Rattle.tree_table.specs.Rows.{row_index, row_place}
 
 -- the d rows from row i on
 unfoldable pub rows_from : List ℕ → ℕ → ℕ → List Node
@@ -45,35 +47,23 @@ pub how_many_more : (P : Node → Bool) (ws : List ℕ) (i : ℕ) → how_many P
 unfolding rows_of
 how_many_more P ws i = rw add-one (how_many_append P (rows_of ws i) (row ws i ∷ []))
 
--- A pass that looks for a row: it has come to row i of n and passed none.
-pub record Scanned (P : Node → Bool) (ws : List ℕ) (n i : ℕ) : Type 0 where
-  pub within : i ≤ n
+-- A pass that looks for a row: it has come to row i and passed none.
+pub record Scanned (P : Node → Bool) (ws : List ℕ) (i : ℕ) : Type 0 where
   pub none : any P (rows_of ws i) ≡ false
 
-pub scan_start : {P : Node → Bool} {ws : List ℕ} {n : ℕ} → Scanned P ws n 0
+pub scan_start : {P : Node → Bool} {ws : List ℕ} → Scanned P ws 0
 unfolding rows_of
-scan_start = record { within = omega arith; none = refl }
+scan_start = record { none = refl }
 
-module _ {P : Node → Bool} {ws : List ℕ} {n i : ℕ} (S : Scanned P ws n i) where
-  pub scan_more : i < n → P (row ws i) ≡ false → Scanned P ws n (i + 1)
-  scan_more h e = record { within = omega arith; none = rw (any_more P ws i, S.none, e) refl }
+module _ {P : Node → Bool} {ws : List ℕ} {i : ℕ} (S : Scanned P ws i) where
+  pub scan_more : P (row ws i) ≡ false → Scanned P ws (i + 1)
+  scan_more e = record { none = rw (any_more P ws i, S.none, e) refl }
 
-  pub scan_hit : i < n → P (row ws i) ≡ true → any P (rows_of ws n) ≡ true
-  scan_hit h e =
+  pub scan_hit : (n : ℕ) → i < n → P (row ws i) ≡ true → any P (rows_of ws n) ≡ true
+  scan_hit n h e =
       rw (rows_split ws i n h, any_append P (rows_of ws i) (row ws i ∷ rows_from ws (suc i) (n - suc i)), S.none, e) refl
 
-  pub scan_end : n ≤ i → any P (rows_of ws n) ≡ false
-  scan_end h = let e : i ≡ n = omega (arith, S.within) in rw e at S.none
-
 -- ---- the place of a round
-
-same_below : (k n : ℕ) → leb n k ≡ not (ltb k n)
-same_below k n = by_test (ltb k n) (λ y. rw (y, lt-leb n k (ltb-true k n y)) refl) (λ y. rw (y, le-leb n k (ltb-false k n y)) refl)
-
-pub index_none : (r : ℕ) (ns : List Node) → any (has_round r) ns ≡ false → row_index r ns ≡ length ns
-unfolding row_index
-index_none r [] a = refl
-index_none r (n ∷ ns) a = by_test (has_round r n) (λ t. clash (rw t refl) a) (λ t. rw t (ap suc (index_none r ns (rw t at a))))
 
 index_hit : (r : ℕ) (ns ms : List Node) (m : Node) → any (has_round r) ns ≡ false → has_round r m ≡ true → row_index r (ns ++ m ∷ ms) ≡ length ns
 unfolding row_index
@@ -104,43 +94,81 @@ unfolding row_index
 index_left r [] ms h = clash h refl
 index_left r (n ∷ ns) ms h = by_test (has_round r n) (λ t. rw t refl) (λ t. rw t (ap suc (index_left r ns ms (rw t at h))))
 
--- a search that stops at the first row that has round r
-pub stopped : {r : ℕ} {ws : List ℕ} {n i : ℕ} → Scanned (has_round r) ws n i → i < n → (row ws i).round ≡ r → row_index r (rows_of ws n) ≡ i
-stopped {r = r} {ws = ws} {n = n} {i = i} S h e =
-    rw (rows_split ws i n h)
-    (index_hit r (rows_of ws i) (rows_from ws (suc i) (n - suc i)) (row ws i) S.none (eq-eqb (row ws i).round r e) ∙ length_rows ws i)
-
 -- what the place k that a search for r among the first n rows gave says
 module _ (ws : List ℕ) (n r : ℕ) {k : ℕ} (e : k ≡ row_index r (rows_of ws n)) where
   pub index_there : ltb k n ≡ present r (rows_of ws n)
   index_there = ap (λ j. ltb j n) e ∙ ap (ltb (row_index r (rows_of ws n))) (sym (length_rows ws n)) ∙ index_present r (rows_of ws n)
 
-  pub index_absent : leb n k ≡ not (present r (rows_of ws n))
-  index_absent = same_below k n ∙ ap not index_there
-
-  pub found_there : k < n → present r (rows_of ws n) ≡ true
+  found_there : k < n → present r (rows_of ws n) ≡ true
   found_there h = sym index_there ∙ lt-ltb k n h
-
-  pub found_none : n ≤ k → present r (rows_of ws n) ≡ false
-  found_none h = sym index_there ∙ le-ltb k n h
 
   pub found_at : k < n → find r (rows_of ws n) ≡ row ws k
   found_at h = rw e (find_at r (rows_of ws n) (found_there h) ∙ get_d_rows ws n (row_index r (rows_of ws n)) (rw e at h))
 
-  -- with one row more it stays, or is that row's, or no row's
-  pub index_kept : k < n → k ≡ row_index r (rows_of ws (n + 1))
-  unfolding rows_of
-  index_kept h = rw add-one (e ∙ sym (index_left r (rows_of ws n) (row ws n ∷ []) (found_there h)))
+-- ---- the same as an answer that may be none
 
-  pub index_last : n ≤ k → (row ws n).round ≡ r → n ≡ row_index r (rows_of ws (n + 1))
-  unfolding rows_of
-  index_last h q =
-      rw add-one (sym (index_hit r (rows_of ws n) [] (row ws n) (found_none h) (eq-eqb (row ws n).round r q) ∙ length_rows ws n))
+pub is_some_place : (r : ℕ) (ns : List Node) → is_some (row_place r ns) ≡ present r ns
+is_some_place r ns = by_test (present r ns) (λ t. rw t refl) (λ t. rw t refl)
 
-  pub index_past : n ≤ k → ((row ws n).round ≡ r → ⊥) → n + 1 ≡ row_index r (rows_of ws (n + 1))
-  index_past h q =
-      let none : present r (rows_of ws (n + 1)) ≡ false = any_more (has_round r) ws n ∙ rw (found_none h, ne_eqb (row ws n).round r q) refl in
-      sym (index_none r (rows_of ws (n + 1)) none ∙ length_rows ws (n + 1))
+-- it is a place: the round is there, and where; it is none: the round is nowhere
+pub place_some : (r : ℕ) (ns : List Node) {k : ℕ} → Some k ≡ row_place r ns → (present r ns ≡ true) × (k ≡ row_index r ns)
+place_some r ns e =
+    by_test (present r ns)
+    (λ t. let s = rw t at e in (t, cc))
+    (λ t. let s = rw t at e in absurd (cc))
+
+pub place_none : (r : ℕ) (ns : List Node) → None ≡ row_place r ns → present r ns ≡ false
+place_none r ns e = sym (is_some_place r ns) ∙ ap is_some (sym e)
+
+pub place_found : (r : ℕ) (ns : List Node) {k : ℕ} → present r ns ≡ true → row_index r ns ≡ k → Some k ≡ row_place r ns
+place_found r ns h e = rw (h, e) refl
+
+pub place_missing : (r : ℕ) (ns : List Node) → present r ns ≡ false → None ≡ row_place r ns
+place_missing r ns h = rw h refl
+
+-- what a row k that a search for r among the first n rows found is
+module _ (ws : List ℕ) (n r : ℕ) {k : ℕ} (e : Some k ≡ row_place r (rows_of ws n)) where
+  pub place_there : present r (rows_of ws n) ≡ true
+  place_there = (place_some r (rows_of ws n) e).0
+
+  pub place_index : k ≡ row_index r (rows_of ws n)
+  place_index = (place_some r (rows_of ws n) e).1
+
+  pub place_within : k < n
+  place_within = ltb-true k n (index_there ws n r place_index ∙ place_there)
+
+  pub place_row : find r (rows_of ws n) ≡ row ws k
+  place_row = found_at ws n r place_index place_within
+
+-- a search that stops at the first row that has round r
+pub place_at : {r : ℕ} {ws : List ℕ} {i : ℕ} → Scanned (has_round r) ws i → (n : ℕ) → i < n → (row ws i).round ≡ r → Some i ≡ row_place r (rows_of ws n)
+place_at {r = r} {ws = ws} {i = i} S n h e =
+    let hit : has_round r (row ws i) ≡ true = eq-eqb (row ws i).round r e in
+    let first : row_index r (rows_of ws n) ≡ i =
+    rw (rows_split ws i n h) (index_hit r (rows_of ws i) (rows_from ws (suc i) (n - suc i)) (row ws i) S.none hit ∙ length_rows ws i) in
+    place_found r (rows_of ws n) (scan_hit S n h hit) first
+
+-- with one row more it stays, or is that row's, or no row's
+module _ (ws : List ℕ) (n r : ℕ) {k : Option ℕ} (e : k ≡ row_place r (rows_of ws n)) where
+  there_by : {b : Bool} → is_some k ≡ b → present r (rows_of ws n) ≡ b
+  there_by h = sym (is_some_place r (rows_of ws n)) ∙ ap is_some (sym e) ∙ h
+
+  pub place_kept : is_some k ≡ true → k ≡ row_place r (rows_of ws (n + 1))
+  unfolding rows_of
+  place_kept h =
+      let there = there_by h in
+      let still : present r (rows_of ws (n + 1)) ≡ true = any_more (has_round r) ws n ∙ rw there refl in
+      e ∙ rw there (place_found r (rows_of ws (n + 1)) still (rw add-one (index_left r (rows_of ws n) (row ws n ∷ []) there)))
+
+  pub place_last : is_some k ≡ false → (row ws n).round ≡ r → Some n ≡ row_place r (rows_of ws (n + 1))
+  unfolding rows_of
+  place_last h q =
+      let hit : has_round r (row ws n) ≡ true = eq-eqb (row ws n).round r q in
+      place_found r (rows_of ws (n + 1)) (any_more (has_round r) ws n ∙ rw (there_by h, hit) refl)
+      (rw add-one (index_hit r (rows_of ws n) [] (row ws n) (there_by h) hit ∙ length_rows ws n))
+
+  pub place_past : is_some k ≡ false → ((row ws n).round ≡ r → ⊥) → None ≡ row_place r (rows_of ws (n + 1))
+  place_past h q = place_missing r (rows_of ws (n + 1)) (any_more (has_round r) ws n ∙ rw (there_by h, ne_eqb (row ws n).round r q) refl)
 
 -- counting used rows
 pub used_stop : (ws : List ℕ) (k i : ℕ) → (row ws i).status ≡ FREE → used_from ws k i ≡ i

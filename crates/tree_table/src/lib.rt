@@ -1,12 +1,13 @@
 // The rows of a node table, four 64-bit words a row: round, parent, value, status (01, "The tree"). Their words, searches over them, copies of
-// them, and the test of a value against the parent's.
+// them, and the test of a value against the parent's. A table is words that C lends, so a row is no struct; its first n rows are given by n, and not
+// as a part, so that each promise is of one table.
 #![tactic(auto)]
 
 ghost use Rattle.std.specs.Prelude.{◌≡◌, ◌&&◌, not, ◌∷◌, ◌++◌, ◌+◌, ◌*◌, ◌≤◌, eqb, length, set, take, drop};
 ghost use Rattle.tree_theory.specs.Table.{used, row, rows_of};
-ghost use Rattle.tree_table.specs.Rows.{row_index};
+ghost use Rattle.tree_table.specs.Rows.{row_place};
 
-// The status of a row that no node has taken.
+// Statuses, as words of a table: in lent memory any word may stand, so they are numbers and no enum. FREE is that of a row that no node has taken.
 pub const FREE: u64 = 0;
 
 pub const ADDED: u64 = 1;
@@ -67,11 +68,7 @@ pub fn copy_rows(t: &[u64], to: &mut [u64], n: usize)
     ensures { to.new ≡ take (4 * n) t.now ++ drop (4 * n) to.old }
 {
     let end = 4 * n;
-    let mut word = 0;
-    while word < end {
-        to[word] = t[word];
-        word += 1;
-    }
+    to[0..end].copy_from_slice(&t[0..end]);
 }
 
 // How many rows stand before the first free one.
@@ -79,43 +76,39 @@ pub fn used_rows(t: &[u64]) -> usize
     ensures { result ≡ used t.now }
 {
     let rows = t.len() / 4;
-    let mut i = 0;
-    while i < rows {
+    for i in 0..rows {
         if status_at(t, i) == FREE {
             return i;
         }
-        i += 1;
     }
-    i
+    rows
 }
 
-// The first of the first n rows that has round r; n where none has.
-pub fn find_row(t: &[u64], n: usize, r: u64) -> usize
+// The first of the first n rows that has round r.
+pub fn find_row(t: &[u64], n: usize, r: u64) -> Option<usize>
     requires { 4 * n ≤ length t.now }
-    ensures { result ≡ row_index r (rows_of t.now n) }
+    ensures { result ≡ row_place r (rows_of t.now n) }
 {
-    let mut i = 0;
-    while i < n {
+    for i in 0..n {
         if round_at(t, i) == r {
-            return i;
+            return Some(i);
         }
-        i += 1;
     }
-    i
+    None
 }
 
 // What `find_row` gives with one row more, from what it gives for the first i rows.
-pub fn find_row_more(t: &[u64], i: usize, r: u64, k: usize) -> usize
-    requires { (4 * i + 4 ≤ length t.now) × (k ≡ row_index r (rows_of t.now i)) }
-    ensures { result ≡ row_index r (rows_of t.now (i + 1)) }
+pub fn find_row_more(t: &[u64], i: usize, r: u64, k: Option<usize>) -> Option<usize>
+    requires { (4 * i + 4 ≤ length t.now) × (k ≡ row_place r (rows_of t.now i)) }
+    ensures { result ≡ row_place r (rows_of t.now (i + 1)) }
 {
-    if k < i {
+    if k.is_some() {
         return k;
     }
     if round_at(t, i) == r {
-        return i;
+        return Some(i);
     }
-    i + 1
+    None
 }
 
 // Whether values are compared, the parent p isn't the root, and v is not the parent's value w.

@@ -35,6 +35,11 @@ pub record Tree (valued : Bool) (ws : List ℕ) : Type 0 where
   pub calls : List Call
   pub left : table (length ws) (after valued (rows ws) fresh calls) ≡ ws
 
+-- what the calls on a tree ask of the words that they are lent: a table of an allowed length that is a tree
+pub record TreeTable (valued : Bool) (ws : List ℕ) : Type 0 where
+  pub long : sized ws ≡ true
+  pub tree : Tree valued ws
+
 -- row i of a table, read as a node
 abbrev pub row : List ℕ → ℕ → Node
 row ws i = node_of (get_or ws (4 * i) 0) (get_or ws (4 * i + 1) 0) (get_or ws (4 * i + 2) 0) (get_or ws (4 * i + 3) 0)

@@ -4,13 +4,14 @@ use mathlib.Core.Path.{◌≡◌, refl, sym, ap, ◌∙◌}
 use mathlib.Core.List.Memᴰ
 use mathlib.Core.List.Memᴰ.{head as here}
 use mathlib.Core.List.Memᴰ.{tail as there}
-use mathlib.Core.List.{List, [], ◌∷◌, ◌++◌}
+use mathlib.Core.List.{List, [], ◌∷◌, ◌++◌, append_assoc}
 use mathlib.Core.Logic.{⊎_elim}
-use Prim.Native.Nat.{ℕ, zero, suc, ◌+◌, ◌*◌, ◌/◌, ◌%◌, ◌^◌, ◌≤◌, ◌<◌}
+use Prim.Native.Nat.{ℕ, zero, suc, ◌+◌, ◌-◌, ◌*◌, ◌/◌, ◌%◌, ◌^◌, ◌≤◌, ◌<◌}
 use native.Mathlib.Nat.{min-le_left, pow-le-pow_right, pow-suc, pow-succ', add-mul, mul_assoc, mul-le-mul_right, zero-add}
 use native.Mathlib.Omega.{arith}
-use lib.ListN.{length, take, drop, get_or, set, length-append, length-take, length-drop, take-append-drop}
-use lib.Seq.{take-suc, take_all, take_at, drop_at, length-take-le, take-append-le, drop-append-le, drop-drop, drop-cons, take-add, sets-eq}
+use Rattle.std.specs.Int.{w32, to_be_bytes}
+use lib.ListN.{length, take, drop, get_or, length-append, length-take, length-drop, take-append-drop}
+use lib.Seq.{take-suc, take_all, take_at, drop_at, length-take-le, take-append-le, drop-append-le, drop-drop, drop-cons, take-add}
 use Rattle.laws.specs.Lists.{◌∈◌, in_last, every_snoc}
 use Rattle.laws.specs.Parts.{written_on}
 use Rattle.laws.specs.Widths.{BELOW_64_BITS}
@@ -185,18 +186,14 @@ word_bytes s at h =
     let d3 = drop-cons s (suc (suc (suc at))) 0 (omega arith) in
     rw (e1, e2, e3, d0, d1, d2, d3) (omega arith)
 
--- four stores write a word
-pub word_stored : (l : List ℕ) (at x : ℕ) → at + 4 ≤ length l →
-    set (set (set (set l at (x / 16777216 % 256)) (at + 1) (x / 65536 % 256)) (at + 2) (x / 256 % 256)) (at + 3) (x % 256) ≡ take at l ++ word x
-    ++ drop (at + 4) l
+-- the library's bytes of a word, written over four of a slice
+pub word_stored : (l ys : List ℕ) (at x : ℕ) → ys ≡ to_be_bytes w32 x → take at l ++ (ys ++ drop (at + 4 - at) (drop at l)) ≡ take at l ++ word x ++ drop (at + 4) l
 unfolding word big_endian
-word_stored l at x h =
-    let e1 : at + 1 ≡ suc at = omega arith in
-    let e2 : at + 2 ≡ suc (suc at) = omega arith in
-    let e3 : at + 3 ≡ suc (suc (suc at)) = omega arith in
+word_stored l ys at x e =
+    let four : at + 4 - at ≡ 4 = omega arith in
     let b1 : x / 16777216 ≡ x / 256 / 256 / 256 = omega arith in
     let b2 : x / 65536 ≡ x / 256 / 256 = omega arith in
-    rw (e1, e2, e3, b1, b2) (sets-eq (x / 256 / 256 / 256 % 256 ∷ x / 256 / 256 % 256 ∷ x / 256 % 256 ∷ x % 256 ∷ []) l at h)
+    rw (e, four, b1, b2, drop-drop 4 at l) (sym (append_assoc (take at l) (word x) (drop (at + 4) l)))
 
 -- two words one behind the other write a hyper
 pub hyper_stored : (l m r : List ℕ) (at x : ℕ) → x < BELOW_64_BITS → at + 8 ≤ length l →

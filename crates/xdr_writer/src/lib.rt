@@ -1,9 +1,40 @@
-// The writer of 01, "Messages": it holds the buffer lent for the reply and how far it has got. Each function puts one XDR number.
+// The writer of 01, "Messages": it holds the buffer lent for the reply and how far it has got, and puts XDR numbers one behind another.
 #![tactic(auto)]
 
 ghost use Rattle.std.specs.Prelude.{◌≡◌, ◌+◌, ◌≤◌, length};
-ghost use Rattle.xdr.specs.Items.{integer, long};
+ghost use Rattle.xdr.specs.Items.{Item, integer, long, width};
 ghost use Rattle.xdr_writer.specs.Put.{Puts, putting};
+
+// A number that XDR has: an unsigned integer or an unsigned hyper.
+pub trait Number {
+    // What it is in a layout.
+    ghost item: { Self → Item };
+
+    // Writes it at a place, and answers the place behind it.
+    fn put_at(self, buf: &mut [u8], at: usize) -> usize
+        requires { at + width (item self) ≤ length buf.old }
+        ensures { Puts (item self) buf.old at result buf.new };
+}
+
+impl Number for u32 {
+    ghost item = { integer };
+
+    #[tactic(auto, unfolding(xdr::specs::Items::item_bytes))]
+    fn put_at(self, buf: &mut [u8], at: usize) -> usize {
+        xdr::set_word(buf, at, self);
+        at + 4
+    }
+}
+
+impl Number for u64 {
+    ghost item = { long };
+
+    #[tactic(auto, unfolding(xdr::specs::Items::item_bytes))]
+    fn put_at(self, buf: &mut [u8], at: usize) -> usize {
+        xdr::set_hyper(buf, at, self);
+        at + 8
+    }
+}
 
 // The buffer, and the place of the next number.
 #[derive(Drop)]
@@ -12,48 +43,16 @@ pub struct Writer<'a> {
     pub at: usize,
 }
 
-// Writes an unsigned integer at a place, and answers the place behind it.
-#[tactic(auto, unfolding(xdr::specs::Items::item_bytes))]
-fn word_to(buf: &mut [u8], at: usize, x: u32) -> usize
-    requires { at + 4 ≤ length buf.old }
-    ensures { Puts (integer x) buf.old at result buf.new }
-{
-    xdr::set_word(buf, at, x);
-    at + 4
-}
-
-// Writes an unsigned hyper at a place, and answers the place behind it.
-#[tactic(auto, unfolding(xdr::specs::Items::item_bytes))]
-fn hyper_to(buf: &mut [u8], at: usize, x: u64) -> usize
-    requires { at + 8 ≤ length buf.old }
-    ensures { Puts (long x) buf.old at result buf.new }
-{
-    xdr::set_hyper(buf, at, x);
-    at + 8
-}
-
-// Puts an unsigned integer, and hands the writer back behind it.
-pub fn put_word<'a>(w: Writer<'a>, x: u32) -> Writer<'a>
-    requires { w.at + 4 ≤ length w.buf.now }
-    ensures { result ≡ putting (integer x) w.entry }
-{
-    let at = w.at;
-    let next = word_to(&mut *w.buf, at, x);
-    Writer {
-        buf: w.buf,
-        at: next,
-    }
-}
-
-// Puts an unsigned hyper, and hands the writer back behind it.
-pub fn put_hyper<'a>(w: Writer<'a>, x: u64) -> Writer<'a>
-    requires { w.at + 8 ≤ length w.buf.now }
-    ensures { result ≡ putting (long x) w.entry }
-{
-    let at = w.at;
-    let next = hyper_to(&mut *w.buf, at, x);
-    Writer {
-        buf: w.buf,
-        at: next,
+impl Writer<'_> {
+    // Puts a number, and moves on behind it; the buffer stays the one that was lent, as long as it was.
+    #[tactic(auto, using(crate::proofs::Items::put_length))]
+    pub fn put<T: Number>(&mut self, x: T)
+        requires { self.old.at + width (T.item x) ≤ length self.old.buf.now }
+        ensures put { self.new ≡ putting (T.item x) self.old }
+        ensures same_buffer { self.new.buf.ghost_name ≡ self.old.buf.ghost_name }
+        ensures kept { length self.new.buf.now ≡ length self.old.buf.now }
+    {
+        let at = self.at;
+        self.at = x.put_at(&mut *self.buf, at);
     }
 }

@@ -4,7 +4,4 @@ use Rattle.play_events.specs.List.{exact, body}
 use Rattle.play_events.proofs.events_fill.Given as goal
 
 abbrev pub invariant-loop-k : goal.invariant-loop-k
-invariant-loop-k l = (l.at ≤ length l.list) × (l.k ≤ l.count) × (exact l.count (body l.list) ≡ exact (l.count - l.k) (drop l.at l.list))
-
-abbrev pub decreases-loop-k : goal.decreases-loop-k
-decreases-loop-k l = l.count - l.k
+invariant-loop-k l = (l.at ≤ length l.list) × (exact l.count (body l.list) ≡ exact (l.count - l.k) (drop l.at l.list))

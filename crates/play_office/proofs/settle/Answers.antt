@@ -12,7 +12,7 @@ use Rattle.play_effects.specs.declared.Tally.{Tally}
 use Rattle.play_effects.specs.Memory.{Memory, in_memory}
 use Rattle.play_office.specs.Represents.{AnswerIs, AnswerBefore}
 use Rattle.play_office.proofs.Before.{counts_fit}
-use Rattle.play_office.proofs.Arms.{by_answer, step_keeps, sent_ranged, lent_sized, lent_tree, as_result, refuses, goes_silent, sends_go, proposes_go}
+use Rattle.play_office.proofs.Arms.{by_answer, step_keeps, sent_ranged, lent_tree, refuses, goes_silent, sends_go, proposes_go}
 use Rattle.play_office.proofs.Arms.{decides_go}
 use Rattle.play_office.proofs.settle.Goals as goal
 
@@ -36,7 +36,6 @@ propose-requires c =
     let M = in_memory c.args.messages.now c.args.nodes.now in (
       counts_fit F.before,
       sent_ranged T _ ((step_keeps F.before T).sent_in_range _ (here refl)) F.of_slot c.in_slot-g.ensures,
-      lent_sized M F.before F.e.slot F.lent,
       lent_tree M F.before F.e.slot F.lent,
     )
 
@@ -44,12 +43,12 @@ pub decide-requires : goal.decide-requires
 decide-requires c =
     let F = c.requires in
     let M = in_memory c.args.messages.now c.args.nodes.now in
-    (counts_fit F.before, lent_sized M F.before F.e.slot F.lent, lent_tree M F.before F.e.slot F.lent)
+    (counts_fit F.before, lent_tree M F.before F.e.slot F.lent)
 
 pub returns-in-Refused : goal.returns-in-Refused
 returns-in-Refused c =
     let M = in_memory c.args.messages.now c.args.nodes.now in
-    λ F. as_result c.refused_event.ensures (refuses M F.before F.e F.lent F.m (by_answer F c.in-Refused.is))
+    λ F. refuses M F.before F.e F.lent F.m c.in-Refused.refusal (by_answer F c.in-Refused.is)
 
 pub returns-in-Done : goal.returns-in-Done
 returns-in-Done c =

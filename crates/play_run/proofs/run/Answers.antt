@@ -10,12 +10,15 @@ use Rattle.ids.specs.Ranges.{SLOTS}
 use Rattle.play_events.specs.List.{event_size}
 use Rattle.play_tables.specs.Tables.{StartsAt, length_at, start_of}
 use Rattle.play_tables.proofs.Parts.{lies_within}
+use Rattle.numbers.specs.Numbers.{refusal_number}
+use Rattle.numbers.proofs.Refusals.{refusal_not_ok}
+use Rattle.play_effects.specs.Effects.{EventEffect, accepted_event, refused_event, effect_of}
 use Rattle.play_office.specs.Represents.{table_slot}
 use Rattle.play_office.proofs.Before.{table_below}
 use Rattle.play_run.proofs.Running.{list_parts, bytes_of, running_first, event_before, due, at_next}
-use Rattle.play_run.proofs.Running.{still_fit, settle_before, answer_small, running_next, counts_small, running_ended}
+use Rattle.play_run.proofs.Running.{still_fit, settle_before, running_next, counts_small, running_ended}
 use Rattle.play_run.proofs.run.Goals as goal
-use Rattle.play_run.proofs.run.Goals.{then-w-eq-OK, else-w-eq-OK}
+use Rattle.play_run.proofs.run.Goals.{in-Ok, in-Err}
 
 -- the slot of the table is one of the eight
 low : {t : ℕ} (s : ℕ) → t ≡ table_slot s → t < SLOTS
@@ -60,23 +63,13 @@ overflow_add-to c =
 pub step_event-s-requires : goal.step_event-s-requires
 step_event-s-requires c = event_before c.loop-k.invariant _ _ _ _ c.place-i.ensures c.record_of-m.ensures
 
-pub settle_part-w-requires : goal.settle_part-w-requires
-settle_part-w-requires c =
+pub settle_part-requires : goal.settle_part-requires
+settle_part-requires c =
     let r = c.read_event-r.result in
     let s = c.step_event-s in
     let t = c.table_slot-t in
     settle_before c.loop-k.invariant r.slot r.event c.place-i.ensures _ _ c.record_of-m.ensures s.result s.ensures
     (start_known c.starts_of-starts.ensures r.slot.0 t.ensures) (end_known c.args.lengths.now _ r.slot.0 t.ensures)
-
-pub overflow_cast-answered : goal.overflow_cast-answered
-overflow_cast-answered c =
-    let r = c.read_event-r.result in
-    let s = c.step_event-s in
-    let t = c.table_slot-t in
-    let small : c.settle_part-w.result.number < 256 =
-    answer_small c.loop-k.invariant r.slot r.event c.place-i.ensures _ _ c.record_of-m.ensures s.result s.ensures
-    (start_known c.starts_of-starts.ensures r.slot.0 t.ensures) (end_known c.args.lengths.now _ r.slot.0 t.ensures) c.settle_part-w.ensures in
-    omega arith
 
 pub loop-k-preserved : goal.loop-k-preserved
 loop-k-preserved c =
@@ -84,17 +77,30 @@ loop-k-preserved c =
     let r = c.read_event-r.result in
     let s = c.step_event-s in
     let t = c.table_slot-t in
-    let w = c.settle_part-w in
+    let w = c.settle_part in
     let i = c.place-i.result in
     running_next l.invariant r.slot r.event c.place-i.ensures _ _ c.record_of-m.ensures s.result s.ensures
     (start_known c.starts_of-starts.ensures r.slot.0 t.ensures) (end_known c.args.lengths.now _ r.slot.0 t.ensures)
     w.ensures c.loop-k-test.true (to_end l.at _) c.read_event-r.ensures w.auto.messages w.auto.nodes
-    (elim c.if-w-eq-OK.branch [
-      | then-w-eq-OK b ↦
-          let rounds = b.rounds-is ∙ ap (set l.rounds i) b.rounds_of-left.ensures in
-          let leads = b.leads-is ∙ ap (set l.leads i) b.lead_of-reached.ensures in
-          inl (b.if-w-eq-OK.true, rounds, leads, b.accepted-is)
-      | else-w-eq-OK b ↦ inr (b.if-w-eq-OK.false, b.rounds-is, b.leads-is, b.accepted-is)
+    (elim c.match-settle_part.branch [
+      | in-Ok b ↦
+          let was : effect_of l.tally w.result ≡ accepted_event b.in-Ok.after = ap (effect_of l.tally) b.in-Ok.is in
+          let number = ap (λ (v : EventEffect). v.number) was in
+          let rounds = b.rounds-is ∙ ap (set l.rounds i) b.rounds_of.ensures in
+          let leads = b.leads-is ∙ ap (set l.leads i) b.lead_of.ensures in
+          record {
+            answer_is = b.answered-is ∙ sym number;
+            tally_is = b.tally-is ∙ sym (ap (λ (v : EventEffect). v.tally) was);
+            held = inl (number, rounds, leads, b.accepted-is);
+          }
+      | in-Err b ↦
+          let was : effect_of l.tally w.result ≡ refused_event l.tally (refusal_number b.in-Err.refusal) = ap (effect_of l.tally) b.in-Err.is in
+          let number = ap (λ (v : EventEffect). v.number) was in
+          record {
+            answer_is = b.answered-is ∙ b.from.ensures ∙ sym number;
+            tally_is = b.tally-is ∙ sym (ap (λ (v : EventEffect). v.tally) was);
+            held = inr ((λ q. refusal_not_ok b.in-Err.refusal (sym number ∙ q)), b.rounds-is, b.leads-is, b.accepted-is);
+          }
     ])
 
 pub overflow_cast-result : goal.overflow_cast-result

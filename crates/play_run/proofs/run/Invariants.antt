@@ -1,5 +1,4 @@
 -- After k turns the memory represents the model after k events.
-use Prim.Native.Nat.{◌-◌}
 use Rattle.play_run.specs.Lent.{as_lent}
 use Rattle.play_run.proofs.Running.{Running}
 use Rattle.play_run.proofs.run.Given as goal
@@ -8,6 +7,3 @@ abbrev pub invariant-loop-k : goal.invariant-loop-k
 invariant-loop-k l =
     Running l.fn.list l.fn.lengths (as_lent l.initial.messages l.initial.nodes l.initial.answered) l.count
     (as_lent l.messages l.nodes l.answered) l.rounds l.leads l.tally l.accepted l.at l.k
-
-abbrev pub decreases-loop-k : goal.decreases-loop-k
-decreases-loop-k l = l.count - l.k

@@ -14,9 +14,9 @@ put_nodes-requires c =
     let nodes = c.args.nodes.now in
     rw (lent_part nodes F.slot) (omega (arith, F.room, room_enough nodes F.slot F.words))
 
-pub returns : goal.returns
-returns c =
+pub returns-clause-text : goal.returns-clause-text
+returns-clause-text c =
     let F = c.requires in
     let nodes = c.args.nodes.now in
-    within_wider (ROOM_FOR_NODE * used (table_at rehearsal_lengths nodes c.args.s)) ROOM_FOR_SLOT (rw (lent_part nodes F.slot) at c.put_nodes.ensures)
+    within_wider (ROOM_FOR_NODE * used (table_at rehearsal_lengths nodes c.args.s)) ROOM_FOR_SLOT (rw (lent_part nodes F.slot) at c.put_nodes.ensures.text)
     (room_enough nodes F.slot F.words)

@@ -2,7 +2,6 @@
 use Rattle.std.proofs.Common.{◌≡◌, ◌∙◌, refl, sym, true, false}
 use Rattle.tree_theory.specs.Table.{sized, fresh_number, fresh_table}
 use Rattle.tree_theory.proofs.Steps.{fresh_written}
-use Rattle.tree.proofs.Calling.{four}
 use Rattle.tree.proofs.fresh.Goals as goal
 
 pub returns-then-not-has_table_length : goal.returns-then-not-has_table_length
@@ -10,9 +9,6 @@ unfolding fresh_number fresh_table
 returns-then-not-has_table_length c =
     let e : sized c.args.t.now ≡ false = sym c.has_table_length.ensures ∙ c.if-not-has_table_length.true in
     record { number = rw e refl; left = rw e refl }
-
-pub write_fresh-requires : goal.write_fresh-requires
-write_fresh-requires c = four c.args.t.now (sym c.has_table_length.ensures ∙ c.if-not-has_table_length.false)
 
 pub returns : goal.returns
 unfolding fresh_number

@@ -1,17 +1,18 @@
--- `tree::preview_on_tree`: the plan for the first table is carried out on a copy of it, or, where it is a refusal, on the second as it was.
-use Rattle.tree.proofs.Previewing.{rows_fit, copied, can_write_copy, previewed}
+-- `tree::preview_on_tree`: the plan for the first table is carried out on a copy of it; where it is a refusal, the second stays as it was.
+use Rattle.std.proofs.Common.{rules, ◌≡◌}
+use Rattle.std.specs.Prelude.{Err}
+use Rattle.tree.proofs.Previewing.{copied, refused_on_tree, can_write_copy, previewed}
 use Rattle.tree.proofs.preview_on_tree.Goals as goal
 
-pub copy_rows-requires : goal.copy_rows-requires
-copy_rows-requires c = rows_fit c.args.second.now c.requires c.plan_call-plan.result.number c.rows_to_copy-rows.ensures
+pub returns-in_err-shown : goal.returns-in_err-shown
+returns-in_err-shown c =
+    let e : c.from_residual.result ≡ Err c.in_err-shown.field-0.0 = search rules in
+    refused_on_tree c.requires e c.in_err-shown.ensures.number_is
 
 pub carry_out-requires : goal.carry_out-requires
-carry_out-requires c =
-    can_write_copy c.requires c.plan_call-plan.ensures
-    (copied c.args.second.now c.requires c.plan_call-plan.result.number c.rows_to_copy-rows.ensures c.copy_rows.ensures)
+carry_out-requires c = can_write_copy c.requires c.in_ok-shown.ensures.plan_is (copied c.requires c.copy_rows.ensures)
 
 pub returns : goal.returns
 returns c =
-    previewed c.requires c.plan_call-plan.ensures
-    (copied c.args.second.now c.requires c.plan_call-plan.result.number c.rows_to_copy-rows.ensures c.copy_rows.ensures)
-    c.carry_out.ensures.answer c.carry_out.ensures.left
+    let P = c.in_ok-shown.ensures in
+    previewed c.requires P.plan_is (copied c.requires c.copy_rows.ensures) P.number_is c.carry_out.ensures.ghosts c.carry_out.ensures.left

@@ -1,6 +1,6 @@
 -- `tree_check::rows_fit`: the root's row, one row more, and a row that doesn't fit.
-use Rattle.std.proofs.Common.{sym, ap, not}
-use Rattle.tree_check.proofs.Fits.{fits_root, unfit_root, fits_more, unfit_row, fitted_all}
+use Rattle.std.proofs.Common.{arith, sym, ap, not}
+use Rattle.tree_check.proofs.Fits.{fits_root, unfit_root, fits_more, unfit_row}
 use Rattle.tree_check.proofs.rows_fit.Goals as goal
 
 pub returns-then-not-root_fits : goal.returns-then-not-root_fits
@@ -12,10 +12,7 @@ loop-i-init c = fits_root c.requires.0 c.root_fits.ensures (ap not c.if-not-root
 
 pub returns-then-not-row_fits : goal.returns-then-not-row_fits
 returns-then-not-row_fits c =
-    sym (unfit_row c.loop-i.invariant c.loop-i-test.true c.row_fits.ensures (ap not c.if-not-row_fits.true))
+    sym (unfit_row c.loop-i.invariant (omega arith) c.row_fits.ensures (ap not c.if-not-row_fits.true))
 
 pub loop-i-preserved : goal.loop-i-preserved
-loop-i-preserved c = fits_more c.loop-i.invariant c.loop-i-test.true c.row_fits.ensures (ap not c.if-not-row_fits.false)
-
-pub returns : goal.returns
-returns c = sym (fitted_all c.loop-i.invariant c.loop-i-test.false)
+loop-i-preserved c = fits_more c.loop-i.invariant (omega arith) c.row_fits.ensures (ap not c.if-not-row_fits.false)

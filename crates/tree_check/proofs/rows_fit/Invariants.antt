@@ -1,10 +1,6 @@
 -- `tree_check::rows_fit`: every row passed fits.
-use Rattle.std.proofs.Common.{◌-◌}
 use Rattle.tree_check.proofs.Fits.{Fitted}
 use Rattle.tree_check.proofs.rows_fit.Given as goal
 
 abbrev pub invariant-loop-i : goal.invariant-loop-i
 invariant-loop-i l = Fitted l.valued l.t l.n l.i
-
-abbrev pub decreases-loop-i : goal.decreases-loop-i
-decreases-loop-i l = l.n - l.i

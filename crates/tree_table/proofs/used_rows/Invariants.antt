@@ -1,10 +1,7 @@
 -- `tree_table::used_rows`: counting from row i on gives the same number as counting from the start.
-use Rattle.std.proofs.Common.{◌≡◌, ◌≤◌, ◌-◌, ◌*◌, length}
+use Rattle.std.proofs.Common.{◌≡◌, ◌-◌}
 use Rattle.tree_theory.specs.Table.{used, used_from}
 use Rattle.tree_table.proofs.used_rows.Given as goal
 
 abbrev pub invariant-loop-i : goal.invariant-loop-i
-invariant-loop-i l = (l.i ≤ l.rows) × (4 * l.rows ≤ length l.t) × (used l.t ≡ used_from l.t (l.rows - l.i) l.i)
-
-abbrev pub decreases-loop-i : goal.decreases-loop-i
-decreases-loop-i l = l.rows - l.i
+invariant-loop-i l = used l.t ≡ used_from l.t (l.rows - l.i) l.i

@@ -2,12 +2,12 @@
 use Rattle.member.proofs.Checks.{sent_in_bounds, proposed_in_bounds}
 use Rattle.member_calls.proofs.reply.tell.Goals as goal
 
-pub send-n-requires : goal.send-n-requires
-send-n-requires c =
+pub send-requires : goal.send-requires
+send-requires c =
     let (room, slot, kept) = c.requires in
     (room, slot, sent_in_bounds c.args.s.state c.in-Sent.is kept)
 
-pub send-n-requires-in-Proposed : goal.send-n-requires-in-Proposed
-send-n-requires-in-Proposed c =
+pub send-requires-in-Proposed : goal.send-requires-in-Proposed
+send-requires-in-Proposed c =
     let (room, slot, kept) = c.requires in
     (room, slot, proposed_in_bounds c.args.s.state c.in-Proposed.is kept)

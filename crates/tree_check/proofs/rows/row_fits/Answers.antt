@@ -4,8 +4,9 @@ use borrow.Author.Tests.{lt-ltb, le-ltb}
 use Rattle.tree_theory.specs.Machine.{other_value}
 use Rattle.tree_theory.specs.Table.{row, rows_of}
 use Rattle.tree_theory.specs.Check.{round_fits, parent_fits, value_fits, status_fits, fits}
-use Rattle.tree_table.specs.Rows.{row_index}
-use Rattle.tree_table.proofs.Rows.{found_none, found_there, found_at}
+use Rattle.std.specs.Prelude.{Option, Some, None}
+use Rattle.tree_table.specs.Rows.{row_place}
+use Rattle.tree_table.proofs.Rows.{place_none, place_there, place_within, place_row}
 use Rattle.tree_check.proofs.rows.row_fits.Goals as goal
 
 -- row i of n used rows, whose round fits
@@ -26,53 +27,59 @@ module _ (valued : Bool) (ws : List ℕ) (n i : ℕ) {b : Bool} (eb : b ≡ roun
   unfolding fits
   ranged t = rw (sym eb ∙ t) refl
 
-  -- p is the row's parent, and k where a search of the earlier rows for it ended
-  module _ (t : b ≡ true) {p k : ℕ} (ep : p ≡ (row ws i).parent) (ek : k ≡ row_index p (rows_of ws i)) where
-    sought : k ≡ row_index (row ws i).parent (rows_of ws i)
-    sought = ek ∙ ap (λ q. row_index q (rows_of ws i)) ep
+  -- p is the row's parent
+  module _ (t : b ≡ true) {p : ℕ} (ep : p ≡ (row ws i).parent) where
+    sought : {o : Option ℕ} → o ≡ row_place p (rows_of ws i) → o ≡ row_place (row ws i).parent (rows_of ws i)
+    sought e = e ∙ ap (λ q. row_place q (rows_of ws i)) ep
 
-    gone : i ≤ k → whole ≡ false
-    gone a = ranged t ∙ rw (found_none ws i _ sought a) refl
+    -- no earlier row has it
+    gone : None ≡ row_place p (rows_of ws i) → whole ≡ false
+    gone e = ranged t ∙ rw (place_none (row ws i).parent (rows_of ws i) (sought e)) refl
 
-    not_below : k < i → (row ws i).round ≤ p → whole ≡ false
-    not_below a l = ranged t ∙ rw (found_there ws i _ sought a, le-ltb (row ws i).parent (row ws i).round (omega arith)) refl
+    -- row k is the first that has it
+    module _ {k : ℕ} (ek : Some k ≡ row_place p (rows_of ws i)) where
+      not_below : (row ws i).round ≤ p → whole ≡ false
+      not_below l = ranged t ∙ rw (place_there ws i _ (sought ek), le-ltb (row ws i).parent (row ws i).round (omega arith)) refl
 
-    -- once the parent is known to fit, the rest decides
-    lower : k < i → p < (row ws i).round → whole ≡ rest
-    lower a l = ranged t ∙ rw (found_there ws i _ sought a, lt-ltb (row ws i).parent (row ws i).round (omega arith)) refl
+      -- once the parent is known to fit, the rest decides
+      lower : p < (row ws i).round → whole ≡ rest
+      lower l = ranged t ∙ rw (place_there ws i _ (sought ek), lt-ltb (row ws i).parent (row ws i).round (omega arith)) refl
 
-    -- what a comparison of values with the parent's row says
-    compared : k < i → {v w : ℕ} → v ≡ (row ws i).value → w ≡ (row ws k).value → {d : Bool} → d ≡ (valued && (not (eqb p 0) && not (eqb v w))) →
-        d ≡ (valued && other_value (rows_of ws i) (row ws i).value (row ws i).parent)
-    compared a ev ew ed = rw (found_at ws i _ sought a, ← ep, ← ev, ← ew) ed
+      -- what a comparison of values with the parent's row says
+      compared : {v w : ℕ} → v ≡ (row ws i).value → w ≡ (row ws k).value → {d : Bool} → d ≡ (valued && (not (eqb p 0) && not (eqb v w))) →
+          d ≡ (valued && other_value (rows_of ws i) (row ws i).value (row ws i).parent)
+      compared ev ew ed = rw (place_row ws i _ (sought ek), ← ep, ← ev, ← ew) ed
 
 pub returns-then-not-round_fits : goal.returns-then-not-round_fits
 returns-then-not-round_fits c =
     sym (unranged c.args.valued c.args.t.now c.args.n c.args.i c.round_fits.ensures c.if-not-round_fits.true)
 
-pub returns-then-i-k : goal.returns-then-i-k
-returns-then-i-k c =
+pub returns-in_default : goal.returns-in_default
+returns-in_default c =
     sym (gone c.args.valued c.args.t.now c.args.n c.args.i c.round_fits.ensures c.if-not-round_fits.false
-    c.parent_at-p.ensures c.find_row-k.ensures c.if-i-k.true)
+    c.parent_at-p.ensures (sym c.in_default.is ∙ c.find_row.ensures))
+
+pub value_at-requires-2 : goal.value_at-requires-2
+value_at-requires-2 c = omega (arith, place_within c.args.t.now c.args.i c.parent_at-p.result (sym c.in-Some.is ∙ c.find_row.ensures))
 
 pub returns-then-round_at-p : goal.returns-then-round_at-p
 returns-then-round_at-p c =
     sym (not_below c.args.valued c.args.t.now c.args.n c.args.i c.round_fits.ensures c.if-not-round_fits.false
-    c.parent_at-p.ensures c.find_row-k.ensures c.if-i-k.false (omega (arith, c.if-round_at-p.true)))
+    c.parent_at-p.ensures (sym c.in-Some.is ∙ c.find_row.ensures) (omega (arith, c.if-round_at-p.true)))
 
 pub returns-then-other_value : goal.returns-then-other_value
 returns-then-other_value c =
     let a = c.args in
-    let same = compared a.valued a.t.now a.n a.i c.round_fits.ensures c.if-not-round_fits.false c.parent_at-p.ensures c.find_row-k.ensures
-    c.if-i-k.false c.value_at.ensures c.value_at-2.ensures c.other_value.ensures in
-    sym (lower a.valued a.t.now a.n a.i c.round_fits.ensures c.if-not-round_fits.false c.parent_at-p.ensures c.find_row-k.ensures
-    c.if-i-k.false (omega (arith, c.if-round_at-p.false)) ∙ rw (← same, c.if-other_value.true) refl)
+    let same = compared a.valued a.t.now a.n a.i c.round_fits.ensures c.if-not-round_fits.false c.parent_at-p.ensures (sym c.in-Some.is ∙ c.find_row.ensures)
+    c.value_at.ensures c.value_at-2.ensures c.other_value.ensures in
+    sym (lower a.valued a.t.now a.n a.i c.round_fits.ensures c.if-not-round_fits.false c.parent_at-p.ensures (sym c.in-Some.is ∙ c.find_row.ensures)
+    (omega (arith, c.if-round_at-p.false)) ∙ rw (← same, c.if-other_value.true) refl)
 
 pub returns : goal.returns
 returns c =
     let a = c.args in
-    let same = compared a.valued a.t.now a.n a.i c.round_fits.ensures c.if-not-round_fits.false c.parent_at-p.ensures c.find_row-k.ensures
-    c.if-i-k.false c.value_at.ensures c.value_at-2.ensures c.other_value.ensures in
+    let same = compared a.valued a.t.now a.n a.i c.round_fits.ensures c.if-not-round_fits.false c.parent_at-p.ensures (sym c.in-Some.is ∙ c.find_row.ensures)
+    c.value_at.ensures c.value_at-2.ensures c.other_value.ensures in
     c.status_fits.ensures ∙
-    sym (lower a.valued a.t.now a.n a.i c.round_fits.ensures c.if-not-round_fits.false c.parent_at-p.ensures c.find_row-k.ensures
-    c.if-i-k.false (omega (arith, c.if-round_at-p.false)) ∙ rw (← same, c.if-other_value.false) refl)
+    sym (lower a.valued a.t.now a.n a.i c.round_fits.ensures c.if-not-round_fits.false c.parent_at-p.ensures (sym c.in-Some.is ∙ c.find_row.ensures)
+    (omega (arith, c.if-round_at-p.false)) ∙ rw (← same, c.if-other_value.false) refl)

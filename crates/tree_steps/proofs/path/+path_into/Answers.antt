@@ -1,15 +1,16 @@
 -- `tree_steps::path::path_into`: the root's path stands there or has no room, and else the parent's path, with the round behind it.
 use Rattle.std.proofs.Common.{arith, ◌≡◌, ◌∙◌, sym, ap, ◌<◌, ℕ, List}
+use Rattle.std.specs.Prelude.{Some}
 use Rattle.tree_theory.specs.Machine.{Node, find}
 use Rattle.tree_theory.specs.Table.{row, rows_of, nodes}
 use Rattle.tree_theory.proofs.Words.{used_rows}
-use Rattle.tree_table.specs.Rows.{row_index}
+use Rattle.tree_table.specs.Rows.{row_place}
 use Rattle.tree_steps.specs.Climbed.{PathOf}
 use Rattle.tree_steps.proofs.Climbing.{root_short, root_written, row_found, parent_lower, parent_of, climbed_short, climbed}
 use Rattle.tree_steps.proofs.path.+path_into.Goals as goal
 
 -- what was read in the row found is the parent of r
-parent_is : {ws : List ℕ} {n r behind : ℕ} (P : PathOf ws n r behind) → 0 < r → {k p : ℕ} → k ≡ row_index r (rows_of ws n) → p ≡ (row ws k).parent →
+parent_is : {ws : List ℕ} {n r behind : ℕ} (P : PathOf ws n r behind) → 0 < r → {k p : ℕ} → Some k ≡ row_place r (rows_of ws n) → p ≡ (row ws k).parent →
     p ≡ (find r (nodes ws)).parent
 parent_is P pos ek ep = ep ∙ ap (λ (n : Node). n.parent) (sym (row_found P pos ek).1)
 
@@ -25,20 +26,22 @@ find_row-requires t c = omega (arith, c.requires.rows_are, used_rows c.args.t.no
 pub parent_at-parent-requires : goal.parent_at-parent-requires
 parent_at-parent-requires t c =
     let pos : 0 < c.args.r = omega (arith, c.if-r-eq0.false) in
-    omega (arith, (row_found c.requires pos c.find_row.ensures).0, used_rows c.args.t.now)
+    omega (arith, (row_found c.requires pos c.in_ok-row.ensures).0, used_rows c.args.t.now)
 
-pub path_into-k-requires : goal.path_into-k-requires
-path_into-k-requires t c =
+pub path_into-requires : goal.path_into-requires
+path_into-requires t c =
     let pos : 0 < c.args.r = omega (arith, c.if-r-eq0.false) in
-    let e = parent_is c.requires pos c.find_row.ensures c.parent_at-parent.ensures in
+    let e = parent_is c.requires pos c.in_ok-row.ensures c.parent_at-parent.ensures in
     (rw (← c.decreases) (parent_lower c.requires pos e), parent_of c.requires pos e)
 
-pub returns-then-k-eq0 : goal.returns-then-k-eq0
-returns-then-k-eq0 t c =
+pub returns-in_err-k : goal.returns-in_err-k
+returns-in_err-k t c =
     let pos : 0 < c.args.r = omega (arith, c.if-r-eq0.false) in
-    climbed_short c.requires pos (parent_is c.requires pos c.find_row.ensures c.parent_at-parent.ensures) c.path_into-k.ensures c.if-k-eq0.true
+    let e = parent_is c.requires pos c.in_ok-row.ensures c.parent_at-parent.ensures in
+    rw c.from_residual-in_err-k.ensures (climbed_short c.requires pos e c.path_into.ensures c.in_err-k.was)
 
 pub returns : goal.returns
 returns t c =
     let pos : 0 < c.args.r = omega (arith, c.if-r-eq0.false) in
-    climbed c.requires pos (parent_is c.requires pos c.find_row.ensures c.parent_at-parent.ensures) c.path_into-k.ensures c.if-k-eq0.false
+    let e = parent_is c.requires pos c.in_ok-row.ensures c.parent_at-parent.ensures in
+    climbed c.requires pos e c.path_into.ensures c.in_ok-k.was

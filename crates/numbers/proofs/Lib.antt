@@ -1,0 +1,2 @@
+-- What the numbers of refusals are.
+pub mod Refusals
