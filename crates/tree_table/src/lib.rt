@@ -68,7 +68,10 @@ pub fn copy_rows(t: &[u64], to: &mut [u64], n: usize)
     ensures { to.new ≡ take (4 * n) t.now ++ drop (4 * n) to.old }
 {
     let end = 4 * n;
-    to[0..end].copy_from_slice(&t[0..end]);
+    // Word by word: `copy_from_slice` asks the host for `memmove`.
+    for word in 0..end {
+        to[word] = t[word];
+    }
 }
 
 // How many rows stand before the first free one.
