@@ -1,14 +1,13 @@
 // The reader of messages (01, "Messages"; 02, ticket 6).
 #![tactic(auto)]
 
-ghost use Rattle.std.specs.Prelude.{◌≡◌, false, ◌+◌, ◌≤◌, length, take, MatchResult, eqb};
-ghost use Rattle.numbers.specs.Numbers.{refusal_number};
+ghost use Rattle.std.specs.Prelude.{◌≡◌, ◌&&◌, false, ◌+◌, ◌≤◌, length, take, eqb};
 ghost use Rattle.ids.specs.Ranges.{no_slot};
-ghost use Rattle.message.specs.Layout.{JOIN_KIND, no_kind, kind_end, head_length, join_length, longest_message};
+ghost use Rattle.message.specs.Layout.{JOIN_KIND, kind_end, head_length, join_length, longest_message};
 ghost use Rattle.message.specs.Layout.{message_slot, kind_in, round_in, message_sender, presence_in};
-ghost use Rattle.message.specs.Kinds.{KindShown};
-ghost use Rattle.message.specs.Answers.{read_of, Refused};
-ghost use Rattle.message.specs.Reading.{size, decoded_body, wrong_presence, other_slot, told_reading, ReaderGives};
+ghost use Rattle.message.specs.Kinds.{kind_number, KindShown};
+ghost use Rattle.message.specs.Answers.{read_of};
+ghost use Rattle.message.specs.Reading.{size, is_join, decoded_body, wrong_presence, other_slot, told_reading, ReaderGives};
 
 use ids::{Member, Round, Slot};
 use message::{
@@ -58,18 +57,20 @@ fn has_vote(s: &[u8]) -> bool
     xdr::word_at(s, PRESENCE_PLACE) == 1
 }
 
-// What the message says that bytes of the length of their kind spell.
+// What the message says that bytes of this kind and of its length spell; `voted` says whether it is a JOIN that carries a vote. It is made part of each place
+// of call, for speed: what is known there of kind and vote isn't looked at again.
 #[tactic(auto, unfolding(message::specs::Reading::decoded_body), using(message::proofs::Checks::size_least, message::proofs::Checks::size_join_least, message::proofs::Checks::size_join_voted, message::proofs::Checks::size_propose))]
-fn decode_body(s: &[u8]) -> Body
-    requires { length s.now ≡ size s.now }
+#[inline(always)]
+fn decode_as(kind: Kind, voted: bool, s: &[u8]) -> Body
+    requires { KindShown kind (kind_in s.now) × (voted ≡ (is_join s.now && eqb (presence_in s.now) 1)) × (length s.now ≡ size s.now) }
     ensures { result ≡ decoded_body s.now }
 {
     let round = round_at(s, ROUND_PLACE);
     let sender = sender_of(s);
-    match kind_of(s) {
+    match kind {
         Kind::Start => Body::Start { round, sender },
         Kind::Join => {
-            if has_vote(s) {
+            if voted {
                 Body::JoinVoted {
                     round,
                     sender,
@@ -87,6 +88,17 @@ fn decode_body(s: &[u8]) -> Body
         },
         Kind::Vote => Body::Vote { round, sender },
     }
+}
+
+// What bytes of the length of their kind spell.
+#[tactic(auto, using(message::proofs::Checks::size_least, message::proofs::Checks::size_join_least))]
+fn decode_body(s: &[u8]) -> Body
+    requires { length s.now ≡ size s.now }
+    ensures { result ≡ decoded_body s.now }
+{
+    let kind = kind_of(s);
+    let voted = kind == Kind::Join && has_vote(s);
+    decode_as(kind, voted, s)
 }
 
 // The length of the message at the front of bytes that tell its kind, and its presence if it is a JOIN.
@@ -126,36 +138,18 @@ pub fn body_front(s: &[u8]) -> Body
     decode_body(&s[..n])
 }
 
-// The presence word of a JOIN has to be there before it is looked at, and it is 0 or 1.
-#[tactic(auto, using(message::proofs::Checks::join_short, message::proofs::Checks::join_neither))]
-fn check_presence(s: &[u8]) -> Result<(), Refusal>
-    requires { (kind_end ≤ length s.now) × (no_kind (kind_in s.now) ≡ false) }
-    ensures { MatchResult result
-        (λ _. (wrong_presence s.now ≡ false) × (kind_in s.now ≡ JOIN_KIND → join_length ≤ length s.now))
-        (λ e. Refused (refusal_number e) ≡ told_reading false s.now) }
-{
-    if kind_of(s) == Kind::Join {
-        if s.len() < JOIN_LENGTH {
-            return Err(Refusal::MessageLength);
-        }
-        if 1 < xdr::word_at(s, PRESENCE_PLACE) {
-            return Err(Refusal::MessageField);
-        }
-    }
-    Ok(())
-}
-
-// Reads bytes whose slot isn't refused and whose kind is one of the four.
+// Reads bytes whose kind and presence are right, and tell that they are so many. It is made part of each place of call, as `decode_as`.
+#[inline(always)]
 #[tactic(auto, using(message::proofs::Checks::four_kinds, message::proofs::Checks::wrong_size, message::proofs::Checks::field_refused, message::proofs::Checks::all_right))]
-fn read_kind(s: &[u8]) -> Result<Message, Refusal>
-    requires { (kind_end ≤ length s.now) × (no_kind (kind_in s.now) ≡ false) }
+fn read_sized(kind: Kind, voted: bool, s: &[u8], told: usize) -> Result<Message, Refusal>
+    requires { (kind_end ≤ length s.now) × (kind_in s.now ≡ kind_number kind) × (voted ≡ (is_join s.now && eqb (presence_in s.now) 1))
+        × (wrong_presence s.now ≡ false) × (kind_in s.now ≡ JOIN_KIND → join_length ≤ length s.now) × (told ≡ size s.now) }
     ensures { read_of result ≡ told_reading false s.now }
 {
-    check_presence(s)?;
-    if s.len() != message_size(s) {
+    if s.len() != told {
         return Err(Refusal::MessageLength);
     }
-    let body = decode_body(s);
+    let body = decode_as(kind, voted, s);
     if !body.fields_in_range() {
         return Err(Refusal::MessageField);
     }
@@ -163,6 +157,36 @@ fn read_kind(s: &[u8]) -> Result<Message, Refusal>
         slot: slot_of(s),
         body,
     })
+}
+
+// Reads a JOIN. Its presence word has to be there before it is looked at, and is 0 or 1.
+#[tactic(auto, using(message::proofs::Checks::join_short, message::proofs::Checks::join_neither, message::proofs::Checks::size_join, message::proofs::Checks::size_join_voted))]
+fn read_join(s: &[u8]) -> Result<Message, Refusal>
+    requires { (kind_end ≤ length s.now) × (kind_in s.now ≡ JOIN_KIND) }
+    ensures { read_of result ≡ told_reading false s.now }
+{
+    if s.len() < JOIN_LENGTH {
+        return Err(Refusal::MessageLength);
+    }
+    match xdr::word_at(s, PRESENCE_PLACE) {
+        0 => read_sized(Kind::Join, false, s, JOIN_LENGTH),
+        1 => read_sized(Kind::Join, true, s, JOIN_VOTED_LENGTH),
+        _ => Err(Refusal::MessageField),
+    }
+}
+
+// Reads bytes whose slot isn't refused and whose kind is this.
+#[tactic(auto, using(message::proofs::Checks::size_propose, message::proofs::Checks::size_other))]
+fn read_kind(kind: Kind, s: &[u8]) -> Result<Message, Refusal>
+    requires { (kind_end ≤ length s.now) × (kind_in s.now ≡ kind_number kind) }
+    ensures { read_of result ≡ told_reading false s.now }
+{
+    match kind {
+        Kind::Start => read_sized(Kind::Start, false, s, HEAD_LENGTH),
+        Kind::Join => read_join(s),
+        Kind::Propose => read_sized(Kind::Propose, false, s, PROPOSE_LENGTH),
+        Kind::Vote => read_sized(Kind::Vote, false, s, HEAD_LENGTH),
+    }
 }
 
 // Reads bytes that tell slot and kind; `wrong` says whether their slot is refused.
@@ -175,8 +199,8 @@ fn read_told(wrong: bool, s: &[u8]) -> Result<Message, Refusal>
         return Err(Refusal::WrongSlot);
     }
     // The kind is looked at behind the slot.
-    Kind::try_from(xdr::word_at(s, KIND_PLACE))?;
-    read_kind(s)
+    let kind = Kind::try_from(xdr::word_at(s, KIND_PLACE))?;
+    read_kind(kind, s)
 }
 
 // Reads any bytes of any length: the message that they are, or the number that comes first.
