@@ -1,4 +1,4 @@
--- A message's row says its step: `on_message`, which counts JOIN and VOTE at one place, goes by it. Assumes nothing.
+-- A message's row says its step: `on_message`, which counts JOIN and VOTE at one place, promises both. Assumes nothing.
 use Rattle.std.proofs.Common.{◌≡◌, refl}
 use Rattle.message.specs.declared.Body.{Body}
 use Rattle.message.specs.declared.Body.TheVariants.{Start, Join, JoinVoted, Propose, Vote}

@@ -5,6 +5,7 @@ ghost use Rattle.numbers.specs.Numbers.{refusal_number};
 ghost use Rattle.member_rules.specs.Causes.{start_call_causes, START_causes, count_causes, PROPOSE_causes};
 ghost use Rattle.member.specs.Table.{refused, sends, unless, start_call_row, START_row, complete, proposes, decides, completes};
 ghost use Rattle.member.specs.Table.{count_row, PROPOSE_row, delivers, sound_step};
+ghost use Rattle.member.specs.ByRow.{row_of, by_row};
 ghost use Rattle.member.specs.Answers.{move_outcome};
 
 use crate::{Move, StepAnswer};
@@ -159,11 +160,13 @@ fn on_propose(m: MemberState, r: Round, s: Member, v: u64) -> Move
     }
 }
 
-// Any message. JOIN and VOTE are counted at one place of call, for speed: the compiler makes a function part of its caller where that is its only one.
-#[tactic(auto, unfolding(crate::specs::Table::sound_step, crate::specs::Table::step_causes, crate::specs::Table::step_row))]
+// Any message: the step of the table, which is that of the message's row. JOIN and VOTE are counted at one place of call, for speed: the compiler makes a
+// function part of its caller where that is its only one.
+#[tactic(auto, unfolding(crate::specs::Table::sound_step, crate::specs::Table::step_causes, crate::specs::Table::step_row, crate::specs::ByRow::row_of, crate::specs::ByRow::taking))]
 pub fn on_message(m: MemberState, g: Body) -> Move
     requires { (1 ≤ m.who.n) × (m.who.n ≤ 7) }
-    ensures { move_outcome result ≡ sound_step m (delivers g) }
+    ensures step { move_outcome result ≡ sound_step m (delivers g) }
+    ensures row { move_outcome result ≡ by_row m g (row_of g) }
 {
     let (phase, taken, round, sender) = match g {
         Body::Start { round, sender } => return on_start(m, round, sender),

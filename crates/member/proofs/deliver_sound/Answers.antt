@@ -12,4 +12,4 @@ pub returns : goal.returns
 returns c =
     let e = delivers c.args.g in
     let seven : length c.args.m.lead.flags ≡ 7 = omega arith in
-    step_of_move c.args.m e c.step_of.ensures c.on_message.ensures (step_kept c.args.m e seven c.requires.0 c.requires.1)
+    step_of_move c.args.m e c.step_of.ensures c.on_message.ensures.step (step_kept c.args.m e seven c.requires.0 c.requires.1)
