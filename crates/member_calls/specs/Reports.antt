@@ -1,13 +1,20 @@
 -- What a call's result says, and what it leaves of the record and of the reply (01, "Members"; 02, ticket 6).
-use Rattle.std.specs.Prelude.{◌≡◌, List, [], ◌∷◌, ℕ}
+use Rattle.std.specs.Prelude.{◌≡◌, List, [], ◌∷◌, Result, Ok, Err, ℕ}
 use Rattle.ids.specs.declared.Slot.{Slot}
 use Rattle.message.specs.declared.Body.{Body}
 use Rattle.message.specs.Layout.{in_slot, byte_count}
 use Rattle.message.specs.Writing.{in_front}
 use Rattle.member_record.specs.declared.MemberState.{MemberState}
 use Rattle.member_record.specs.Record.{round_number}
-use Rattle.member.specs.Table.{Named, nothing, proposal, decision, Outcome}
+use Rattle.member.specs.declared.StepAnswer.{StepAnswer}
+use Rattle.member.specs.Table.{Named, nothing, proposal, decision, Outcome, refused}
+use Rattle.member.specs.Answers.{answer_outcome}
 use Rattle.member_calls.specs.declared.reply.Report.{Report}
+
+-- what is told of the record after: the answer of a step, or a refusal with any number
+abbrev pub told_outcome : MemberState → Result StepAnswer ℕ → Outcome
+told_outcome m (Ok a) = answer_outcome m a
+told_outcome m (Err k) = refused k m
 
 -- the sent length; 0 if nothing is sent
 abbrev pub reply_length : List Body → ℕ

@@ -53,7 +53,8 @@ pub fn start_into(m: MemberState, r: Round, offer: u64, reply: &mut [u8]) -> Aft
     if let Err(refusal) = check_record(m, reply.len()) {
         return refuse(m, u32::from(refusal));
     }
-    tell(m.who.slot, start_sound(m, r, offer), reply)
+    let started = start_sound(m, r, offer);
+    tell(m.who.slot, started.state, Ok(started.answer), reply)
 }
 
 // Delivery of the message that bytes are: 32 unless it is of the record's slot.
@@ -65,7 +66,10 @@ pub fn deliver_into(m: MemberState, bytes: &[u8], reply: &mut [u8]) -> AfterCall
         return refuse(m, u32::from(refusal));
     }
     match read_own_message(m.who.slot, bytes) {
-        Ok(g) => tell(m.who.slot, deliver_sound(m, g.body), reply),
+        Ok(g) => {
+            let delivered = deliver_sound(m, g.body);
+            tell(m.who.slot, delivered.state, Ok(delivered.answer), reply)
+        }
         Err(refusal) => refuse(m, u32::from(refusal)),
     }
 }

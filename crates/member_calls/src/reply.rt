@@ -4,12 +4,11 @@ ghost use Rattle.ids.specs.Ranges.{no_slot};
 ghost use Rattle.message.specs.Fields.{in_range};
 ghost use Rattle.message.specs.Layout.{longest_message};
 ghost use Rattle.member.specs.Table.{refused};
-ghost use Rattle.member.specs.Answers.{step_outcome};
 ghost use Rattle.member.specs.Kept.{Kept};
-ghost use Rattle.member_calls.specs.Reports.{reply_length, reply_after, LeavesReport, LeavesReply};
+ghost use Rattle.member_calls.specs.Reports.{told_outcome, reply_length, reply_after, LeavesReport, LeavesReply};
 
 use ids::{Round, Slot};
-use member::{MemberStep, StepAnswer};
+use member::StepAnswer;
 use member_record::MemberState;
 use message::{Body, Message};
 use message_writer::write_message;
@@ -64,14 +63,24 @@ fn send(slot: Slot, g: Body, reply: &mut [u8]) -> usize
     write_message(Message { slot, body: g }, reply).unwrap()
 }
 
-// The result of a step, and what it sends in this slot. As a call of its own it costs a member call some 130 instructions, since the step is handed on in memory.
+// The result of an answer, and what it sends in this slot, beside the record after: Ok is a step's, Err a refusal with any number, since a report has C's.
+// As a call of its own it costs a member call some 130 instructions, since the step is handed on in memory.
 #[inline(always)]
-pub fn tell(slot: Slot, s: MemberStep, reply: &mut [u8]) -> AfterCall
-    requires { (longest_message ≤ length reply.old) × (no_slot slot.0 ≡ false) × Kept (step_outcome s) }
-    ensures { LeavesReply slot (step_outcome s) reply.old result.state result.report reply.new }
+pub fn tell(
+    slot: Slot,
+    state: MemberState,
+    answer: Result<StepAnswer, u32>,
+    reply: &mut [u8],
+) -> AfterCall
+    requires { (longest_message ≤ length reply.old) × (no_slot slot.0 ≡ false) × Kept (told_outcome state answer) }
+    ensures { LeavesReply slot (told_outcome state answer) reply.old result.state result.report reply.new }
 {
-    let report = match s.answer {
-        StepAnswer::Refused(refusal) => return refuse(s.state, u32::from(refusal)),
+    let answer = match answer {
+        Ok(answer) => answer,
+        Err(number) => return refuse(state, number),
+    };
+    let report = match answer {
+        StepAnswer::Refused(refusal) => return refuse(state, u32::from(refusal)),
         StepAnswer::Sent(g) => Report {
             sent: send(slot, g, reply),
             ..NOTHING
@@ -95,8 +104,5 @@ pub fn tell(slot: Slot, s: MemberStep, reply: &mut [u8]) -> AfterCall
             ..NOTHING
         },
     };
-    AfterCall {
-        state: s.state,
-        report,
-    }
+    AfterCall { state, report }
 }

@@ -5,9 +5,9 @@ use Rattle.member_calls.proofs.reply.tell.Goals as goal
 pub send-requires : goal.send-requires
 send-requires c =
     let (room, slot, kept) = c.requires in
-    (room, slot, sent_in_bounds c.args.s.state c.in-Sent.is kept)
+    (room, slot, sent_in_bounds c.args.state c.in-Sent.is (rw c.in-Ok.is at kept))
 
 pub send-requires-in-Proposed : goal.send-requires-in-Proposed
 send-requires-in-Proposed c =
     let (room, slot, kept) = c.requires in
-    (room, slot, proposed_in_bounds c.args.s.state c.in-Proposed.is kept)
+    (room, slot, proposed_in_bounds c.args.state c.in-Proposed.is (rw c.in-Ok.is at kept))
