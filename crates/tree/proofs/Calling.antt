@@ -8,10 +8,7 @@ use native.Mathlib.Omega.{arith}
 use lib.Dec.{eqb}
 use borrow.Author.Tests.{eq-eqb, ne_eqb, not-false}
 use Rattle.laws.specs.First.{first, first_front, passed}
-use Rattle.std.specs.Prelude.{Result, Err}
-use Rattle.numbers.specs.declared.Refusal.{Refusal}
-use Rattle.numbers.specs.Numbers.{OK, refusal_number, number_of}
-use Rattle.numbers.proofs.Refusals.{refusal_not_ok}
+use Rattle.numbers.specs.Numbers.{OK}
 use Rattle.tree_theory.specs.Machine.{Call, answer, causes}
 use Rattle.tree_theory.specs.Table.{rows, nodes, sized, table, Tree, TreeTable, is_tree, table_causes, call_number}
 use Rattle.tree_theory.proofs.History.{step_ok, step_refused}
@@ -20,22 +17,20 @@ use Rattle.tree_theory.proofs.Steps.{step_tree, tree_number, tree_table, table_r
 use Rattle.tree_theory.proofs.Ghosts.{none_refused, table_none, tree_few, tree_ghosts}
 use Rattle.tree_steps.specs.declared.call.Plan.{Plan}
 use Rattle.tree_steps.specs.Planned.{call_written, PlanMakes}
-use Rattle.tree.specs.Promises.{stepped_table, CountedOnTable, CountedOnTree, counted_of}
+use Rattle.tree.specs.Promises.{stepped_table, CountedOnTable, CountedOnTree}
 use Rattle.tree.specs.Carried.{CanWrite}
 
 module _ {valued : Bool} {ws : List ℕ} (W : TreeTable valued ws) {c : Call} where
   -- a refused call leaves the table, and makes none GHOST
-  pub refused : {answered : Result ℕ Refusal} {e : Refusal} → answered ≡ Err e → refusal_number e ≡ answer valued (rows ws) (nodes ws) c →
-      CountedOnTree valued ws c (number_of answered) (counted_of answered) ws
-  refused {e = e} q n =
-      let t : eqb (answer valued (rows ws) (nodes ws) c) OK ≡ false = ne_eqb _ _ (λ z. refusal_not_ok e (n ∙ z)) in
+  pub refused : {number : ℕ} → number ≡ answer valued (rows ws) (nodes ws) c → (number ≡ OK → ⊥) → CountedOnTree valued ws c number 0 ws
+  refused n z =
+      let t : eqb (answer valued (rows ws) (nodes ws) c) OK ≡ false = ne_eqb _ _ (λ q. z (n ∙ q)) in
       let w : ws ≡ stepped_table valued ws c =
       (tree_held valued ws W.long W.tree).whole ∙ ap (table (length ws)) (sym (step_refused valued (rows ws) (nodes ws) c t)) in
-      rw q
-      (record {
+      record {
         called = record { number_is = n; table_is = w; tree = W.tree };
         ghosts_are = sym (none_refused valued (rows ws) (nodes ws) c t);
-      })
+      }
 
   module _ {plan : Plan} (M : PlanMakes valued ws c plan) where
     -- a plan can be written into its own table, and no more are struck than a table has rows
@@ -63,18 +58,16 @@ module _ (valued : Bool) (ws : List ℕ) where
   pub tree_there : OK ≡ first (table_causes valued ws) → TreeTable valued ws
   tree_there e = let (s, t) = table_passed e in record { long = s; tree = (is_tree_exact valued ws s).0 t }
 
-  pub table_refuses : (c : Call) {answered : Result ℕ Refusal} {e : Refusal} → answered ≡ Err e → refusal_number e ≡ first (table_causes valued ws) →
-      CountedOnTable valued ws c (number_of answered) (counted_of answered) ws
+  pub table_refuses : (c : Call) {number : ℕ} → number ≡ first (table_causes valued ws) → (number ≡ OK → ⊥) → CountedOnTable valued ws c number 0 ws
   unfolding call_number
-  table_refuses c {e = e} q f =
-      let n : refusal_number e ≡ call_number valued ws c =
-      f ∙ sym (first_front (table_causes valued ws) (causes valued (rows ws) (nodes ws) c) (λ z. refusal_not_ok e (f ∙ z))) in
-      let t : eqb (call_number valued ws c) OK ≡ false = ne_eqb _ _ (λ z. refusal_not_ok e (n ∙ z)) in
-      rw q
-      (record {
+  table_refuses c {number = number} e z =
+      let n : number ≡ call_number valued ws c =
+      e ∙ sym (first_front (table_causes valued ws) (causes valued (rows ws) (nodes ws) c) (λ q. z (e ∙ q))) in
+      let t : eqb (call_number valued ws c) OK ≡ false = ne_eqb _ _ (λ q. z (n ∙ q)) in
+      record {
         called = record { number_is = n; table_is = sym (table_refused valued ws c t) };
         ghosts_are = sym (table_none valued ws c t);
-      })
+      }
 
 pub of_tree : {valued : Bool} {ws : List ℕ} {c : Call} {number ghosts : ℕ} {ws' : List ℕ} → TreeTable valued ws →
     CountedOnTree valued ws c number ghosts ws' → CountedOnTable valued ws c number ghosts ws'

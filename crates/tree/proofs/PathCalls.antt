@@ -10,11 +10,8 @@ use borrow.Author.Tests.{ne_eqb}
 use Rattle.laws.specs.Tests.{by_test, tests}
 use Rattle.laws.specs.First.{first, first_front}
 use Rattle.ids.specs.Ranges.{above_range}
-use Rattle.std.specs.Prelude.{Option, Some, None, Result, Err}
-use Rattle.numbers.specs.declared.Refusal.{Refusal}
-use Rattle.numbers.specs.declared.Refusal.TheVariants.{RoundRange, RoundAbsent, PathTooLong}
-use Rattle.numbers.proofs.Refusals.{refusal_not_ok}
-use Rattle.numbers.specs.Numbers.{refusal_number, number_of, OK, ROUND_RANGE, ROUND_ABSENT, PATH_TOO_LONG}
+use Rattle.std.specs.Prelude.{Option, Some, None}
+use Rattle.numbers.specs.Numbers.{OK, ROUND_RANGE, ROUND_ABSENT, PATH_TOO_LONG}
 use Rattle.tree_theory.specs.Machine.{present, path}
 use Rattle.tree_theory.specs.Table.{MOST_WORDS, rows, used, nodes, sized, Tree, is_tree, table_causes, path_causes, path_number, path_count, path_slice}
 use Rattle.tree_theory.proofs.Words.{length_rows, used_rows}
@@ -22,34 +19,31 @@ use Rattle.tree_theory.proofs.Paths.{path_length}
 use Rattle.tree_theory.proofs.Trees.{sized_bounds, tree_held, is_tree_exact}
 use Rattle.tree_steps.specs.Climbed.{PathOf, PathWritten}
 use Rattle.tree.proofs.Calling.{table_passed}
-use Rattle.tree.specs.Promises.{PathGiven, counted_of}
+use Rattle.tree.specs.Promises.{PathGiven}
 
 short_table : (ws : List ℕ) → sized ws ≡ true → length ws ≤ MOST_WORDS
 short_table ws s = (sized_bounds ws s).most
 
 module _ (valued : Bool) (ws : List ℕ) (r : ℕ) (out : List ℕ) where
   -- a refused call gives no count and leaves the slice
-  path_refused : {answered : Result ℕ Refusal} {e : Refusal} → answered ≡ Err e → path_number valued ws r out ≡ refusal_number e →
-      PathGiven valued ws r out (number_of answered) (counted_of answered) out
+  path_refused : (k : ℕ) → path_number valued ws r out ≡ k → (k ≡ OK → ⊥) → PathGiven valued ws r out k 0 out
   unfolding path_count path_slice
-  path_refused {e = e} q n =
-      let t : eqb (path_number valued ws r out) OK ≡ false = ne_eqb _ _ (λ z. refusal_not_ok e (sym n ∙ z)) in
-      rw q (record { number_is = sym n; count_is = rw t refl; slice_is = rw t refl })
+  path_refused k e z =
+      let t : eqb (path_number valued ws r out) OK ≡ false = ne_eqb _ _ (λ q. z (sym e ∙ q)) in
+      record { number_is = sym e; count_is = rw t refl; slice_is = rw t refl }
 
-  pub path_of_table : {answered : Result ℕ Refusal} {e : Refusal} → answered ≡ Err e → refusal_number e ≡ first (table_causes valued ws) →
-      PathGiven valued ws r out (number_of answered) (counted_of answered) out
+  pub path_of_table : (k : ℕ) → k ≡ first (table_causes valued ws) → (k ≡ OK → ⊥) → PathGiven valued ws r out k 0 out
   unfolding path_number
-  path_of_table {e = e} q f =
-      path_refused q (first_front (table_causes valued ws) (path_causes ws r out) (λ z. refusal_not_ok e (f ∙ z)) ∙ sym f)
+  path_of_table k e z = path_refused k (first_front (table_causes valued ws) (path_causes ws r out) (λ q. z (e ∙ q)) ∙ sym e) z
 
   module _ (e : OK ≡ first (table_causes valued ws)) where
     pub path_above : above_range r ≡ true → PathGiven valued ws r out ROUND_RANGE 0 out
     unfolding path_number
-    path_above a = let (s, t) = table_passed valued ws e in path_refused {answered = Err RoundRange} refl (rw (s, t, a) refl)
+    path_above a = let (s, t) = table_passed valued ws e in path_refused ROUND_RANGE (rw (s, t, a) refl) (λ q. omega arith)
 
     pub path_absent : above_range r ≡ false → present r (nodes ws) ≡ false → PathGiven valued ws r out ROUND_ABSENT 0 out
     unfolding path_number
-    path_absent a p = let (s, t) = table_passed valued ws e in path_refused {answered = Err RoundAbsent} refl (rw (s, t, a, p) refl)
+    path_absent a p = let (s, t) = table_passed valued ws e in path_refused ROUND_ABSENT (rw (s, t, a, p) refl) (λ q. omega arith)
 
 -- what a call has passed before the recursion to the parent begins
 pub record PathPassed (valued : Bool) (ws : List ℕ) (r : ℕ) : Type 0 where
@@ -95,7 +89,7 @@ module _ {valued : Bool} {ws : List ℕ} {r : ℕ} (P : PathPassed valued ws r) 
         (λ y.
         let short : ltb (length out) (length (path (nodes ws) r)) ≡ true = omega tests in
         subst (PathGiven valued ws r out PATH_TOO_LONG 0) (sym (rw y at W.slice_is))
-        (path_refused valued ws r out {answered = Err PathTooLong} refl (rw (P.length_is, P.tree, P.low, P.there, short) refl)))
+        (path_refused valued ws r out PATH_TOO_LONG (rw (P.length_is, P.tree, P.low, P.there, short) refl) (λ q. omega arith)))
 
     pub path_done : {k : ℕ} → o ≡ Some k → PathGiven valued ws r out OK k out'
     unfolding path_number path_count path_slice

@@ -9,10 +9,7 @@ use lib.Seq.{take_all}
 use lib.Dec.{eqb}
 use borrow.Author.Tests.{eq-eqb, ne_eqb, eqb-true, not-false}
 use Rattle.laws.specs.First.{first, first_front, passed}
-use Rattle.std.specs.Prelude.{Result, Err}
-use Rattle.numbers.specs.declared.Refusal.{Refusal}
-use Rattle.numbers.specs.Numbers.{OK, refusal_number, number_of}
-use Rattle.numbers.proofs.Refusals.{refusal_not_ok}
+use Rattle.numbers.specs.Numbers.{OK}
 use Rattle.tree_theory.specs.Machine.{Call, answer, causes}
 use Rattle.tree_theory.specs.Table.{rows, nodes, sized, is_tree, call_number, call_table}
 use Rattle.tree_theory.specs.Preview.{tables_causes, preview_number, preview_ghosts, preview_table}
@@ -21,7 +18,7 @@ use Rattle.tree_theory.proofs.Steps.{tree_number}
 use Rattle.tree_theory.proofs.Preview.{number_alike, as_on_copy}
 use Rattle.tree_steps.specs.declared.call.Plan.{Plan}
 use Rattle.tree_steps.specs.Planned.{call_written, PlanMakes}
-use Rattle.tree.specs.Promises.{CountedOnTable, Previewed, counted_of}
+use Rattle.tree.specs.Promises.{CountedOnTable, Previewed}
 use Rattle.tree.specs.Carried.{CanWrite, CanShow}
 use Rattle.tree.proofs.Calling.{can_write, carried, of_tree}
 
@@ -32,12 +29,10 @@ all_copied ws us h l =
     rw (e, take_all (length ws) ws (omega arith), drop_of_length-le us {i = length ws} (omega arith)) (append-nil ws)
 
 -- a refused preview leaves both tables and counts none
-refused : {valued : Bool} {ws us : List ℕ} {c : Call} {answered : Result ℕ Refusal} {e : Refusal} → answered ≡ Err e →
-    refusal_number e ≡ preview_number valued ws us c → Previewed valued ws us c (number_of answered) (counted_of answered) ws us
+refused : {valued : Bool} {ws us : List ℕ} {c : Call} {number : ℕ} → number ≡ preview_number valued ws us c → eqb number OK ≡ false →
+    Previewed valued ws us c number 0 ws us
 unfolding preview_ghosts preview_table
-refused {e = e} q n =
-    let t : eqb (refusal_number e) OK ≡ false = ne_eqb _ _ (refusal_not_ok e) in
-    rw q (record { number_is = n; ghosts_are = rw (← n, t) refl; first_is = refl; second_is = rw (← n, t) refl })
+refused n t = record { number_is = n; ghosts_are = rw (← n, t) refl; first_is = refl; second_is = rw (← n, t) refl }
 
 -- an accepted preview leaves in a second table of equal length what the call promises of the first
 pub as_call : {valued : Bool} {ws us : List ℕ} {c : Call} {number ghosts : ℕ} {ws' us' : List ℕ} → Previewed valued ws us c number ghosts ws' us' →
@@ -59,9 +54,8 @@ module _ {valued : Bool} {ws us : List ℕ} (G : CanShow valued ws us) where
     answered_alike = sym (tree_number valued ws G.first.long G.first.tree c) ∙ sym (number_alike valued ws us c G.alike)
 
   module _ {c : Call} where
-    pub refused_on_tree : {answered : Result ℕ Refusal} {e : Refusal} → answered ≡ Err e → refusal_number e ≡ answer valued (rows ws) (nodes ws) c →
-        Previewed valued ws us c (number_of answered) (counted_of answered) ws us
-    refused_on_tree q n = refused q (n ∙ answered_alike c)
+    pub refused_on_tree : {number : ℕ} → number ≡ answer valued (rows ws) (nodes ws) c → (number ≡ OK → ⊥) → Previewed valued ws us c number 0 ws us
+    refused_on_tree n z = refused (n ∙ answered_alike c) (ne_eqb _ _ z)
 
     -- a plan for the first table, carried out on that second one
     module _ {plan : Plan} (M : PlanMakes valued ws c plan) {us' : List ℕ} (w : us' ≡ ws) where
@@ -93,8 +87,9 @@ module _ (valued : Bool) (ws us : List ℕ) where
         alike = eqb-true (length us) (length ws) (not-false (eqb (length us) (length ws)) a2);
       }
 
-  pub tables_refuse : (c : Call) {answered : Result ℕ Refusal} {e : Refusal} → answered ≡ Err e → refusal_number e ≡ first (tables_causes valued ws us) →
-      Previewed valued ws us c (number_of answered) (counted_of answered) ws us
+  pub tables_refuse : (c : Call) {number : ℕ} → number ≡ first (tables_causes valued ws us) → (number ≡ OK → ⊥) → Previewed valued ws us c number 0 ws us
   unfolding preview_number
-  tables_refuse c {e = e} q f =
-      refused q (f ∙ sym (first_front (tables_causes valued ws us) (causes valued (rows ws) (nodes ws) c) (λ z. refusal_not_ok e (f ∙ z))))
+  tables_refuse c {number = number} f z =
+      let n : number ≡ preview_number valued ws us c =
+      f ∙ sym (first_front (tables_causes valued ws us) (causes valued (rows ws) (nodes ws) c) (λ q. z (f ∙ q))) in
+      refused n (ne_eqb number OK z)

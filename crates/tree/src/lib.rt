@@ -1,6 +1,6 @@
 // The quorum tree in lent memory (01, "The tree"): fresh, add, preview, commit and path over a slice of 64-bit words, four a row. VALUED says which
-// kind of tree it is: true for a value tree, 01's, whose values are compared; false for a command tree (02, ticket 1), whose aren't. Below these calls it
-// is a parameter, `valued`, so that the code of a step is there once.
+// kind of tree it is: true for a value tree, 01's, whose values are compared; false for a command tree (02, ticket 1), whose aren't. Below these calls, and
+// in those named `_on_table`, it is an argument, `valued`, so that the code of a step is there once.
 #![tactic(auto)]
 
 ghost use Rattle.std.specs.Prelude.{◌≡◌, true};
@@ -54,16 +54,22 @@ fn call_on_table(valued: bool, t: &mut [u64], call: TreeCall) -> Result<u32, Ref
     call_on_tree(valued, t, call)
 }
 
-// add: how many rounds it made GHOST. That of a command tree is 01's without check 7.
-pub fn add<const VALUED: bool>(t: &mut [u64], r: Round, v: u64, p: Round) -> Result<u32, Refusal>
-    ensures { CountedOnTable VALUED t.old (add r.0 v p.0) (number_of result) (counted_of result) t.new }
+// add on any table of the kind that `valued` says: how many rounds it made GHOST. That of a command tree is 01's without check 7.
+pub fn add_on_table(valued: bool, t: &mut [u64], r: Round, v: u64, p: Round) -> Result<u32, Refusal>
+    ensures { CountedOnTable valued t.old (add r.0 v p.0) (number_of result) (counted_of result) t.new }
 {
     let call = TreeCall::Add {
         round: r,
         value: v,
         parent: p,
     };
-    call_on_table(VALUED, t, call)
+    call_on_table(valued, t, call)
+}
+
+pub fn add<const VALUED: bool>(t: &mut [u64], r: Round, v: u64, p: Round) -> Result<u32, Refusal>
+    ensures { CountedOnTable VALUED t.old (add r.0 v p.0) (number_of result) (counted_of result) t.new }
+{
+    add_on_table(VALUED, t, r, v, p)
 }
 
 // add on a table that is a tree already: the same step without the check of the table.
@@ -95,6 +101,25 @@ fn preview_on_tree(
 }
 
 // What add would make of any table, made in a second one (02, ticket 5), and how many rounds it would make GHOST.
+pub fn preview_on_table(
+    valued: bool,
+    first: &[u64],
+    second: &mut [u64],
+    r: Round,
+    v: u64,
+    p: Round,
+) -> Result<u32, Refusal>
+    ensures { Previewed valued first.now second.old (add r.0 v p.0) (number_of result) (counted_of result) first.now second.new }
+{
+    tree_check::check_tables(valued, first, second)?;
+    let call = TreeCall::Add {
+        round: r,
+        value: v,
+        parent: p,
+    };
+    preview_on_tree(valued, first, second, call)
+}
+
 pub fn preview<const VALUED: bool>(
     t: &[u64],
     second: &mut [u64],
@@ -104,13 +129,7 @@ pub fn preview<const VALUED: bool>(
 ) -> Result<u32, Refusal>
     ensures { Previewed VALUED t.now second.old (add r.0 v p.0) (number_of result) (counted_of result) t.now second.new }
 {
-    tree_check::check_tables(VALUED, t, second)?;
-    let call = TreeCall::Add {
-        round: r,
-        value: v,
-        parent: p,
-    };
-    preview_on_tree(VALUED, t, second, call)
+    preview_on_table(VALUED, t, second, r, v, p)
 }
 
 pub fn commit<const VALUED: bool>(t: &mut [u64], r: Round) -> Result<(), Refusal>
@@ -130,10 +149,10 @@ pub fn commit_in_tree(t: &mut [u64], r: Round) -> Result<(), Refusal>
 }
 
 // path(r): the rounds from the root to r, written from the first word, and how many they are.
-pub fn path<const VALUED: bool>(t: &[u64], r: Round, out: &mut [u64]) -> Result<usize, Refusal>
-    ensures { PathGiven VALUED t.now r.0 out.old (number_of result) (counted_of result) out.new }
+pub fn path_on_table(valued: bool, t: &[u64], r: Round, out: &mut [u64]) -> Result<usize, Refusal>
+    ensures { PathGiven valued t.now r.0 out.old (number_of result) (counted_of result) out.new }
 {
-    tree_check::check_table(VALUED, t)?;
+    tree_check::check_table(valued, t)?;
     let round = r.0 as u64;
     if ids::above_range(round) {
         return Err(Refusal::RoundRange);
@@ -147,4 +166,10 @@ pub fn path<const VALUED: bool>(t: &[u64], r: Round, out: &mut [u64]) -> Result<
         return Err(Refusal::PathTooLong);
     };
     Ok(count)
+}
+
+pub fn path<const VALUED: bool>(t: &[u64], r: Round, out: &mut [u64]) -> Result<usize, Refusal>
+    ensures { PathGiven VALUED t.now r.0 out.old (number_of result) (counted_of result) out.new }
+{
+    path_on_table(VALUED, t, r, out)
 }
