@@ -12,5 +12,5 @@ few {ws} r v p T e = omega (arith, e, tree_few true ws T.long T.tree (add r v p)
 
 pub counted-requires : goal.counted-requires
 counted-requires c =
-    let most = few c.args.round.0 c.args.value c.args.parent.0 c.requires.2 c.add_in_tree.ensures.ghosts_are in
+    let most = few _ _ _ c.requires.2 c.add_in_tree.ensures.ghosts_are in
     (c.requires.0, omega arith, omega arith, omega arith, omega (arith, most, c.unwrap_or-ghosts.ensures))

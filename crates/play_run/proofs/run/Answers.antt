@@ -40,15 +40,16 @@ loop-k-init c =
     running_first c.requires (bytes_of c.args.list.now (λ i. omega (arith, c.type_inv.list i)))
     c.read_head-head.ensures c.fresh_tally-tally.ensures c.no_rounds-none.ensures c.no_lead-idle.ensures
 
+-- that a turn's event is one of the list's, and that all are done after the last, is found of the loop's test, wherever the loop ends
 pub read_event-r-requires : goal.read_event-r-requires
 read_event-r-requires c =
-    λ q. (due c.loop-k.invariant c.loop-k-test.true).0 (ap event_size (sym (to_end c.loop-k.at _)) ∙ q)
+    λ q. (due c.loop-k.invariant (omega arith)).0 (ap event_size (sym (to_end c.loop-k.at _)) ∙ q)
 
 pub overflow_add-at : goal.overflow_add-at
 overflow_add-at c =
     omega (
       arith,
-      at_next c.loop-k.invariant c.loop-k-test.true,
+      at_next c.loop-k.invariant (omega arith),
       c.read_event-r.ensures.size_is,
       ap event_size (to_end c.loop-k.at c.args.list.now),
     )
@@ -81,7 +82,7 @@ loop-k-preserved c =
     let i = c.place-i.result in
     running_next l.invariant r.slot r.event c.place-i.ensures _ _ c.record_of-m.ensures s.result s.ensures
     (start_known c.starts_of-starts.ensures r.slot.0 t.ensures) (end_known c.args.lengths.now _ r.slot.0 t.ensures)
-    w.ensures c.loop-k-test.true (to_end l.at _) c.read_event-r.ensures w.auto.messages w.auto.nodes
+    w.ensures (omega arith) (to_end l.at _) c.read_event-r.ensures w.auto.messages w.auto.nodes
     (elim c.match-settle_part.branch [
       | in-Ok b ↦
           let was : effect_of l.tally w.result ≡ accepted_event b.in-Ok.after = ap (effect_of l.tally) b.in-Ok.is in
@@ -113,4 +114,4 @@ pub overflow_cast-result-3 : goal.overflow_cast-result-3
 overflow_cast-result-3 c = omega (arith, (counts_small c.loop-k.invariant).decisions)
 
 pub returns : goal.returns
-returns c = running_ended c.loop-k.invariant c.loop-k-test.false
+returns c = running_ended c.loop-k.invariant (omega arith)
