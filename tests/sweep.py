@@ -3,11 +3,12 @@
 
     tests/sweep.py [--jobs N] [--crates A,B] [--minutes M] [--list] [--out FILE]
 
-A change is of one comparison, operator, number (those in brackets too) or Boolean, or exchanges two arguments of a call or the values of two fields; whether
-they are of one type is left to the compiler. Contracts, comments, signatures and imports stay. It is tried in a copy of the repository, in its crate, by
-`rt check` over what earlier checks kept. Changes of different functions of a crate are tried together: a function's proof rests on the contracts of what it calls and not on
-their bodies, so each is refused or proved by itself. A change of a constant is tried alone, in its crate; where that is still proved, its new value stands for
-its name in the functions of one crate after another that use it. What is refused nowhere is proved again from nothing, and then in all crates.
+A change is of one comparison, operator, number (those in brackets and of an enum's variants too) or Boolean, or exchanges two arguments of a call or the
+values of two fields; whether they are of one type is left to the compiler. A variant's number becomes one that no other has, or changes places with the next.
+Contracts, comments, signatures and imports stay. It is tried in a copy of the repository, in its crate, by `rt check` over what earlier checks kept. Changes
+of different functions of a crate are tried together: a function's proof rests on the contracts of what it calls and not on their bodies, so each is refused
+or proved by itself. A change of a constant, or of a variant's number, is tried alone, in its crate; where that is still proved, a constant's new value stands
+for its name in the functions of one crate after another that use it. What is refused nowhere is proved again from nothing, and then in all crates.
 FILE (target/sweep.tsv) has a line for each change tried: what became of it, the crate and function or constant, the place, the change.
     fact     refused, at a fact that no longer holds
     shape    refused, but only because the proof no longer fits the code's shape
@@ -57,7 +58,7 @@ def closing(tokens, i):
 
 
 def units_of(tokens):
-    """(name, first token, last token) of each function's body and each constant's value."""
+    """(name, first token, last token) of each function's body, each constant's value and each number of an enum's variant."""
     i = 0
     while i < len(tokens):
         word = tokens[i].text
@@ -69,21 +70,34 @@ def units_of(tokens):
         elif word == "fn":
             name = tokens[i + 1].text
             j = closing(tokens, i + 2)
-            while tokens[j].text != "{":
+            while tokens[j].text not in ("{", ";"):
                 if tokens[j].text in ("requires", "ensures", "ghost"):
                     while tokens[j].text != "{":
                         j += 1
+                if tokens[j].text in "([{":
                     j = closing(tokens, j)
                 j += 1
+            # a trait's function may have none
             end = closing(tokens, j)
-            yield name, j, end
+            if tokens[j].text == "{":
+                yield name, j, end
             i = end
         elif word in ("struct", "enum", "use", "type"):
+            name = tokens[i + 1].text
             while tokens[i].text not in ("{", ";", "("):
                 i += 1
+            if word == "enum":
+                for first, last in items(tokens, i, closing(tokens, i)):
+                    if last - first > 2 and tokens[last - 2].text == "=":
+                        yield f"{name}::{tokens[last - 3].text}", last - 1, last
             if tokens[i].text != ";":
                 i = closing(tokens, i)
         i += 1
+
+
+def is_constant(unit):
+    """Whether it is a constant's value or the number of a variant."""
+    return unit.startswith("const ") or "::" in unit
 
 
 def items(tokens, first, last):
@@ -141,11 +155,27 @@ def changes_in(text, tokens, first, last):
                     ]
 
 
+def numbers_changed(variants):
+    """Of an enum's variants, each a unit with a token: (unit, what is shown, edits). Each gets a number that none has, and changes places with the next."""
+    free = max(int(t.text) for _, t in variants) + 1
+    for k, (name, t) in enumerate(variants):
+        yield name, f"{t.text} -> {free}", [(t.start, t.end, str(free))]
+        for _, other in variants[k + 1:k + 2]:
+            yield name, f"{t.text} <-> {other.text}", [(t.start, t.end, other.text), (other.start, other.end, t.text)]
+
+
 def changes_of(crate, path):
     text = open(path, encoding="utf-8").read()
     tokens = tokens_of(text)
+    enums = {}
     for name, first, last in units_of(tokens):
+        if "::" in name:
+            enums.setdefault(name.split("::")[0], []).append((name, tokens[first]))
+            continue
         for shown, edits in changes_in(text, tokens, first, last):
+            yield Change(crate, name, path, shown, edits)
+    for variants in enums.values():
+        for name, shown, edits in numbers_changed(variants):
             yield Change(crate, name, path, shown, edits)
 
 
@@ -179,7 +209,8 @@ def changed(path, changes):
 
 
 def constants(files, changes=()):
-    """The value of each constant of the library crates, by crate and name."""
+    """The value of each constant of the library crates, by crate and name: a number, or one in a type of its own, as `ids::Slot(7)`, in which it stands
+    for the name anywhere. Of a struct there is none."""
     values = {}
     for crate, paths in files.items():
         for path in paths:
@@ -190,7 +221,10 @@ def constants(files, changes=()):
                     # a name is of its own crate, or there is one constant of that name
                     words = [tokens[i].text for i in range(first, last) if "::" not in (tokens[i].text, tokens[i + 1].text)]
                     known = {n: v for (c, n), v in values.items()} | {n: v for (c, n), v in values.items() if c == crate}
-                    values[crate, name[6:]] = eval(" ".join(str(known.get(w, w)) for w in words))
+                    typed = re.fullmatch(r"(Round|Member|Slot) \((.*)\)", " ".join(words))
+                    if "{" not in words:
+                        number = eval(" ".join(str(known.get(w, w)) for w in (typed.group(2).split() if typed else words)))
+                        values[crate, name[6:]] = f"ids::{typed.group(1)}({number})" if typed else number
     return values
 
 
@@ -331,8 +365,8 @@ def main():
             waiting = {}
             for c in work[crate]:
                 waiting.setdefault((c.path, c.unit), []).append(c)
-            constant = [c for unit, changes in waiting.items() if unit[1].startswith("const ") for c in changes]
-            rounds = [changes for unit, changes in waiting.items() if not unit[1].startswith("const ")]
+            constant = [c for unit, changes in waiting.items() if is_constant(unit[1]) for c in changes]
+            rounds = [changes for unit, changes in waiting.items() if not is_constant(unit[1])]
             while (any(rounds) or constant) and time.time() - began < asked.minutes * 60:
                 group = [changes.pop(0) for changes in rounds if changes]
                 if group:
